@@ -1,0 +1,165 @@
+-- Laws of coordinates and bytes.
+-- Values: the bits of a number, and the number of given bits.
+-- Lists: the elements of a tabulated list.
+-- Bytes: `coord` of `pack` and `pack` of `coord`; equal bytes from equal coordinates.
+-- Bitwise operations: their bits, modulo 2.
+use mathlib.Core.Path.{_≡_, refl, sym, ap, ap₂, _∙_}
+use mathlib.Core.List.{List, [], _∷_, _++_}
+use mathlib.Core.Bool.{Bool, true, false}
+use Prim.Native.Nat.{ℕ, zero, suc, _+_, _-_, _*_, _/_, _%_, _^_, _<_, _≤_}
+use native.Mathlib.Nat.{add-mul-div-right, div-add-mod', div-eq-of-lt, zero-div, mod-eq-of-lt, mod-lt, lt-of-lt-of-le, pow-suc, pow-succ', mul-assoc}
+use native.Mathlib.Decide.{ℕ-discrete, decLt}
+use native.Mathlib.Omega.{arith}
+use lib.ListN.{length, getD, replicate, length-append, length-replicate, getD-replicate, List·getD-append, List·getD-eq-default}
+use lib.Seq.{getD-at, getD-append-add, ext-getD}
+use lib.Bits.{bitXor, xor-shr, xor-add-and, xor-lt}
+use lib.Pow.{pow-pos, pow-mono, pow-add, mod-pow-add, mod-mod-pow, field}
+use Rattle.gf2.specs.Sums.{sum}
+use Rattle.gf2.specs.Coordinates.{coord, value, tabulate, pack}
+use Rattle.gf2.proofs.Sums.{sum-ext}
+
+pub value-ext : (n : ℕ) (f g : ℕ → ℕ) → ((j : ℕ) → j < n → f j % 2 ≡ g j % 2) → value n f ≡ value n g
+unfolding value
+value-ext n f g h = sum-ext n _ _ (λ j l. ap (λ d. d * 2 ^ j) (h j l))
+
+-- the bits of x make x up to 2 ^ n
+pub value-bits : (n x : ℕ) → value n (λ j. x / 2 ^ j) ≡ x % 2 ^ n
+unfolding value sum
+value-bits zero x = omega arith
+value-bits (suc n) x = omega (arith, value-bits n x, mod-pow-add x 1 n, ap (λ k. x % 2 ^ k) (one-more n))
+  where
+    one-more : (n : ℕ) → 1 + n ≡ suc n
+    one-more n = omega arith
+
+bit-times : (d x : ℕ) → d < 2 → d * x ≤ x
+bit-times zero x h = omega arith
+bit-times (suc zero) x h = omega arith
+bit-times (suc (suc d)) x h = absurd (omega arith)
+
+pub value-lt : (n : ℕ) (f : ℕ → ℕ) → value n f < 2 ^ n
+unfolding value sum
+value-lt zero f = omega arith
+value-lt (suc n) f = omega (arith, value-lt n f, pow-suc 2 n, bit-times (f n % 2) (2 ^ n) (omega arith))
+
+pub value-bit : (n : ℕ) (f : ℕ → ℕ) (j : ℕ) → j < n → value n f / 2 ^ j % 2 ≡ f j % 2
+unfolding value sum
+value-bit zero f j l = absurd (omega arith)
+value-bit (suc n) f j l = elim (ℕ-discrete j n) [
+  | yes q ↦ rw (q, add-mul-div-right (value n f) (f n % 2) (pow-pos n), div-eq-of-lt (value-lt n f)) (omega arith)
+  | no q ↦ rw (lower (omega arith), add-mul-div-right (value n f) (f n % 2 * 2 ^ (n - suc j) * 2) (pow-pos j)) (omega (arith, value-bit n f j (omega arith)))
+]
+  where
+    lower : j < n → f n % 2 * 2 ^ n ≡ f n % 2 * 2 ^ (n - suc j) * 2 * 2 ^ j
+    lower h = let e : n ≡ n - suc j + suc j = omega arith in ap (λ k. f n % 2 * 2 ^ k) e ∙ simp (pow-add, pow-succ', mul-assoc)
+
+-- a number below 2 ^ n is made of its bits
+pub value-eq : (n : ℕ) (f : ℕ → ℕ) (x : ℕ) → x < 2 ^ n → ((j : ℕ) → j < n → x / 2 ^ j % 2 ≡ f j % 2) → x ≡ value n f
+value-eq n f x h e = sym (mod-eq-of-lt h) ∙ sym (value-bits n x) ∙ value-ext n (λ j. x / 2 ^ j) f e
+
+pub length-tabulate : (n : ℕ) (f : ℕ → ℕ) → length (tabulate n f) ≡ n
+unfolding tabulate
+length-tabulate zero f = refl
+length-tabulate (suc n) f = omega (arith, length-append (tabulate n f) (f n ∷ []), length-tabulate n f)
+
+pub getD-tabulate : (n : ℕ) (f : ℕ → ℕ) (i : ℕ) → i < n → getD (tabulate n f) i 0 ≡ f i
+unfolding tabulate
+getD-tabulate zero f i h = absurd (omega arith)
+getD-tabulate (suc n) f i h = elim (ℕ-discrete i n) [
+  | yes q ↦ rw q (getD-at (tabulate n f) (f n) [] 0 n (length-tabulate n f))
+  | no q ↦ List·getD-append (tabulate n f) (f n ∷ []) 0 i (omega (arith, length-tabulate n f)) ∙ getD-tabulate n f i (omega arith)
+]
+
+pub tabulate-ext : (n : ℕ) (f g : ℕ → ℕ) → ((i : ℕ) → i < n → f i ≡ g i) → tabulate n f ≡ tabulate n g
+unfolding tabulate
+tabulate-ext zero f g h = refl
+tabulate-ext (suc n) f g h = ap₂ (λ l x. l ++ (x ∷ [])) (tabulate-ext n f g (λ i l. h i (omega arith))) (h n (omega arith))
+
+pub coord-lt : (bytes : List ℕ) (i : ℕ) → coord bytes i < 2
+unfolding coord
+coord-lt bytes i = omega arith
+
+pub coord-past : (bytes : List ℕ) (i : ℕ) → 8 * length bytes ≤ i → coord bytes i ≡ 0
+unfolding coord
+coord-past bytes i h = rw (List·getD-eq-default bytes 0 {n = i / 8} (omega arith), zero-div)
+
+pub length-pack : (n : ℕ) (f : ℕ → ℕ) → length (pack n f) ≡ n
+unfolding pack
+length-pack n f = length-tabulate n _
+
+pub pack-byte : (n : ℕ) (f : ℕ → ℕ) (b : ℕ) → getD (pack n f) b 0 < 256
+unfolding pack
+pack-byte n f b = elim (decLt b n) [
+  | yes h ↦ rw (getD-tabulate n (λ c. value 8 (λ j. f (c * 8 + j))) b h) (value-lt 8 (λ j. f (b * 8 + j)))
+  | no h ↦ rw (List·getD-eq-default (pack n f) 0 {n = b} (omega (arith, length-pack n f))) (omega arith)
+]
+
+pub coord-pack : (n : ℕ) (f : ℕ → ℕ) (i : ℕ) → i < 8 * n → coord (pack n f) i ≡ f i % 2
+unfolding coord pack
+coord-pack n f i h =
+    ap (λ x. x / 2 ^ (i % 8) % 2) (getD-tabulate n (λ b. value 8 (λ j. f (b * 8 + j))) (i / 8) (omega arith))
+    ∙ value-bit 8 (λ j. f (i / 8 * 8 + j)) (i % 8) (omega arith) ∙ ap (λ k. f k % 2) (div-add-mod' i 8)
+
+-- bytes are known by their coordinates
+pub pack-eq : (n : ℕ) (f : ℕ → ℕ) (l : List ℕ) → length l ≡ n → ((b : ℕ) → getD l b 0 < 256) → ((i : ℕ) → i < 8 * n → coord l i ≡ f i % 2) → l ≡ pack n f
+unfolding coord pack
+pack-eq n f l size small e =
+    ext-getD 0 l (pack n f) (size ∙ sym (length-pack n f)) (λ b h.
+    value-eq 8 (λ j. f (b * 8 + j)) (getD l b 0) (small b) (λ j hj.
+    let q : (b * 8 + j) / 8 ≡ b = omega arith in
+    let r : (b * 8 + j) % 8 ≡ j = omega arith in
+    rw (q, r) at (e (b * 8 + j) (omega arith)))
+    ∙ sym (getD-tabulate n (λ c. value 8 (λ j. f (c * 8 + j))) b (omega arith)))
+
+pub pack-ext : (n : ℕ) (f g : ℕ → ℕ) → ((i : ℕ) → i < 8 * n → f i % 2 ≡ g i % 2) → pack n f ≡ pack n g
+pack-ext n f g e = pack-eq n g (pack n f) (length-pack n f) (pack-byte n f) (λ i h. coord-pack n f i h ∙ e i h)
+
+pub pack-coord : (l : List ℕ) → ((b : ℕ) → getD l b 0 < 256) → l ≡ pack (length l) (coord l)
+pack-coord l small = pack-eq (length l) (coord l) l refl small (λ i h. sym (mod-eq-of-lt (coord-lt l i)))
+
+-- the coordinates of one byte
+pub coord-digit : (l : List ℕ) (b j : ℕ) → j < 8 → coord l (b * 8 + j) ≡ getD l b 0 / 2 ^ j % 2
+unfolding coord
+coord-digit l b j h =
+    let q : (b * 8 + j) / 8 ≡ b = omega arith in
+    let r : (b * 8 + j) % 8 ≡ j = omega arith in
+    rw (q, r)
+
+-- a list given byte by byte is the bytes of f where each byte's bits are f's
+pub pack-of : (n : ℕ) (g f : ℕ → ℕ) → ((b : ℕ) → b < n → g b < 256) → ((b j : ℕ) → b < n → j < 8 → g b / 2 ^ j % 2 ≡ f (b * 8 + j) % 2) → tabulate n g ≡ pack n f
+unfolding pack
+pack-of n g f small e = tabulate-ext n g _ (λ b h. value-eq 8 (λ j. f (b * 8 + j)) (g b) (small b h) (λ j l. e b j h l))
+
+pub xor-bit : (a b k : ℕ) → bitXor a b / 2 ^ k % 2 ≡ (a / 2 ^ k % 2 + b / 2 ^ k % 2) % 2
+xor-bit a b k = rw xor-shr (omega (arith, xor-add-and (a / 2 ^ k) (b / 2 ^ k)))
+
+pub value-xor : (n : ℕ) (f g : ℕ → ℕ) → bitXor (value n f) (value n g) ≡ value n (λ j. f j + g j)
+value-xor n f g = value-eq n (λ j. f j + g j) _ (xor-lt n _ _ (value-lt n f) (value-lt n g)) (λ j l.
+    xor-bit (value n f) (value n g) j ∙ omega (arith, value-bit n f j l, value-bit n g j l))
+
+-- the bits of x % 2 ^ k
+pub mod-bit : (x k j : ℕ) → j < k → x % 2 ^ k / 2 ^ j % 2 ≡ x / 2 ^ j % 2
+mod-bit x k j h =
+    let e : k ≡ (k - suc j) + 1 + j = omega arith in
+    ap (λ n. x % 2 ^ n / 2 ^ j % 2) e ∙ ap (λ y. y % 2) (field x (k - suc j + 1) j) ∙ mod-mod-pow (x / 2 ^ j) (k - suc j) 1
+
+pub mod-bit-out : (x k j : ℕ) → k ≤ j → x % 2 ^ k / 2 ^ j % 2 ≡ 0
+mod-bit-out x k j h = ap (λ y. y % 2) (div-eq-of-lt (lt-of-lt-of-le (mod-lt x (pow-pos k)) (pow-mono h)))
+
+-- the coordinates of two lists in a row
+pub coord-front : (a b : List ℕ) (i : ℕ) → i < 8 * length a → coord (a ++ b) i ≡ coord a i
+unfolding coord
+coord-front a b i h = rw (List·getD-append a b 0 (i / 8) (omega arith))
+
+pub coord-back : (a b : List ℕ) (i : ℕ) → coord (a ++ b) (8 * length a + i) ≡ coord b i
+unfolding coord
+coord-back a b i =
+    let q : (8 * length a + i) / 8 ≡ length a + i / 8 = omega arith in
+    let r : (8 * length a + i) % 8 ≡ i % 8 = omega arith in
+    rw (q, r, getD-append-add)
+
+pub coord-none : (n i : ℕ) → coord (replicate n 0) i ≡ 0
+unfolding coord
+coord-none n i = elim (decLt (i / 8) n) [
+  | yes h ↦ rw (getD-replicate {A = ℕ} n (i / 8) 0 0 h, zero-div)
+  | no h ↦ rw (List·getD-eq-default {A = ℕ} (replicate n 0) 0 {n = i / 8} (omega (arith, length-replicate {A = ℕ} n 0)), zero-div)
+]

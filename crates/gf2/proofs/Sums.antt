@@ -1,0 +1,51 @@
+-- Laws of `sum` and `every`.
+-- Sums: equal terms, a sum split at a place, two sums exchanged, a sum by digits, a sum modulo 2.
+-- Tests: a test that holds of every number below a bound, both ways.
+use mathlib.Core.Path.{_≡_, refl, sym, ap, ap₂, fun-ext, _∙_}
+use mathlib.Core.Bool.{Bool, true, false, _&&_, true≢false}
+use Prim.Native.Nat.{ℕ, zero, suc, _+_, _*_, _%_, _<_}
+use native.Mathlib.Decide.{ℕ-discrete}
+use native.Mathlib.Nat.{zero-mul, suc-mul}
+use native.Mathlib.Omega.{arith}
+use Rattle.gf2.specs.Sums.{sum, every}
+use Rattle.gf2.proofs.Monoid.{nats, big, sum-big, big-ext, big-append, big-swap}
+
+pub sum-ext : (n : ℕ) (f g : ℕ → ℕ) → ((i : ℕ) → i < n → f i ≡ g i) → sum n f ≡ sum n g
+sum-ext n f g h = sum-big n f ∙ big-ext nats n f g h ∙ sym (sum-big n g)
+
+pub sum-split : (n k : ℕ) (f : ℕ → ℕ) → sum (n + k) f ≡ sum n f + sum k (λ i. f (n + i))
+sum-split n k f = sum-big (n + k) f ∙ big-append nats n k f ∙ sym (ap₂ _+_ (sum-big n f) (sum-big k (λ i. f (n + i))))
+
+pub sum-swap : (n k : ℕ) (f : ℕ → ℕ → ℕ) → sum n (λ i. sum k (f i)) ≡ sum k (λ j. sum n (λ i. f i j))
+sum-swap n k f =
+    sum-big n _ ∙ ap (big nats n) (fun-ext (λ i. sum-big k (f i))) ∙ big-swap nats n k f
+    ∙ sym (sum-big k _ ∙ ap (big nats k) (fun-ext (λ j. sum-big n (λ i. f i j))))
+
+-- n digits to the base k
+pub sum-digits : (n k : ℕ) (f : ℕ → ℕ) → sum (n * k) f ≡ sum n (λ b. sum k (λ j. f (b * k + j)))
+unfolding sum
+sum-digits zero k f = rw zero-mul
+sum-digits (suc n) k f = rw (suc-mul, sum-split, sum-digits n k f)
+
+-- terms modulo 2 have the same sum modulo 2
+pub sum-mod : (n : ℕ) (f : ℕ → ℕ) → sum n (λ i. f i % 2) % 2 ≡ sum n f % 2
+unfolding sum
+sum-mod zero f = refl
+sum-mod (suc n) f = omega (arith, sum-mod n f)
+
+both : (a b : Bool) → (a && b) ≡ true → (a ≡ true) × (b ≡ true)
+both true b e = (refl, e)
+both false b e = absurd (true≢false (sym e))
+
+pub every-at : (n : ℕ) (test : ℕ → Bool) → every n test ≡ true → (i : ℕ) → i < n → test i ≡ true
+unfolding every
+every-at zero test e i l = absurd (omega arith)
+every-at (suc n) test e i l = elim (ℕ-discrete i n) [
+  | yes q ↦ rw q (both (every n test) (test n) e .1)
+  | no q ↦ every-at n test (both (every n test) (test n) e .0) i (omega arith)
+]
+
+pub every-of : (n : ℕ) (test : ℕ → Bool) → ((i : ℕ) → i < n → test i ≡ true) → every n test ≡ true
+unfolding every
+every-of zero test h = refl
+every-of (suc n) test h = rw (every-of n test (λ i l. h i (omega arith))) (h n (omega arith))

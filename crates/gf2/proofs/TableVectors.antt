@@ -1,0 +1,137 @@
+-- Tables of width m = p + 1 as vectors.
+-- rows t: the rows of a table as vectors; pair-vec, product-vec: βi·βj and the product are those of VectorProduct.
+-- symmetric, rule6, rule7: each rule of the check says the same of bytes and of vectors.
+use mathlib.Core.Path.{_≡_, sym, _∙_, ap, ap₂, fun-ext}
+use mathlib.Core.Logic.{_↔_}
+use mathlib.Core.List.{List}
+use mathlib.Core.Bool.{Bool, _&&_, and-assoc}
+use Prim.Native.Nat.{ℕ, zero, suc, _+_, _-_, _*_, _<_, _≤_}
+use native.Mathlib.Omega.{arith}
+use lib.ListN.{length}
+use Rattle.gf2.specs.Sums.{sum}
+use Rattle.gf2.specs.Coordinates.{coord}
+use Rattle.gf2.specs.Operands.{bytesFor, minus, turned}
+use Rattle.gf2.specs.Tables.{row, IsTable, basis, pairProduct}
+use Rattle.gf2.specs.Products.{product, reduced}
+use Rattle.gf2.specs.Check.{Rule6, Rule7, Symmetric, rowSum}
+use Rattle.gf2.proofs.Monoid.{big, big-ext}
+use Rattle.gf2.proofs.Parity.{_⊕_, bits, odd, odd-add, odd-mul, odd-sum}
+use Rattle.gf2.proofs.Index.{Ix, at, at-neg, o, _⊖_, num-at, at-num, num-minus, sub-z}
+use Rattle.gf2.proofs.IndexSums.{Σ, Σ-ext, odd-Σ}
+use Rattle.gf2.proofs.Vector.{Vec, turn, β, turn-z}
+use Rattle.gf2.proofs.VectorProduct.{_·_, pair, Symmetric as Symmetricᵛ}
+use Rattle.gf2.proofs.VectorField.{Rule7 as Rule7ᵛ}
+use Rattle.gf2.proofs.VectorForms.{mul-pairs}
+use Rattle.gf2.proofs.OperandVectors.{bytes-fit, vec, bytes, length-bytes, vec-bytes, operand-vec, from-vec, turned-vec, basis-vec, bytes-inj, turned-bytes}
+
+module _ (p : ℕ) (t : List ℕ) where
+  unfoldable pub rows : Ix p → Vec p
+  rows d = vec p (row (suc p) t (d .num))
+
+module _ (p : ℕ) (t : List ℕ) (is : IsTable (suc p) t) where
+  abbrev W : ℕ
+  W = bytesFor (suc p)
+
+  abbrev T : Ix p → Vec p
+  T = rows p t
+
+  fits : suc p ≤ 8 * W
+  fits = bytes-fit (suc p)
+
+  pub row-vec : (d : ℕ) → d < suc p → row (suc p) t d ≡ bytes p W (T (at d))
+  unfolding rows
+  row-vec d l = operand-vec p (is .rows d l) ∙ ap (λ k. bytes p W (vec p (row (suc p) t k))) (sym (num-at {p = p} d l))
+
+  pub pair-vec : (i j : Ix p) → vec p (pairProduct (suc p) t (i .num) (j .num)) ≡ pair T i j
+  unfolding pairProduct pair rows
+  pair-vec i j =
+      ap (λ k. vec p (turned (suc p) (i .num) (row (suc p) t k))) (num-minus j (i .num) ∙ ap (λ z. (j ⊖ z) .num) (at-num i))
+      ∙ ap (vec p) (turned-vec p (i .num) R) ∙ vec-bytes p (length R) _ (rw (is .rows ((j ⊖ i) .num) ((j ⊖ i) .below) .size) fits)
+      ∙ ap (λ z. turn z (vec p R)) (at-num i)
+    where
+      R : List ℕ
+      R = row (suc p) t ((j ⊖ i) .num)
+
+  pub pair-odd : (i j r : Ix p) → odd (coord (pairProduct (suc p) t (i .num) (j .num)) (r .num)) ≡ pair T i j r
+  unfolding vec
+  pair-odd i j r = ap (λ v. v r) (pair-vec i j)
+
+  pub product-vec : (a b : List ℕ) → product (suc p) t a b ≡ bytes p (length a) (_·_ T (vec p a) (vec p b))
+  unfolding product _·_
+  product-vec a b = from-vec p (length a) _ _ (λ r. odd-Σ p _ ∙ Σ-ext bits (λ i. odd-Σ p _ ∙ Σ-ext bits (λ j. term r i j)))
+    where
+      term : (r i j : Ix p) → odd (coord a (i .num) * coord b (j .num) * coord (pairProduct (suc p) t (i .num) (j .num)) (r .num))
+          ≡ (vec p a i && (vec p b j && T (j ⊖ i) (r ⊖ i)))
+      term r i j = unfold vec pair turn in
+          odd-mul (coord a (i .num) * coord b (j .num)) _ ∙ ap₂ _&&_ (odd-mul (coord a (i .num)) _) (pair-odd i j r)
+          ∙ and-assoc (vec p a i) (vec p b j) (pair T i j r)
+
+  pub product-bytes : (n : ℕ) → suc p ≤ 8 * n → (v w : Vec p) → product (suc p) t (bytes p n v) (bytes p n w) ≡ bytes p n (_·_ T v w)
+  product-bytes n h v w = simp (product-vec, length-bytes, vec-bytes)
+
+  -- the rules
+  turned-row : (k d : ℕ) → d < suc p → turned (suc p) k (row (suc p) t d) ≡ bytes p W (turn (at k) (T (at d)))
+  turned-row k d l = ap (turned (suc p) k) (row-vec d l) ∙ turned-bytes p W fits k (T (at d))
+
+  pub rule7 : Rule7 (suc p) t ↔ Rule7ᵛ T
+  unfolding rowSum rows vec
+  rule7 = (
+    λ e r. ap (λ v. v r) (bytes-inj p W fits _ _ (sym total ∙ e ∙ basis-vec p 0 (omega arith))),
+    λ e. total ∙ ap (bytes p W) (fun-ext e) ∙ sym (basis-vec p 0 (omega arith)),
+  )
+    where
+      total : rowSum (suc p) t ≡ bytes p W (λ r. Σ bits (λ d. T d r))
+      total = from-vec p W _ _ (λ r. odd-Σ p _)
+
+  pub rule6 : (i j : ℕ) → i < suc p → j < suc p →
+      Rule6 (suc p) t i j ↔ (_·_ T (_·_ T (β o) (β (at i))) (β (at j)) ≡ _·_ T (β o) (_·_ T (β (at i)) (β (at j))))
+  rule6 i j li lj = (λ e. bytes-inj p W fits _ _ (sym left ∙ e ∙ right), λ e. left ∙ ap (bytes p W) e ∙ sym right)
+    where
+      b : ℕ → List ℕ
+      b = basis (suc p)
+
+      left : product (suc p) t (product (suc p) t (b 0) (b i)) (b j) ≡ bytes p W (_·_ T (_·_ T (β o) (β (at i))) (β (at j)))
+      left = let h = fits in let l : 0 < suc p = omega arith in simp (basis-vec, product-bytes)
+
+      right : product (suc p) t (b 0) (product (suc p) t (b i) (b j)) ≡ bytes p W (_·_ T (β o) (_·_ T (β (at i)) (β (at j))))
+      right = let h = fits in let l : 0 < suc p = omega arith in simp (basis-vec, product-bytes)
+
+  pub symmetric : 1 < suc p → Symmetric (suc p) t ↔ Symmetricᵛ T
+  symmetric two = (
+    λ s. record { rule4 = bytes-inj p W fits _ _ (sym (row-vec 0 (omega arith)) ∙ s .rule4 ∙ basis-vec p 1 two); rule5 = five s },
+    λ s. record {
+      rule4 = row-vec 0 (omega arith) ∙ ap (bytes p W) (s .rule4) ∙ sym (basis-vec p 1 two);
+      rule5 = λ d h l. row-vec d l ∙ ap (bytes p W) (s .rule5 (at d) ∙ ap (λ z. turn (at d) (T z)) (sym (at-neg d (omega arith))))
+          ∙ sym (turned-row d (suc p - d) (omega arith));
+    },
+  )
+    where
+      five : Symmetric (suc p) t → (d : Ix p) → T d ≡ turn d (T (o ⊖ d))
+      five s d = ap T (sym (at-num d)) ∙ go (d .num) (d .below) ∙ ap (λ z. turn z (T (o ⊖ z))) (at-num d)
+        where
+          go : (n : ℕ) → n < suc p → T (at n) ≡ turn (at n) (T (o ⊖ at n))
+          go zero l = sym (turn-z _ ∙ ap T (sub-z o))
+          go (suc n) l = bytes-inj p W fits _ _ (sym (row-vec (suc n) l) ∙ s .rule5 (suc n) (omega arith) l ∙ turned-row (suc n) (suc p - suc n) (omega arith))
+              ∙ ap (λ z. turn (at (suc n)) (T z)) (at-neg (suc n) (omega arith))
+
+  -- theorem D
+  pub reduced-vec : Symmetricᵛ T → (a b : List ℕ) → reduced (suc p) t a b ≡ bytes p (length a) (_·_ T (vec p a) (vec p b))
+  unfolding reduced
+  reduced-vec s a b = from-vec p (length a) _ _ (λ r. odd-add _ _ ∙ ap₂ _⊕_ (diagonal r) (pairs r) ∙ sym (mul-pairs T s (vec p a) (vec p b) r))
+    where
+      diagonal : (r : Ix p) → odd (coord a (minus (suc p) (r .num) 1) * coord b (minus (suc p) (r .num) 1)) ≡ (vec p a (r ⊖ at 1) && vec p b (r ⊖ at 1))
+      diagonal r = unfold vec in odd-mul _ _ ∙ ap (λ k. odd (coord a k) && odd (coord b k)) (num-minus r 1)
+
+      -- the term of i < j in the definition, and over vectors
+      term : Ix p → ℕ → ℕ → ℕ
+      term r i j = (coord a i * coord b j + coord a j * coord b i) * coord (pairProduct (suc p) t i j) (r .num)
+
+      termᵛ : Ix p → Ix p → Ix p → Bool
+      termᵛ r i j = ((vec p a i && vec p b j) ⊕ (vec p a j && vec p b i)) && pair T i j r
+
+      terms : (r i j : Ix p) → odd (term r (i .num) (j .num)) ≡ termᵛ r i j
+      terms r i j = unfold vec in odd-mul _ _ ∙ ap₂ _&&_ (odd-add _ _ ∙ ap₂ _⊕_ (odd-mul _ _) (odd-mul _ _)) (pair-odd i j r)
+
+      pairs : (r : Ix p) → odd (sum (suc p) (λ j. sum j (λ i. term r i j))) ≡ big bits (suc p) (λ j. big bits j (λ i. termᵛ r (at i) (at j)))
+      pairs r = odd-sum (suc p) _ ∙ big-ext bits (suc p) _ _ (λ j lj. odd-sum j _ ∙ big-ext bits j _ _ (λ i li.
+          ap₂ (λ i j. odd (term r i j)) (sym (num-at {p = p} i (omega arith))) (sym (num-at {p = p} j lj)) ∙ terms r (at i) (at j)))

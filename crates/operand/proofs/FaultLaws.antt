@@ -1,0 +1,207 @@
+-- Laws of faults and judgements.
+-- Faults: none is the only fault with number 0; the first of two.
+-- Answers: what an answer is, with and without a fault.
+-- Judgements: what holds of a width, a length, an operand that is given no fault.
+use mathlib.Core.Path.{_≡_, refl, sym, ap, ap₂, _∙_}
+use mathlib.Core.Bool.{Bool, true, false, not, _&&_}
+use mathlib.Core.List.{List, [], _∷_}
+use Prim.Native.Nat.{ℕ, _<_, _≤_}
+use native.Mathlib.Omega.{arith}
+use lib.Dec.{leb, eqb}
+use lib.ListN.{length}
+use borrow.Author.Tests.{leb-true, leb-false, lt-leb, eqb-true, eq-eqb, ne-eqb}
+use Rattle.gf2.specs.Operands.{maxWidth, bytesFor, isClear}
+use Rattle.gf2.specs.Quadratic.{trace}
+use Rattle.operand.specs.declared.Operand.{Operand}
+use Rattle.operand.specs.declared.OperandAnswer.{OperandAnswer}
+use Rattle.operand.specs.declared.fault.Fault.{Fault}
+use Rattle.operand.specs.declared.fault.Fault.the-variants.{None, Width, Length, HighBit, RowZero, RowPair, Triple, RowSum, TurnCount, InverseOfZero, TraceOne, OutputShort, CardEnds, CardNumber, CardForm, CardPlace, CardTail, NoType, BadGate}
+use Rattle.operand.specs.Faults.{isNone, when, chooseFault, orElse, firstOf}
+use Rattle.operand.specs.Judgements.{widthFault, lengthFault, highFault, turnFault, traceFault, operandFault, pairFault, bytesFault, roomFault}
+use Rattle.operand.specs.Calls.{noOperand, answer}
+
+never : {A : Type 0} → false ≡ true → A
+never e = absurd (let z : _≡_ {A = ℕ} 0 1 = cc in omega arith)
+
+pub none-is : (f : Fault) → isNone f ≡ true → f ≡ None
+unfolding isNone
+none-is None e = refl
+none-is Width e = never e
+none-is Length e = never e
+none-is HighBit e = never e
+none-is RowZero e = never e
+none-is (RowPair d) e = never e
+none-is (Triple i j) e = never e
+none-is RowSum e = never e
+none-is TurnCount e = never e
+none-is InverseOfZero e = never e
+none-is TraceOne e = never e
+none-is OutputShort e = never e
+none-is CardEnds e = never e
+none-is CardNumber e = never e
+none-is CardForm e = never e
+none-is CardPlace e = never e
+none-is CardTail e = never e
+none-is NoType e = never e
+none-is BadGate e = never e
+
+pub or-first : (f g : Fault) → isNone f ≡ false → orElse f g ≡ f
+unfolding orElse
+or-first f g e = rw e
+
+pub or-second : (f g : Fault) → isNone f ≡ true → orElse f g ≡ g
+unfolding orElse
+or-second f g e = rw e
+
+pub or-none : (f : Fault) → orElse f None ≡ f
+or-none f = go (isNone f) refl
+  where
+    go : (b : Bool) → isNone f ≡ b → orElse f None ≡ f
+    go true e = or-second f None e ∙ sym (none-is f e)
+    go false e = or-first f None e
+
+-- no fault is given exactly where neither cause holds
+pub or-both : (f g : Fault) → isNone (orElse f g) ≡ true → (isNone f ≡ true) × (isNone g ≡ true)
+or-both f g e = go (isNone f) refl
+  where
+    go : (b : Bool) → isNone f ≡ b → (isNone f ≡ true) × (isNone g ≡ true)
+    go true q = (q, ap isNone (sym (or-second f g q)) ∙ e)
+    go false q = never (sym q ∙ ap isNone (sym (or-first f g q)) ∙ e)
+
+pub first-two : (f g : Fault) → firstOf (f ∷ g ∷ []) ≡ orElse f g
+unfolding firstOf
+first-two f g = ap (orElse f) (or-none g)
+
+pub first-more : (f g : Fault) (fs : List Fault) → firstOf (f ∷ g ∷ fs) ≡ orElse f (firstOf (g ∷ fs))
+unfolding firstOf
+first-more f g fs = refl
+
+more-fine : (f g : Fault) (fs : List Fault) → isNone (firstOf (f ∷ g ∷ fs)) ≡ true → (isNone f ≡ true) × (isNone (firstOf (g ∷ fs)) ≡ true)
+more-fine f g fs e = or-both f (firstOf (g ∷ fs)) (ap isNone (sym (first-more f g fs)) ∙ e)
+
+-- a fault f that is g, and the test b of it
+pub judged : {f g : Fault} {b v : Bool} → f ≡ g → b ≡ isNone f → b ≡ v → isNone g ≡ v
+judged e r t = ap isNone (sym e) ∙ sym r ∙ t
+
+-- the answer of a call whose fault is g, without and with a fault
+pub answered : (g : Fault) {m : ℕ} {x y : List ℕ} {r : OperandAnswer} → isNone g ≡ true → r ≡ (record { fault = None; value = record { bytes = x; width = m } }) → x ≡ y → r ≡ answer g m y
+unfolding answer
+answered g {m} n e q = rw (n, none-is g n) (e ∙ ap (λ z. record { fault = None; value = record { bytes = z; width = m } }) q)
+
+pub refusal : (g : Fault) {f : Fault} (m : ℕ) (y : List ℕ) {r : OperandAnswer} → f ≡ g → isNone g ≡ false → r ≡ (record { fault = f; value = noOperand }) → r ≡ answer g m y
+unfolding answer
+refusal g m y q n e = rw n (e ∙ ap (λ z. record { fault = z; value = noOperand }) q)
+
+-- a cause that gives no fault does not hold
+when-none : (b : Bool) (f : Fault) → isNone f ≡ false → isNone (when b f) ≡ true → b ≡ false
+when-none true f n e = never (sym n ∙ e)
+when-none false f n e = refl
+
+not-not : (b : Bool) → not b ≡ false → b ≡ true
+not-not true e = refl
+not-not false e = sym e
+
+both-true : (a b : Bool) → (a && b) ≡ true → (a ≡ true) × (b ≡ true)
+both-true true b e = (refl, e)
+both-true false b e = never e
+
+pub width-fine : (m : ℕ) → isNone (widthFault m) ≡ true → (2 ≤ m) × (m ≤ maxWidth)
+unfolding widthFault isNone
+width-fine m e =
+    let q = both-true (leb 2 m) (leb m maxWidth) (not-not _ (when-none _ Width refl e)) in
+    (leb-true _ _ (q .0), leb-true _ _ (q .1))
+
+pub length-fine : (given laidDown : ℕ) → isNone (lengthFault given laidDown) ≡ true → given ≡ laidDown
+unfolding lengthFault isNone
+length-fine given laidDown e = eqb-true _ _ (not-not _ (when-none _ Length refl e))
+
+pub high-fine : (m : ℕ) (x : List ℕ) → isNone (highFault m x) ≡ true → isClear m x ≡ true
+unfolding highFault isNone
+high-fine m x e = not-not _ (when-none _ HighBit refl e)
+
+pub turn-fine : (m k : ℕ) → isNone (turnFault m k) ≡ true → k < m
+unfolding turnFault isNone
+turn-fine m k e = leb-false _ _ (when-none _ TurnCount refl e)
+
+-- an operand that is given no fault
+pub record Fine (a : Operand) : Type 0 where
+  pub least : 2 ≤ a .width
+  pub greatest : a .width ≤ maxWidth
+  pub clear : isClear (a .width) (a .bytes) ≡ true
+
+pub operand-fine : (a : Operand) → isNone (operandFault a) ≡ true → Fine a
+unfolding operandFault
+operand-fine a e =
+    let q = or-both _ _ (ap isNone (sym (first-two _ _)) ∙ e) in
+    let w = width-fine (a .width) (q .0) in
+    record { least = w .0; greatest = w .1; clear = high-fine (a .width) (a .bytes) (q .1) }
+
+-- the fault of a call that judges two things one after the other
+pub judged-two : {f f′ g g′ r : Fault} → f ≡ f′ → g ≡ g′ → r ≡ orElse f g → r ≡ firstOf (f′ ∷ g′ ∷ [])
+judged-two {f} {f′} {g} {g′} p q e = e ∙ ap₂ orElse p q ∙ sym (first-two f′ g′)
+
+pub two-fine : (f g : Fault) → isNone (firstOf (f ∷ g ∷ [])) ≡ true → (isNone f ≡ true) × (isNone g ≡ true)
+two-fine f g e = or-both f g (ap isNone (sym (first-two f g)) ∙ e)
+
+-- two operands that are given no fault
+pub record FinePair (a b : Operand) : Type 0 where
+  pub left : Fine a
+  pub width : b .width ≡ a .width
+  pub right : isClear (a .width) (b .bytes) ≡ true
+
+pub pair-fine : (a b : Operand) → isNone (pairFault a b) ≡ true → FinePair a b
+unfolding pairFault
+pair-fine a b e =
+    let w = more-fine _ _ _ e in
+    let v = more-fine _ _ _ (w .1) in
+    let l = more-fine _ _ _ (v .1) in
+    let h = two-fine _ _ (l .1) in
+    let same = length-fine (b .width) (a .width) (l .0) in
+    let two = width-fine (a .width) (w .0) in
+    record {
+      left = record { least = two .0; greatest = two .1; clear = high-fine (a .width) (a .bytes) (h .0) };
+      width = same;
+      right = ap (λ m. isClear m (b .bytes)) (sym same) ∙ high-fine (b .width) (b .bytes) (h .1);
+    }
+
+pub turn-none : (m k : ℕ) → k < m → turnFault m k ≡ None
+unfolding turnFault
+turn-none m k h = rw (lt-leb m k h)
+
+-- W bytes, and room for W bytes, that are given no fault
+pub bytes-fine : (m : ℕ) (x : List ℕ) → isNone (bytesFault m x) ≡ true → (m ≤ maxWidth) × (length x ≡ bytesFor m) × (isClear m x ≡ true)
+unfolding bytesFault
+bytes-fine m x e =
+    let w = more-fine _ _ _ e in
+    let l = two-fine _ _ (w .1) in
+    (width-fine m (w .0) .1, length-fine _ _ (l .0), high-fine m x (l .1))
+
+pub room-fine : (a : Operand) (size : ℕ) → isNone (roomFault a size) ≡ true → (a .width ≤ maxWidth) × (size ≡ bytesFor (a .width)) × (isClear (a .width) (a .bytes) ≡ true)
+unfolding roomFault
+room-fine a size e =
+    let w = more-fine _ _ _ e in
+    let l = two-fine _ _ (w .1) in
+    (width-fine (a .width) (w .0) .1, length-fine _ _ (l .0), high-fine (a .width) (a .bytes) (l .1))
+
+-- a turn by one is never refused for its count
+pub square-fault : (a : Operand) → firstOf (operandFault a ∷ turnFault (a .width) 1 ∷ []) ≡ operandFault a
+square-fault a = first-two _ _ ∙ go (isNone (operandFault a)) refl
+  where
+    go : (b : Bool) → isNone (operandFault a) ≡ b → orElse (operandFault a) (turnFault (a .width) 1) ≡ operandFault a
+    go true e = ap (orElse (operandFault a)) (turn-none _ 1 (operand-fine a e .least)) ∙ or-none (operandFault a)
+    go false e = or-first _ _ e
+
+-- the first of two faults, by the first
+pub two-first : (f g : Fault) → isNone f ≡ false → firstOf (f ∷ g ∷ []) ≡ f
+two-first f g e = first-two f g ∙ or-first f g e
+
+pub two-second : (f g : Fault) → isNone f ≡ true → firstOf (f ∷ g ∷ []) ≡ g
+two-second f g e = first-two f g ∙ or-second f g e
+
+pub trace-one : (m : ℕ) (c : List ℕ) → trace m c ≡ 1 → traceFault m c ≡ TraceOne
+unfolding traceFault
+trace-one m c e = rw (eq-eqb _ _ e)
+
+pub trace-none : (m : ℕ) (c : List ℕ) → (trace m c ≡ 1 → ⊥) → traceFault m c ≡ None
+unfolding traceFault
+trace-none m c n = rw (ne-eqb _ _ n)

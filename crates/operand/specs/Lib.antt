@@ -1,0 +1,7 @@
+-- The definitions that the contracts of this crate cite.
+-- Faults: document 01's number and values for each fault; the first of several causes.
+-- Judgements: the faults of a width, a length, an operand, a turn count, a trace.
+-- Calls: what each call on operands answers, for every input.
+pub mod Faults
+pub mod Judgements
+pub mod Calls

@@ -1,0 +1,189 @@
+// Operands of GF(2^m) in a normal basis: the type, and every call of document 01 on operands alone.
+// Each call judges what it is given; a fault stands beside the operand of width 0.
+ghost use mathlib.Core.Path.{_≡_};
+ghost use Prim.Native.Nat.{_≤_};
+ghost use lib.ListN.{length};
+ghost use Rattle.gf2.specs.Operands.{maxWidth};
+ghost use Rattle.operand.specs.declared.fault.Fault.the-variants.{None};
+ghost use Rattle.operand.specs.Judgements.{roomFault};
+ghost use Rattle.operand.specs.Calls.{noOperand, zeroCall, oneCall, turnCall, squareCall, sumCall, traceCall, solveCall, readCall, writeCall};
+
+mod bytes;
+mod fault;
+mod judge;
+mod quadratic;
+mod turn;
+
+pub use fault::Fault;
+pub use fault::FaultNumber;
+pub use fault::is_none;
+pub use fault::number;
+pub use fault::or_else;
+pub use judge::bytes_for;
+pub use judge::judge_length;
+pub use judge::judge_operand;
+pub use judge::judge_pair;
+pub use judge::judge_turn;
+pub use judge::judge_width;
+
+// Coordinate i is bit i % 8 of byte i / 8, and bits at the width and above are 0.
+pub struct Operand {
+    pub bytes: [u8; Operand::BYTES],
+    pub width: u16,
+}
+
+// A fault, or none and an operand.
+pub struct OperandAnswer {
+    pub fault: Fault,
+    pub value: Operand,
+}
+
+// A fault, or none and a trace.
+pub struct TraceAnswer {
+    pub fault: Fault,
+    pub trace: usize,
+}
+
+fn refused(fault: Fault) -> OperandAnswer
+    ensures { λ r. ⌜ r ≡ (record { fault = fault; value = noOperand }) ⌝ }
+{
+    OperandAnswer {
+        fault,
+        value: Operand {
+            bytes: [0u8; Operand::BYTES],
+            width: 0,
+        },
+    }
+}
+
+fn accepted(bytes: [u8; Operand::BYTES], width: usize) -> OperandAnswer
+    requires { ⌜ width ≤ maxWidth ⌝ }
+    ensures { λ r. ⌜ r ≡ (record { fault = None; value = record { bytes = bytes; width = width } }) ⌝ }
+{
+    OperandAnswer {
+        fault: Fault::None,
+        value: Operand {
+            bytes,
+            width: width as u16,
+        },
+    }
+}
+
+impl Operand {
+    pub const BYTES: usize = 32;
+
+    pub const MAX_WIDTH: usize = 255;
+
+    pub fn zero(width: usize) -> OperandAnswer
+        ensures { λ r. ⌜ r ≡ zeroCall width ⌝ }
+    {
+        let fault = judge::judge_width(width);
+        if fault::is_none(fault) {
+            accepted([0u8; Operand::BYTES], width)
+        } else {
+            refused(fault)
+        }
+    }
+
+    pub fn one(width: usize) -> OperandAnswer
+        ensures { λ r. ⌜ r ≡ oneCall width ⌝ }
+    {
+        let fault = judge::judge_width(width);
+        if fault::is_none(fault) {
+            let full = [255u8; Operand::BYTES];
+            accepted(bytes::cleared(full, width), width)
+        } else {
+            refused(fault)
+        }
+    }
+
+    pub fn turn(self, k: usize) -> OperandAnswer
+        ensures { λ r. ⌜ r ≡ turnCall self k ⌝ }
+    {
+        let m = self.width as usize;
+        let x = self.bytes;
+        let fault = fault::or_else(judge::judge_operand(self), judge::judge_turn(m, k));
+        if fault::is_none(fault) {
+            accepted(turn::turned(x, m, k), m)
+        } else {
+            refused(fault)
+        }
+    }
+
+    // The Frobenius map, which is the turn by one.
+    pub fn square(self) -> OperandAnswer
+        ensures { λ r. ⌜ r ≡ squareCall self ⌝ }
+    {
+        self.turn(1)
+    }
+
+    pub fn sum(self, other: Operand) -> OperandAnswer
+        ensures { λ r. ⌜ r ≡ sumCall self other ⌝ }
+    {
+        let m = self.width as usize;
+        let x = self.bytes;
+        let y = other.bytes;
+        let fault = judge::judge_pair(self, other);
+        if fault::is_none(fault) {
+            accepted(bytes::xored(x, y), m)
+        } else {
+            refused(fault)
+        }
+    }
+
+    pub fn trace(self) -> TraceAnswer
+        ensures { λ r. ⌜ r ≡ traceCall self ⌝ }
+    {
+        let x = self.bytes;
+        let fault = judge::judge_operand(self);
+        if fault::is_none(fault) {
+            TraceAnswer {
+                fault,
+                trace: quadratic::trace(x) as usize,
+            }
+        } else {
+            TraceAnswer { fault, trace: 0 }
+        }
+    }
+
+    // The solution of z² + z = c, with coordinate 0 equal 0.
+    pub fn solve(self) -> OperandAnswer
+        ensures { λ r. ⌜ r ≡ solveCall self ⌝ }
+    {
+        let m = self.width as usize;
+        let c = self.bytes;
+        let fault = judge::judge_operand(self);
+        if !fault::is_none(fault) {
+            return refused(fault);
+        }
+        if quadratic::trace(c) == 1 {
+            return refused(Fault::TraceOne);
+        }
+        let z = quadratic::root(c);
+        accepted(bytes::cleared(z, m), m)
+    }
+
+    pub fn read(width: usize, s: &[u8]) -> OperandAnswer
+        ensures { λ r. ⌜ r ≡ readCall width (now (s .entry)) ⌝ }
+    {
+        let x = bytes::carried(s);
+        let fault = judge::judge_bytes(width, s, x);
+        if fault::is_none(fault) {
+            accepted(x, width)
+        } else {
+            refused(fault)
+        }
+    }
+
+    pub fn write(self, out: &mut [u8]) -> Fault
+        ensures fault { λ r. ⌜ r ≡ roomFault self (length (now (out .entry))) ⌝ }
+        ensures bytes { λ _. ⌜ now (out .exit) ≡ writeCall self (now (out .entry)) ⌝ }
+    {
+        let x = self.bytes;
+        let fault = judge::judge_room(self, out.len());
+        if fault::is_none(fault) {
+            bytes::copy_out(x, out);
+        }
+        fault
+    }
+}
