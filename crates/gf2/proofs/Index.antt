@@ -1,7 +1,7 @@
 -- The indices 0 .. p, added and subtracted modulo m = p + 1.
 -- Ix p: an index; at n: the index that a number stands for; _⊹_, _⊖_: sum and difference and their laws.
 -- num-minus: the crate's minus is the difference.
-use mathlib.Core.Path.{_≡_, sym, _∙_, ap}
+use mathlib.Core.Path.{_≡_, refl, sym, _∙_, ap}
 use mathlib.Core.HLevel.{isProp→PathP}
 use Prim.Native.Nat.{ℕ, zero, suc, _+_, _-_, _%_, _<_, _≤_}
 use native.Mathlib.Nat.{mod-lt, mod-eq-of-lt, mod-self, mod-mod, mod-add-mod, add-mod-mod, add-comm, add-assoc, zero-mod}
@@ -113,3 +113,8 @@ module _ {p : ℕ} where
   pub at-minus : (i k : ℕ) → at (minus (suc p) i k) ≡ at i ⊖ at k
   unfolding minus _⊖_ _⊹_ at
   at-minus i k = ix-path (simp (mod-mod, mod-add-mod, add-mod-mod))
+
+-- the number of the index that a number stands for
+pub at-mod : (p n : ℕ) → at {p = p} n .num ≡ n % suc p
+unfolding at
+at-mod p n = refl

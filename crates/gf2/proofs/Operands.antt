@@ -1,6 +1,7 @@
 -- Laws of operands as bytes, by their coordinates.
 -- Operands made from coordinates: their form, their coordinates, equality of two.
 -- The test of the bits at the width and above.
+-- Indices modulo the width. Turns and sums: their form and their coordinates.
 use mathlib.Core.Path.{_≡_, refl, sym, ap, _∙_}
 use mathlib.Core.List.{List}
 use mathlib.Core.Bool.{Bool, true, false, _||_}
@@ -12,7 +13,7 @@ use lib.ListN.{length, getD}
 use lib.Dec.{ltb, eqb}
 use borrow.Author.Tests.{lt-ltb, le-ltb, eq-eqb, eqb-true}
 use Rattle.gf2.specs.Coordinates.{coord, pack}
-use Rattle.gf2.specs.Operands.{minus, IsOperand, isClear, choose, below, fromCoords}
+use Rattle.gf2.specs.Operands.{minus, IsOperand, isClear, choose, below, fromCoords, added, turned}
 use Rattle.gf2.proofs.Sums.{every-at, every-of}
 use Rattle.gf2.proofs.Coordinates.{coord-lt, coord-past, coord-pack, length-pack, pack-byte, pack-eq, pack-ext}
 
@@ -105,3 +106,22 @@ minus-below m i k h l =
 pub minus-round : (m i k : ℕ) → i < k → k < m → minus m i k ≡ i + (m - k)
 unfolding minus
 minus-round m i k h l = rw (mod-eq-of-lt l) (mod-eq-of-lt (omega arith))
+
+-- turns and sums are operands, with these coordinates
+module _ {n m : ℕ} (a : List ℕ) (size : length a ≡ n) where
+  pub turned-operand : (k : ℕ) → IsOperand n m (turned m k a)
+  unfolding turned
+  turned-operand k = rw size (from-operand n m _)
+
+  pub added-operand : (b : List ℕ) → IsOperand n m (added m a b)
+  unfolding added
+  added-operand b = rw size (from-operand n m _)
+
+  module _ (fits : m ≤ 8 * n) where
+    pub coord-turned : (k i : ℕ) → i < m → coord (turned m k a) i ≡ coord a (minus m i k)
+    unfolding turned
+    coord-turned k i l = rw size (coord-from n m _ fits i l ∙ mod-eq-of-lt (coord-lt a (minus m i k)))
+
+    pub coord-added : (b : List ℕ) (i : ℕ) → i < m → coord (added m a b) i ≡ (coord a i + coord b i) % 2
+    unfolding added
+    coord-added b i l = rw size (coord-from n m _ fits i l)

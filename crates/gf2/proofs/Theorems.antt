@@ -22,7 +22,7 @@ use Rattle.gf2.proofs.VectorProduct.{pair}
 use Rattle.gf2.proofs.VectorField.{Laws, rule7 as rule7ᵛ, check-field, rows-differ, t, t-inverse, t-turn-pow, t-unique}
 use Rattle.gf2.proofs.VectorCounts.{onesOf, halfPairs, count-pairs, diagonal-pair, count-swap, count-half}
 use Rattle.gf2.proofs.OperandVectors.{bit-coord, bytes-fit, vec, bytes, operand-vec, zeroes-vec, ones-vec, bytes-inj}
-use Rattle.gf2.proofs.TableVectors.{rows, row-vec, pair-odd, product-vec, product-bytes, reduced-vec, symmetric, rule7}
+use Rattle.gf2.proofs.TableVectors.{rows, row-vec, pair-odd, product-vec, product-bytes, reduced-vec, distance-vec, symmetric, rule7}
 use Rattle.gf2.proofs.FieldVectors.{laws, accepted, from-field, from-squares, to-field, to-squares}
 use Rattle.gf2.proofs.Chain.{log2-bounds, products-made, inverse-vec, power-vec}
 
@@ -66,7 +66,10 @@ theoremC (suc p) table two is s six = rule7 p table is .1 (rule7ᵛ (rows p tabl
 
 pub theoremD : TheoremD
 theoremD zero table two is s a b = absurd (omega arith)
-theoremD (suc p) table two is s a b = reduced-vec p table is (symmetric p table is two .0 s) a b ∙ sym (product-vec p table is a b)
+theoremD (suc p) table two is s a b =
+    let v = symmetric p table is two .0 s in
+    let q = sym (product-vec p table is a b) in
+    record { pairs = reduced-vec p table is v a b ∙ q; distances = distance-vec p table is v a b ∙ q }
 
 module _ (p : ℕ) (table : List ℕ) (is : IsTable (suc p) table) where
   abbrev T : Ix p → Vec p

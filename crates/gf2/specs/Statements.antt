@@ -2,7 +2,7 @@
 -- A: the check accepts a table just when its operands form a field whose square is the turn by one.
 -- B: the chain gives the inverse, with a known number of products.
 -- C: rule 7 follows from rules 4, 5 and 6.
--- D: the reduced product is the product.
+-- D: the reduced product is the product, by pairs and by distances.
 -- E: for every r, as many pairs (i, j) have coordinate r in βi·βj as the table has ones.
 use mathlib.Core.Path.{_≡_}
 use mathlib.Core.Logic.{_↔_}
@@ -13,7 +13,7 @@ use Rattle.gf2.specs.Sums.{sum}
 use Rattle.gf2.specs.Coordinates.{coord}
 use Rattle.gf2.specs.Operands.{bytesFor, minus, IsOperand, zeroes, ones}
 use Rattle.gf2.specs.Tables.{IsTable, row, pairProduct, onesIn}
-use Rattle.gf2.specs.Products.{product, reduced}
+use Rattle.gf2.specs.Products.{product, reduced, byDistance}
 use Rattle.gf2.specs.Check.{Rule6, Rule7, Symmetric, Accepted}
 use Rattle.gf2.specs.Field.{Field, Squares}
 use Rattle.gf2.specs.Inverse.{log2, binaryOnes, inverse, productsMade}
@@ -47,10 +47,13 @@ abbrev pub TheoremC : Type 0
 TheoremC = (m : ℕ) (table : List ℕ) → 2 ≤ m → IsTable m table → Symmetric m table →
     ((i j : ℕ) → i < m → j < m → Rule6 m table i j) → Rule7 m table
 
--- Under rules 4 and 5 the reduced product is the product, of any bytes.
+-- Under rules 4 and 5 the reduced product is the product, of any bytes, and so is its form by distances.
+pub record Reduces (m : ℕ) (table a b : List ℕ) : Type 0 where
+  pub pairs : reduced m table a b ≡ product m table a b
+  pub distances : byDistance m table a b ≡ product m table a b
+
 abbrev pub TheoremD : Type 0
-TheoremD = (m : ℕ) (table : List ℕ) → 2 ≤ m → IsTable m table → Symmetric m table →
-    (a b : List ℕ) → reduced m table a b ≡ product m table a b
+TheoremD = (m : ℕ) (table : List ℕ) → 2 ≤ m → IsTable m table → Symmetric m table → (a b : List ℕ) → Reduces m table a b
 
 -- A coordinate is 0 or 1, so each of these sums is a number of pairs: all (i, j) whose βi·βj has coordinate r,
 unfoldable pub pairsWith : ℕ → List ℕ → ℕ → ℕ

@@ -64,11 +64,11 @@ pub root-bytes : (m : ℕ) (c : List ℕ) → length c ≡ carriedBytes → m �
 unfolding root
 root-bytes m c size h = rw size (from-ext carriedBytes m _ (rootCoord c) (λ i l. ap (λ x. x % 2) (coord-pack carriedBytes (rootCoord c) i (omega arith)) ∙ mod-mod _ 2))
 
--- the carried bytes of a slice that isn't longer have its coordinates
-pub coord-carried : (n : ℕ) (s : List ℕ) → length s ≤ n → (i : ℕ) → coord (pack n (coord s)) i ≡ coord s i
-coord-carried n s h i = elim (decLt i (8 * n)) [
+-- the coordinates of a list, in n bytes that are enough for them
+pub coord-repacked : (n : ℕ) (s : List ℕ) → ((i : ℕ) → 8 * n ≤ i → coord s i ≡ 0) → (i : ℕ) → coord (pack n (coord s)) i ≡ coord s i
+coord-repacked n s h i = elim (decLt i (8 * n)) [
   | yes l ↦ coord-pack n (coord s) i l ∙ mod-eq-of-lt (coord-lt s i)
-  | no l ↦ coord-past (pack n (coord s)) i (omega (arith, length-pack n (coord s))) ∙ sym (coord-past s i (omega arith))
+  | no l ↦ coord-past (pack n (coord s)) i (omega (arith, length-pack n (coord s))) ∙ sym (h i (omega arith))
 ]
 
 clear-ext : (m : ℕ) (a b : List ℕ) → ((i : ℕ) → coord a i ≡ coord b i) → isClear m a ≡ isClear m b
@@ -84,7 +84,7 @@ bytes-fault m s = width (isNone (widthFault m)) refl ∙ sym (first-more _ _ _ �
     size false e h = or-first _ _ e ∙ sym (or-first _ _ e)
     size true e h =
         let l = length-fine (length s) (bytesFor m) e in
-        ap (λ b. orElse (lengthFault (length s) (bytesFor m)) (when (not b) HighBit)) (clear-ext m _ s (coord-carried carriedBytes s (omega arith)))
+        ap (λ b. orElse (lengthFault (length s) (bytesFor m)) (when (not b) HighBit)) (clear-ext m _ s (coord-repacked carriedBytes s (λ i g. coord-past s i (omega arith))))
 
     width : (b : Bool) → isNone (widthFault m) ≡ b → orElse (widthFault m) (orElse (lengthFault (length s) (bytesFor m)) (highFault m (pack carriedBytes (coord s))))
         ≡ orElse (widthFault m) (orElse (lengthFault (length s) (bytesFor m)) (highFault m s))

@@ -168,20 +168,27 @@ pub turn-none : (m k : ℕ) → k < m → turnFault m k ≡ None
 unfolding turnFault
 turn-none m k h = rw (lt-leb m k h)
 
--- W bytes, and room for W bytes, that are given no fault
-pub bytes-fine : (m : ℕ) (x : List ℕ) → isNone (bytesFault m x) ≡ true → (m ≤ maxWidth) × (length x ≡ bytesFor m) × (isClear m x ≡ true)
-unfolding bytesFault
-bytes-fine m x e =
-    let w = more-fine _ _ _ e in
-    let l = two-fine _ _ (w .1) in
-    (width-fine m (w .0) .1, length-fine _ _ (l .0), high-fine m x (l .1))
+-- `size` bytes and an operand x of width m that are given no fault
+pub record FineBytes (m size : ℕ) (x : List ℕ) : Type 0 where
+  pub least : 2 ≤ m
+  pub greatest : m ≤ maxWidth
+  pub laidDown : size ≡ bytesFor m
+  pub clear : isClear m x ≡ true
 
-pub room-fine : (a : Operand) (size : ℕ) → isNone (roomFault a size) ≡ true → (a .width ≤ maxWidth) × (size ≡ bytesFor (a .width)) × (isClear (a .width) (a .bytes) ≡ true)
-unfolding roomFault
-room-fine a size e =
+fine-bytes : (m size : ℕ) (x : List ℕ) → isNone (firstOf (widthFault m ∷ lengthFault size (bytesFor m) ∷ highFault m x ∷ [])) ≡ true → FineBytes m size x
+fine-bytes m size x e =
     let w = more-fine _ _ _ e in
     let l = two-fine _ _ (w .1) in
-    (width-fine (a .width) (w .0) .1, length-fine _ _ (l .0), high-fine (a .width) (a .bytes) (l .1))
+    let v = width-fine m (w .0) in
+    record { least = v .0; greatest = v .1; laidDown = length-fine _ _ (l .0); clear = high-fine m x (l .1) }
+
+pub bytes-fine : (m : ℕ) (x : List ℕ) → isNone (bytesFault m x) ≡ true → FineBytes m (length x) x
+unfolding bytesFault
+bytes-fine m x e = fine-bytes m (length x) x e
+
+pub room-fine : (a : Operand) (size : ℕ) → isNone (roomFault a size) ≡ true → FineBytes (a .width) size (a .bytes)
+unfolding roomFault
+room-fine a size e = fine-bytes (a .width) size (a .bytes) e
 
 -- a turn by one is never refused for its count
 pub square-fault : (a : Operand) → firstOf (operandFault a ∷ turnFault (a .width) 1 ∷ []) ≡ operandFault a

@@ -5,3 +5,5 @@ pub mod TurnBytes
 pub mod QuadraticBytes
 pub mod CallLaws
 pub mod FaultFree
+pub mod Theorems
+pub mod CallTheorems

@@ -82,7 +82,7 @@ folded-trace n x =
     ∙ ap (λ s. s % 2) (sum-swap 8 n (λ j t. coord x (t * 8 + j)) ∙ sym (sum-digits n 8 (coord x)) ∙ ap (λ k. sum k (coord x)) (mul-comm n 8))
 
 -- the solution's coordinates as sums from coordinate 0 on
-root-sum : (c : List ℕ) (i : ℕ) → rootCoord c i ≡ (coord c 0 + sum (suc i) (coord c)) % 2
+pub root-sum : (c : List ℕ) (i : ℕ) → rootCoord c i ≡ (coord c 0 + sum (suc i) (coord c)) % 2
 unfolding rootCoord sum
 root-sum c zero = omega arith
 root-sum c (suc i) = omega (arith, root-sum c i)

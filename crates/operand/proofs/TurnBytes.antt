@@ -65,19 +65,19 @@ parts x y p q r e = omega arith
 
 module _ {n m k : ℕ} {x : List ℕ} (o : IsOperand n m x) (fits : m ≤ 8 * n) (less : k < m) where
   -- of the two shifted operands, one has the coordinate that comes to place i and the other has 0 there
-  shifted : (i : ℕ) → i < m → coord (padding n x) (8 * n - k + i) + coord (padding n x) (8 * n + m - k + i) ≡ coord x (minus m i k)
+  shifted : (i : ℕ) → i < m → coord (padding n x) (8 * n - k + i) + coord (padding n x) (8 * n + (m - k) + i) ≡ coord x (minus m i k)
   shifted i l = elim (decLt i k) [
     | yes h ↦
-        let e : 8 * n + m - k + i ≡ 8 * n + (i + (m - k)) = omega arith in
+        let e : 8 * n + (m - k) + i ≡ 8 * n + (i + (m - k)) = omega arith in
         rw (padding-before n x (8 * n - k + i) (omega arith), e, padding-in n x (i + (m - k)) (o .size), minus-round m i k h less) (omega arith)
     | no h ↦
         let d : 8 * n - k + i ≡ 8 * n + (i - k) = omega arith in
-        let e : 8 * n + m - k + i ≡ 8 * n + (m + (i - k)) = omega arith in
+        let e : 8 * n + (m - k) + i ≡ 8 * n + (m + (i - k)) = omega arith in
         rw (d, padding-in n x (i - k) (o .size), e, padding-in n x (m + (i - k)) (o .size), o .clear (m + (i - k)) (omega arith), minus-below m i k (omega arith) l) (omega arith)
   ]
 
   -- the two shifts, added, with the coordinates below m kept
-  pub shifts-turn : {up round both : List ℕ} → up ≡ pack n (λ i. coord (padding n x) (8 * n - k + i)) → round ≡ pack n (λ i. coord (padding n x) (8 * n + m - k + i))
+  pub shifts-turn : {up round both : List ℕ} → up ≡ pack n (λ i. coord (padding n x) (8 * n - k + i)) → round ≡ pack n (λ i. coord (padding n x) (8 * n + (m - k) + i))
       → both ≡ pack n (λ i. coord up i + coord round i) → fromCoords n m (coord both) ≡ turned m k x
   unfolding turned
   shifts-turn {up} {round} {both} eu er eb =

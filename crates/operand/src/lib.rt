@@ -180,10 +180,10 @@ impl Operand {
         ensures bytes { λ _. ⌜ now (out .exit) ≡ writeCall self (now (out .entry)) ⌝ }
     {
         let x = self.bytes;
-        let fault = judge::judge_room(self, out.len());
-        if fault::is_none(fault) {
+        let judged = judge::judge_room(self, out.len());
+        if fault::is_none(judged) {
             bytes::copy_out(x, out);
         }
-        fault
+        judged
     }
 }

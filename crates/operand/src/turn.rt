@@ -63,8 +63,9 @@ pub(crate) fn turned(x: [u8; Operand::BYTES], m: usize, k: usize) -> [u8; Operan
     ensures { λ r. ⌜ r ≡ turned m k x ⌝ }
 {
     let room = padded(x);
+    let back = m - k;
     let up = window(room, 8 * Operand::BYTES - k);
-    let round = window(room, 8 * Operand::BYTES + m - k);
+    let round = window(room, 8 * Operand::BYTES + back);
     let both = bytes::xored(up, round);
     bytes::cleared(both, m)
 }

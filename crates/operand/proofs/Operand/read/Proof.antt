@@ -15,7 +15,7 @@ is-none-requires c κs = search needs
 
 accepted-requires : tie.Need-accepted-requires
 accepted-requires c κs =
-    bytes-fine _ _ (judged (c .before .before .judge-bytes .ensures) (c .before .is-none .ensures) (c .if1 .taken)) .0
+    bytes-fine _ _ (judged (c .before .before .judge-bytes .ensures) (c .before .is-none .ensures) (c .if1 .taken)) .greatest
 
 refused-requires : tie.Need-refused-requires
 refused-requires c κs = search needs

@@ -15,7 +15,7 @@ copy-out-requires : tie.Need-copy-out-requires
 copy-out-requires c κs =
     let s = c .before .before in
     let fine = room-fine _ _ (judged (s .before .judge-room .ensures) (s .is-none .ensures) (c .before .if1 .taken)) in
-    omega (arith, fine .0, fine .1)
+    omega (arith, fine .greatest, fine .laidDown)
 
 same-length : tie.Need-same-length
 same-length c = search needs

@@ -16,6 +16,9 @@ use Rattle.operand.proofs.turn.turned.Tie as tie
 padded-requires : tie.Need-padded-requires
 padded-requires c κs = search needs
 
+sub-back : tie.Need-sub-back
+sub-back c = search needs
+
 mul-window : tie.Need-mul-window
 mul-window c = search needs
 
@@ -30,9 +33,6 @@ mul-window-2 c = search needs
 
 add-window : tie.Need-add-window
 add-window c = search needs
-
-sub-window-2 : tie.Need-sub-window-2
-sub-window-2 c = search needs
 
 window-requires-2 : tie.Need-window-requires-2
 window-requires-2 c κs = search needs
@@ -51,7 +51,7 @@ returns c =
     let o : IsOperand carriedBytes (s .args .m) x = record { size = search needs; byte = λ b. small b .fits; clear = clear-at (s .args .m) x (s .pre .2) } in
     c .cleared .ensures ∙ shifts-turn o (omega arith) (s .pre .1)
     (c .before .before .before .window .ensures ∙ ap (λ l. pack carriedBytes (λ i. coord l (8 * carriedBytes - s .args .k + i))) (c .before .before .before .before .padded .ensures))
-    (c .before .before .window2 .ensures ∙ ap (λ l. pack carriedBytes (λ i. coord l (8 * carriedBytes + s .args .m - s .args .k + i))) (c .before .before .before .before .padded .ensures))
+    (c .before .before .window2 .ensures ∙ ap (λ l. pack carriedBytes (λ i. coord l (8 * carriedBytes + (s .args .m - s .args .k) + i))) (c .before .before .before .before .padded .ensures))
     (c .before .xored .ensures)
 
 pub turned-spec : {M : Type 1} → statement M
@@ -59,12 +59,12 @@ turned-spec =
     tie.close
     (tie.spec
     padded-requires
+    sub-back
     mul-window
     sub-window
     window-requires
     mul-window-2
     add-window
-    sub-window-2
     window-requires-2
     xored-requires
     cleared-requires
