@@ -17,10 +17,11 @@ use Rattle.gf2.proofs.Parity.{bool-ext}
 use Rattle.gf2.proofs.Sums.{sum-ext, sum-split, every-at}
 use Rattle.gf2.proofs.Coordinates.{coord-lt, coord-past, coord-pack, pack-ext, coord-none, length-pack}
 use Rattle.gf2.proofs.Operands.{from-ext, clear-at, clear-of, below-in, below-out}
-use Rattle.operand.specs.declared.fault.Fault.the-variants.{HighBit}
+use Rattle.operand.specs.declared.Operand.{Operand}
+use Rattle.operand.specs.declared.fault.Fault.the-variants.{HighBit, TraceOne}
 use Rattle.operand.specs.Faults.{isNone, when, orElse}
-use Rattle.operand.specs.Judgements.{widthFault, lengthFault, highFault, bytesFault}
-use Rattle.operand.proofs.FaultLaws.{or-first, or-second, first-two, first-more, width-fine, length-fine}
+use Rattle.operand.specs.Judgements.{widthFault, lengthFault, highFault, traceFault, bytesFault}
+use Rattle.operand.proofs.FaultLaws.{or-first, first-two, first-more, width-fine, length-fine, Fine}
 
 -- bytes whose coordinates from m on are 0 are those of the operand
 clear-pack : (n m : ℕ) (f : ℕ → ℕ) → ((i : ℕ) → m ≤ i → f i ≡ 0) → pack n f ≡ fromCoords n m f
@@ -59,6 +60,11 @@ trace-bytes n m x h e =
     rest : (k : ℕ) → sum k (λ i. coord x (m + i)) ≡ 0
     rest zero = refl
     rest (suc k) = rw (rest k, clear-at m x e (m + k) (omega arith))
+
+-- the trace over all carried bits of an operand that has no fault
+pub trace-fault : {a : Operand} → Fine a → traceFault (8 * carriedBytes) (a .bytes) ≡ traceFault (a .width) (a .bytes)
+unfolding traceFault trace
+trace-fault {a} fine = ap (λ t. when (eqb t 1) TraceOne) (trace-bytes (8 * carriedBytes) (a .width) (a .bytes) (omega (arith, fine .greatest)) (fine .clear))
 
 pub root-bytes : (m : ℕ) (c : List ℕ) → length c ≡ carriedBytes → m ≤ maxWidth → fromCoords carriedBytes m (coord (pack carriedBytes (rootCoord c))) ≡ root m c
 unfolding root

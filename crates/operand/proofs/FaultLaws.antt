@@ -83,6 +83,23 @@ more-fine f g fs e = or-both f (firstOf (g ∷ fs)) (ap isNone (sym (first-more 
 pub judged : {f g : Fault} {b v : Bool} → f ≡ g → b ≡ isNone f → b ≡ v → isNone g ≡ v
 judged e r t = ap isNone (sym e) ∙ sym r ∙ t
 
+-- equal faults and, where these are none, equal bytes make equal answers
+pub answer-same : {f g : Fault} (m : ℕ) {x y : List ℕ} → f ≡ g → (isNone g ≡ true → x ≡ y) → answer f m x ≡ answer g m y
+unfolding answer
+answer-same {f} {g} m {x} {y} e h = ap (λ k. answer k m x) e ∙ go (isNone g) refl
+  where
+    go : (b : Bool) → isNone g ≡ b → answer g m x ≡ answer g m y
+    go true q = ap (answer g m) (h q)
+    go false q = rw q
+
+-- a later fault counts only where the earlier is none
+pub or-same : {f f′ g g′ : Fault} → f ≡ f′ → (isNone f′ ≡ true → g ≡ g′) → orElse f g ≡ orElse f′ g′
+or-same {f} {f′} {g} {g′} e h = ap (λ k. orElse k g) e ∙ go (isNone f′) refl
+  where
+    go : (b : Bool) → isNone f′ ≡ b → orElse f′ g ≡ orElse f′ g′
+    go true q = ap (orElse f′) (h q)
+    go false q = or-first f′ g q ∙ sym (or-first f′ g′ q)
+
 -- the answer of a call whose fault is g, without and with a fault
 pub answered : (g : Fault) {m : ℕ} {x y : List ℕ} {r : OperandAnswer} → isNone g ≡ true → r ≡ (record { fault = None; value = record { bytes = x; width = m } }) → x ≡ y → r ≡ answer g m y
 unfolding answer

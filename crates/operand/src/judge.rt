@@ -1,13 +1,15 @@
 // What a call judges before its work: a width, a length, bits at the width and above, operands.
 ghost use mathlib.Core.Path.{_≡_};
+ghost use Prim.Native.Nat.{_*_};
 ghost use lib.ListN.{length};
 ghost use Rattle.gf2.specs.Coordinates.{coord, pack};
 ghost use Rattle.gf2.specs.Operands.{bytesFor, carriedBytes};
-ghost use Rattle.operand.specs.Judgements.{widthFault, lengthFault, highFault, turnFault, operandFault, pairFault, bytesFault, roomFault};
+ghost use Rattle.operand.specs.Judgements.{widthFault, lengthFault, highFault, turnFault, traceFault, operandFault, pairFault, bytesFault, roomFault};
 use crate::Operand;
 use crate::bytes;
 use crate::fault;
 use crate::fault::Fault;
+use crate::quadratic;
 
 pub fn judge_width(width: usize) -> Fault
     ensures { λ r. ⌜ r ≡ widthFault width ⌝ }
@@ -48,6 +50,17 @@ pub(crate) fn judge_high(x: [u8; Operand::BYTES], width: usize) -> Fault
         Fault::None
     } else {
         Fault::HighBit
+    }
+}
+
+// The trace over all carried bits, which is the operand's where it has none at its width or above.
+pub(crate) fn judge_trace(c: [u8; Operand::BYTES]) -> Fault
+    ensures { λ r. ⌜ r ≡ traceFault (8 * carriedBytes) c ⌝ }
+{
+    if quadratic::trace(c) == 1 {
+        Fault::TraceOne
+    } else {
+        Fault::None
     }
 }
 

@@ -1,12 +1,13 @@
 // Operands of GF(2^m) in a normal basis: the type, and every call of document 01 on operands alone.
 // Each call judges what it is given; a fault stands beside the operand of width 0.
 ghost use mathlib.Core.Path.{_≡_};
+ghost use mathlib.Core.Bool.{true};
 ghost use Prim.Native.Nat.{_≤_};
 ghost use lib.ListN.{length};
 ghost use Rattle.gf2.specs.Operands.{maxWidth};
-ghost use Rattle.operand.specs.declared.fault.Fault.the-variants.{None};
+ghost use Rattle.operand.specs.Faults.{isNone};
 ghost use Rattle.operand.specs.Judgements.{roomFault};
-ghost use Rattle.operand.specs.Calls.{noOperand, zeroCall, oneCall, turnCall, squareCall, sumCall, traceCall, solveCall, readCall, writeCall};
+ghost use Rattle.operand.specs.Calls.{answer, zeroCall, oneCall, turnCall, squareCall, sumCall, traceCall, solveCall, readCall, writeCall};
 
 mod bytes;
 mod fault;
@@ -44,27 +45,25 @@ pub struct TraceAnswer {
     pub trace: usize,
 }
 
-fn refused(fault: Fault) -> OperandAnswer
-    ensures { λ r. ⌜ r ≡ (record { fault = fault; value = noOperand }) ⌝ }
+// The answer of a call that judged `fault` and, where that is none, found `bytes`.
+fn answered(fault: Fault, width: usize, bytes: [u8; Operand::BYTES]) -> OperandAnswer
+    requires { ⌜ (isNone fault ≡ true → width ≤ maxWidth) ⌝ }
+    ensures { λ r. ⌜ r ≡ answer fault width bytes ⌝ }
 {
+    if fault::is_none(fault) {
+        return OperandAnswer {
+            fault,
+            value: Operand {
+                bytes,
+                width: width as u16,
+            },
+        };
+    }
     OperandAnswer {
         fault,
         value: Operand {
             bytes: [0u8; Operand::BYTES],
             width: 0,
-        },
-    }
-}
-
-fn accepted(bytes: [u8; Operand::BYTES], width: usize) -> OperandAnswer
-    requires { ⌜ width ≤ maxWidth ⌝ }
-    ensures { λ r. ⌜ r ≡ (record { fault = None; value = record { bytes = bytes; width = width } }) ⌝ }
-{
-    OperandAnswer {
-        fault: Fault::None,
-        value: Operand {
-            bytes,
-            width: width as u16,
         },
     }
 }
@@ -77,24 +76,18 @@ impl Operand {
     pub fn zero(width: usize) -> OperandAnswer
         ensures { λ r. ⌜ r ≡ zeroCall width ⌝ }
     {
-        let fault = judge::judge_width(width);
-        if fault::is_none(fault) {
-            accepted([0u8; Operand::BYTES], width)
-        } else {
-            refused(fault)
-        }
+        answered(judge::judge_width(width), width, [0u8; Operand::BYTES])
     }
 
     pub fn one(width: usize) -> OperandAnswer
         ensures { λ r. ⌜ r ≡ oneCall width ⌝ }
     {
-        let fault = judge::judge_width(width);
-        if fault::is_none(fault) {
-            let full = [255u8; Operand::BYTES];
-            accepted(bytes::cleared(full, width), width)
-        } else {
-            refused(fault)
-        }
+        let full = [255u8; Operand::BYTES];
+        answered(
+            judge::judge_width(width),
+            width,
+            bytes::cleared(full, width),
+        )
     }
 
     pub fn turn(self, k: usize) -> OperandAnswer
@@ -104,10 +97,9 @@ impl Operand {
         let x = self.bytes;
         let fault = fault::or_else(judge::judge_operand(self), judge::judge_turn(m, k));
         if fault::is_none(fault) {
-            accepted(turn::turned(x, m, k), m)
-        } else {
-            refused(fault)
+            return answered(fault, m, turn::turned(x, m, k));
         }
+        answered(fault, m, x)
     }
 
     // The Frobenius map, which is the turn by one.
@@ -123,12 +115,7 @@ impl Operand {
         let m = self.width as usize;
         let x = self.bytes;
         let y = other.bytes;
-        let fault = judge::judge_pair(self, other);
-        if fault::is_none(fault) {
-            accepted(bytes::xored(x, y), m)
-        } else {
-            refused(fault)
-        }
+        answered(judge::judge_pair(self, other), m, bytes::xored(x, y))
     }
 
     pub fn trace(self) -> TraceAnswer
@@ -152,27 +139,16 @@ impl Operand {
     {
         let m = self.width as usize;
         let c = self.bytes;
-        let fault = judge::judge_operand(self);
-        if !fault::is_none(fault) {
-            return refused(fault);
-        }
-        if quadratic::trace(c) == 1 {
-            return refused(Fault::TraceOne);
-        }
         let z = quadratic::root(c);
-        accepted(bytes::cleared(z, m), m)
+        let fault = fault::or_else(judge::judge_operand(self), judge::judge_trace(c));
+        answered(fault, m, bytes::cleared(z, m))
     }
 
     pub fn read(width: usize, s: &[u8]) -> OperandAnswer
         ensures { λ r. ⌜ r ≡ readCall width (now (s .entry)) ⌝ }
     {
         let x = bytes::carried(s);
-        let fault = judge::judge_bytes(width, s, x);
-        if fault::is_none(fault) {
-            accepted(x, width)
-        } else {
-            refused(fault)
-        }
+        answered(judge::judge_bytes(width, s, x), width, x)
     }
 
     pub fn write(self, out: &mut [u8]) -> Fault

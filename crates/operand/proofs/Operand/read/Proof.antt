@@ -1,5 +1,7 @@
 -- `operand::Operand::read` meets its contract.
-use Rattle.operand.proofs.FaultLaws.{judged, answered, refusal, bytes-fine}
+use mathlib.Core.Path.{sym, ap, _∙_}
+use Rattle.operand.specs.Faults.{isNone}
+use Rattle.operand.proofs.FaultLaws.{answer-same, bytes-fine}
 use borrow.Author.Needs.{needs}
 use Rattle.operand.proofs.Operand.read.Statement.{statement}
 use Rattle.operand.proofs.Operand.read.Tie as tie
@@ -8,36 +10,13 @@ carried-requires : tie.Need-carried-requires
 carried-requires c κs = search needs
 
 judge-bytes-requires : tie.Need-judge-bytes-requires
-judge-bytes-requires c κs = search needs
+judge-bytes-requires c κs = c .carried .ensures
 
-is-none-requires : tie.Need-is-none-requires
-is-none-requires c κs = search needs
-
-accepted-requires : tie.Need-accepted-requires
-accepted-requires c κs =
-    bytes-fine _ _ (judged (c .before .before .judge-bytes .ensures) (c .before .is-none .ensures) (c .if1 .taken)) .greatest
-
-refused-requires : tie.Need-refused-requires
-refused-requires c κs = search needs
+answered-requires : tie.Need-answered-requires
+answered-requires c κs = λ e. bytes-fine _ _ (ap isNone (sym (c .judge-bytes .ensures)) ∙ e) .greatest
 
 returns : tie.Need-returns
-returns c =
-    let s = c .before .before in
-    answered _ (judged (s .before .judge-bytes .ensures) (s .is-none .ensures) (c .before .if1 .taken)) (c .accepted .ensures) (s .before .before .carried .ensures)
-
-returns-2 : tie.Need-returns-2
-returns-2 c =
-    let s = c .before .before in
-    refusal _ _ _ (s .before .judge-bytes .ensures) (judged (s .before .judge-bytes .ensures) (s .is-none .ensures) (c .before .if1 .left)) (c .refused .ensures)
+returns c = c .answered .ensures ∙ answer-same _ (c .before .judge-bytes .ensures) (λ e. c .before .before .carried .ensures)
 
 pub read-spec : {M : Type 1} → statement M
-read-spec =
-    tie.close
-    (tie.spec
-    carried-requires
-    judge-bytes-requires
-    is-none-requires
-    accepted-requires
-    refused-requires
-    returns
-    returns-2)
+read-spec = tie.close (tie.spec carried-requires judge-bytes-requires answered-requires returns)

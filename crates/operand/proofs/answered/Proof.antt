@@ -1,0 +1,24 @@
+-- `operand::answered` meets its contract.
+use mathlib.Core.Path.{sym, _∙_}
+use native.Mathlib.Omega.{arith}
+use Rattle.operand.specs.Calls.{answer}
+use borrow.Author.Needs.{needs}
+use Rattle.operand.proofs.answered.Statement.{statement}
+use Rattle.operand.proofs.answered.Tie as tie
+
+is-none-requires : tie.Need-is-none-requires
+is-none-requires c κs = search needs
+
+cast-t5 : tie.Need-cast-t5
+cast-t5 c = let h = c .before .before .pre (sym (c .before .is-none .ensures) ∙ c .if1 .taken) in omega arith
+
+returns : tie.Need-returns
+unfolding answer
+returns c = rw (sym (c .before .is-none .ensures) ∙ c .if1 .taken)
+
+returns-2 : tie.Need-returns-2
+unfolding answer
+returns-2 c = rw (sym (c .before .is-none .ensures) ∙ c .if1 .left)
+
+pub answered-spec : {M : Type 1} → statement M
+answered-spec = tie.close (tie.spec is-none-requires cast-t5 returns returns-2)
