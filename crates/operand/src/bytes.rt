@@ -37,7 +37,7 @@ fn low_bits(byte: u8, b: usize, m: usize) -> u8
 }
 
 // The coordinates below m, the others cleared.
-pub(crate) fn cleared(x: [u8; Operand::BYTES], m: usize) -> [u8; Operand::BYTES]
+pub fn cleared(x: [u8; Operand::BYTES], m: usize) -> [u8; Operand::BYTES]
     ensures { λ r. ⌜ r ≡ fromCoords carriedBytes m (coord x) ⌝ }
 {
     let mut out = [0u8; Operand::BYTES];
@@ -74,7 +74,7 @@ fn byte_at(s: &[u8], b: usize) -> u8
 }
 
 // The coordinates of a slice, in the bytes of a carried operand.
-pub(crate) fn carried(s: &[u8]) -> [u8; Operand::BYTES]
+pub fn carried(s: &[u8]) -> [u8; Operand::BYTES]
     ensures { λ r. ⌜ r ≡ pack carriedBytes (coord (now (s .entry))) ⌝ }
 {
     let mut out = [0u8; Operand::BYTES];

@@ -43,7 +43,7 @@ pub fn judge_turn(width: usize, k: usize) -> Fault
     }
 }
 
-pub(crate) fn judge_high(x: [u8; Operand::BYTES], width: usize) -> Fault
+pub fn judge_high(x: [u8; Operand::BYTES], width: usize) -> Fault
     ensures { λ r. ⌜ r ≡ highFault width x ⌝ }
 {
     if bytes::is_clear(x, width) {

@@ -7,7 +7,7 @@ ghost use lib.ListN.{length};
 ghost use Rattle.gf2.specs.Operands.{maxWidth};
 ghost use Rattle.operand.specs.Faults.{isNone};
 ghost use Rattle.operand.specs.Judgements.{roomFault};
-ghost use Rattle.operand.specs.Calls.{answer, zeroCall, oneCall, turnCall, squareCall, sumCall, traceCall, solveCall, readCall, writeCall};
+ghost use Rattle.operand.specs.Calls.{noOperand, answer, zeroCall, oneCall, turnCall, squareCall, sumCall, traceCall, solveCall, readCall, writeCall};
 
 mod bytes;
 mod fault;
@@ -15,12 +15,15 @@ mod judge;
 mod quadratic;
 mod turn;
 
+pub use bytes::carried;
+pub use bytes::cleared;
 pub use fault::Fault;
 pub use fault::FaultNumber;
 pub use fault::is_none;
 pub use fault::number;
 pub use fault::or_else;
 pub use judge::bytes_for;
+pub use judge::judge_high;
 pub use judge::judge_length;
 pub use judge::judge_operand;
 pub use judge::judge_pair;
@@ -45,6 +48,19 @@ pub struct TraceAnswer {
     pub trace: usize,
 }
 
+// What stands beside a fault: the operand of width 0, which every call refuses.
+pub fn refused(fault: Fault) -> OperandAnswer
+    ensures { λ r. ⌜ r ≡ (record { fault = fault; value = noOperand }) ⌝ }
+{
+    OperandAnswer {
+        fault,
+        value: Operand {
+            bytes: [0u8; Operand::BYTES],
+            width: 0,
+        },
+    }
+}
+
 // The answer of a call that judged `fault` and, where that is none, found `bytes`.
 fn answered(fault: Fault, width: usize, bytes: [u8; Operand::BYTES]) -> OperandAnswer
     requires { ⌜ (isNone fault ≡ true → width ≤ maxWidth) ⌝ }
@@ -59,13 +75,7 @@ fn answered(fault: Fault, width: usize, bytes: [u8; Operand::BYTES]) -> OperandA
             },
         };
     }
-    OperandAnswer {
-        fault,
-        value: Operand {
-            bytes: [0u8; Operand::BYTES],
-            width: 0,
-        },
-    }
+    refused(fault)
 }
 
 impl Operand {

@@ -16,9 +16,12 @@ returns : tie.Need-returns
 unfolding answer
 returns c = rw (sym (c .before .is-none .ensures) ∙ c .if1 .taken)
 
+refused-requires : tie.Need-refused-requires
+refused-requires c κs = search needs
+
 returns-2 : tie.Need-returns-2
 unfolding answer
-returns-2 c = rw (sym (c .before .is-none .ensures) ∙ c .if1 .left)
+returns-2 c = c .refused .ensures ∙ rw (sym (c .before .before .is-none .ensures) ∙ c .before .if1 .left)
 
 pub answered-spec : {M : Type 1} → statement M
-answered-spec = tie.close (tie.spec is-none-requires cast-t5 returns returns-2)
+answered-spec = tie.close (tie.spec is-none-requires cast-t5 returns refused-requires returns-2)
