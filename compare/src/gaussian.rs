@@ -1,0 +1,118 @@
+//! Types, drawn tables by the rule of document 01, and the product by IEEE 1363's own way: the sequence F(n) and the sum over k.
+
+use crate::bits::{bytes_for, judge_lengths, judge_width, pack, turned, Bits};
+use crate::{fault, Answer};
+
+fn prime(p: usize) -> bool {
+    p >= 2 && (2..).take_while(|d| d * d <= p).all(|d| p % d != 0)
+}
+
+fn order_of_two(p: usize) -> usize {
+    let mut k = 1;
+    let mut x = 2 % p;
+    while x != 1 {
+        x = x * 2 % p;
+        k += 1;
+    }
+    k
+}
+
+fn gcd(a: usize, b: usize) -> usize {
+    if b == 0 {
+        a
+    } else {
+        gcd(b, a % b)
+    }
+}
+
+pub fn is_type(m: usize, t: usize) -> bool {
+    let p = t * m + 1;
+    p > 2 && prime(p) && gcd(t * m / order_of_two(p), m) == 1
+}
+
+/// The least type, or 0 where 8 divides the width.
+pub fn type_of(m: usize) -> Answer<usize> {
+    judge_width(m)?;
+    if m % 8 == 0 {
+        return fault(17);
+    }
+    Ok((1..).find(|&t| is_type(m, t)).unwrap())
+}
+
+fn power(u: usize, e: usize, p: usize) -> usize {
+    (0..e).fold(1, |x, _| x * u % p)
+}
+
+/// Rows by the rule: K is the set of u with u^T = 1; row d sums βs where 1 + 2^d·w lies in 2^s·K, over w in K.
+pub fn rows(m: usize, t: usize) -> Vec<Bits> {
+    let p = t * m + 1;
+    let k: Vec<_> = (1..p).filter(|&u| power(u, t, p) == 1).collect();
+    let class = |x: usize| (0..m).find(|&s| k.iter().any(|&w| power(2, s, p) * w % p == x)).unwrap();
+    let row = |d: usize| {
+        let mut row = vec![false; m];
+        for &w in &k {
+            let x = (1 + power(2, d, p) * w) % p;
+            if x != 0 {
+                let s = class(x);
+                row[s] = !row[s];
+            } else if t % 2 == 1 {
+                row.iter_mut().for_each(|b| *b = !*b);
+            }
+        }
+        row
+    };
+    (0..m).map(row).collect()
+}
+
+pub fn draw(m: usize, table: &mut [u8]) -> Answer<usize> {
+    judge_width(m)?;
+    judge_lengths(&[(table.len(), m * bytes_for(m))])?;
+    let t = type_of(m)?;
+    let bytes: Vec<u8> = rows(m, t).iter().flat_map(|r| pack(r)).collect();
+    table.copy_from_slice(&bytes);
+    Ok(t)
+}
+
+/// The Gaussian product of IEEE 1363: coordinate 0 is a sum over k of a at F(k+1) and b at F(p-k), with one more sum for odd T;
+/// the others are coordinate 0 of the operands turned back.
+pub struct Ieee1363 {
+    m: usize,
+    t: usize,
+    f: Vec<usize>,
+}
+
+impl Ieee1363 {
+    pub fn new(m: usize, t: usize) -> Ieee1363 {
+        let p = t * m + 1;
+        let element = |g: usize| (1..).scan(1, |x, _| { *x = *x * g % p; Some(*x) }).position(|x| x == 1).unwrap() + 1;
+        let u = (1..p).find(|&g| element(g) == t).unwrap();
+        let mut f = vec![0; p];
+        let mut w = 1;
+        for _ in 0..t {
+            let mut n = w;
+            for i in 0..m {
+                f[n] = i;
+                n = 2 * n % p;
+            }
+            w = u * w % p;
+        }
+        Ieee1363 { m, t, f }
+    }
+
+    fn first(&self, a: &[bool], b: &[bool]) -> bool {
+        let p = self.t * self.m + 1;
+        let mut c = (1..p - 1).fold(false, |c, k| c ^ (a[self.f[k + 1]] && b[self.f[p - k]]));
+        if self.t % 2 == 1 {
+            let h = self.m / 2;
+            for k in 0..h {
+                c ^= (a[k] && b[h + k]) ^ (a[h + k] && b[k]);
+            }
+        }
+        c
+    }
+
+    pub fn product(&self, a: &[bool], b: &[bool]) -> Bits {
+        let back = |x: &[bool], i: usize| turned(x, (self.m - i) % self.m);
+        (0..self.m).map(|i| self.first(&back(a, i), &back(b, i))).collect()
+    }
+}

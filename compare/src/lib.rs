@@ -1,0 +1,35 @@
+//! An independent version of every call of document 01, by coordinates and not optimised, to compare with the proved one.
+//!
+//! - `bits`: operands as vectors of bits, and the judgements of widths, lengths and high bits
+//! - `field`: tables, the check, products, inverse, trace and quadratic
+//! - `gates`: the three gate lists, their counts and the runner
+//! - `gaussian`: types, drawn tables, and the product by IEEE 1363's own way
+//! - `card`: reading and writing cards, and the report of a card
+
+pub mod bits;
+pub mod card;
+pub mod field;
+pub mod gates;
+pub mod gaussian;
+
+/// A fault of document 01: its number and the values returned beside it.
+#[derive(Clone, Copy, Debug, PartialEq, Eq)]
+pub struct Fault {
+    pub number: u32,
+    pub first: usize,
+    pub second: usize,
+}
+
+pub type Answer<T> = Result<T, Fault>;
+
+pub fn fault<T>(number: u32) -> Answer<T> {
+    fault_with(number, 0, 0)
+}
+
+pub fn fault_with<T>(number: u32, first: usize, second: usize) -> Answer<T> {
+    Err(Fault {
+        number,
+        first,
+        second,
+    })
+}
