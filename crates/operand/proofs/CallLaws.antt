@@ -77,6 +77,10 @@ coord-repacked n s h i = elim (decLt i (8 * n)) [
   | no l ↦ coord-past (pack n (coord s)) i (omega (arith, length-pack n (coord s))) ∙ sym (h i (omega arith))
 ]
 
+-- the same of a list that isn't longer
+pub coord-carried : (n : ℕ) (s : List ℕ) → length s ≤ n → (i : ℕ) → coord (pack n (coord s)) i ≡ coord s i
+coord-carried n s h = coord-repacked n s (λ i l. coord-past s i (omega arith))
+
 clear-ext : (m : ℕ) (a b : List ℕ) → ((i : ℕ) → coord a i ≡ coord b i) → isClear m a ≡ isClear m b
 clear-ext m a b e = bool-ext _ _ (λ q. clear-of m b (λ i h. sym (e i) ∙ clear-at m a q i h)) (λ q. clear-of m a (λ i h. e i ∙ clear-at m b q i h))
 
@@ -90,7 +94,7 @@ bytes-fault m s = width (isNone (widthFault m)) refl ∙ sym (first-more _ _ _ �
     size false e h = or-first _ _ e ∙ sym (or-first _ _ e)
     size true e h =
         let l = length-fine (length s) (bytesFor m) e in
-        ap (λ b. orElse (lengthFault (length s) (bytesFor m)) (when (not b) HighBit)) (clear-ext m _ s (coord-repacked carriedBytes s (λ i g. coord-past s i (omega arith))))
+        ap (λ b. orElse (lengthFault (length s) (bytesFor m)) (when (not b) HighBit)) (clear-ext m _ s (coord-carried carriedBytes s (omega arith)))
 
     width : (b : Bool) → isNone (widthFault m) ≡ b → orElse (widthFault m) (orElse (lengthFault (length s) (bytesFor m)) (highFault m (pack carriedBytes (coord s))))
         ≡ orElse (widthFault m) (orElse (lengthFault (length s) (bytesFor m)) (highFault m s))

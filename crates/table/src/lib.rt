@@ -1,7 +1,26 @@
-// Tables of bits, as a meter brings them: their shape, their ones, the four carried tables, and the check.
-ghost use mathlib.Core.Path.{_≡_};
-ghost use Rattle.table.specs.Calls.{onesCall};
+// Tables of products of basis elements: their shape, their rows, their ones, the four that are carried, and the check.
 use operand::Fault;
+
+mod carried;
+mod counts;
+mod rows;
+mod sums;
+mod symmetry;
+mod triples;
+
+pub use carried::CARRIED2;
+pub use carried::CARRIED3;
+pub use carried::CARRIED4;
+pub use carried::CARRIED5;
+pub use carried::table2;
+pub use carried::table3;
+pub use carried::table4;
+pub use carried::table5;
+pub use counts::ones;
+pub use rows::judge_shape;
+pub use rows::row;
+pub use symmetry::judge_symmetry;
+pub use triples::check;
 
 // A fault, or none and a number of ones.
 pub struct OnesAnswer {

@@ -1,0 +1,14 @@
+-- Searches: what `same` and `firstFrom` decide, and the steps of a loop that searches.
+-- Shapes: tables without fault of shape: their rows, as they lie in the table and carried.
+-- Carrying: operands of W bytes and the same operands carried.
+-- Rules: rules 5 and 6 as tests of one row and of one pair.
+-- RowSums: sums of rows: how a loop makes them, and which products they are.
+-- TableOnes: the number of ones in a table, byte by byte.
+-- Theorems: the proofs of the statements in specs/Statements.antt.
+pub mod Searches
+pub mod Shapes
+pub mod Carrying
+pub mod Rules
+pub mod RowSums
+pub mod TableOnes
+pub mod Theorems

@@ -1,0 +1,183 @@
+-- Tables without fault of shape: their rows, as they lie in the table and carried.
+use mathlib.Core.Path.{_≡_, refl, sym, ap, _∙_}
+use mathlib.Core.Logic.{_↔_}
+use mathlib.Core.Bool.{Bool, true, false, not, true≢false}
+use mathlib.Core.List.{List, [], _∷_}
+use Prim.Native.Nat.{ℕ, zero, suc, _+_, _*_, _%_, _<_, _≤_}
+use native.Mathlib.Nat.{suc-mul, mul-le-mul-right, mul-le-mul, mod-lt}
+use native.Mathlib.Numerals.{add-one}
+use native.Mathlib.Decide.{decLt}
+use native.Mathlib.Omega.{arith}
+use lib.ListN.{length, getD, take, drop, length-drop, List·getD-eq-default}
+use lib.Seq.{length-take-le, getD-take, getD-drop}
+use Rattle.gf2.specs.Sums.{every}
+use Rattle.gf2.specs.Coordinates.{coord, pack}
+use Rattle.gf2.specs.Operands.{maxWidth, bytesFor, carriedBytes, IsOperand, isClear}
+use Rattle.gf2.specs.Tables.{row, IsTable}
+use Rattle.gf2.proofs.Parity.{bool-ext}
+use Rattle.gf2.proofs.Sums.{every-at, every-of}
+use Rattle.gf2.proofs.Coordinates.{length-pack, pack-byte}
+use Rattle.gf2.proofs.Operands.{clear-at, clear-of}
+use Rattle.operand.specs.declared.fault.Fault.{Fault}
+use Rattle.operand.specs.declared.fault.Fault.the-variants.{None, HighBit}
+use Rattle.operand.specs.Faults.{isNone, when, orElse, firstOf}
+use Rattle.operand.specs.Judgements.{widthFault, lengthFault, highFault, bytesFault}
+use Rattle.operand.specs.Calls.{answer}
+use Rattle.operand.proofs.ByteLoops.{Bytes}
+use Rattle.operand.proofs.CallLaws.{coord-carried}
+use Rattle.operand.proofs.FaultLaws.{or-first, or-second, first-two, first-more, two-fine, width-fine, length-fine, high-fine}
+use Rattle.operand.proofs.FaultFree.{IsWidth, done, width-none, length-none, high-none}
+use Rattle.table.specs.Rows.{Shaped, carriedBy, carriedRow}
+use Rattle.table.specs.Judgements.{rowsFault, shapeFault}
+use Rattle.table.specs.Calls.{rowCall}
+use Rattle.table.proofs.Searches.{when-passes, when-fails, when-none, none-true, high-some, three-none}
+
+or-assoc : (f g h : Fault) → orElse f (orElse g h) ≡ orElse (orElse f g) h
+or-assoc f g h = go (isNone f) refl
+  where
+    go : (b : Bool) → isNone f ≡ b → orElse f (orElse g h) ≡ orElse (orElse f g) h
+    go true e = or-second _ _ e ∙ ap (λ z. orElse z h) (sym (or-second f g e))
+    go false e = or-first _ _ e ∙ sym (or-first f h e) ∙ ap (λ z. orElse z h) (sym (or-first f g e))
+
+-- three causes, of which the first two are judged together
+pub first-three : (f g h : Fault) → firstOf (f ∷ g ∷ h ∷ []) ≡ orElse (firstOf (f ∷ g ∷ [])) h
+first-three f g h =
+    first-more f g (h ∷ []) ∙ ap (orElse f) (first-two g h) ∙ or-assoc f g h ∙ ap (λ z. orElse z h) (sym (first-two f g))
+
+-- 1 and 2
+abbrev pub sizeFault : ℕ → ℕ → Fault
+sizeFault m size = firstOf (widthFault m ∷ lengthFault size (m * bytesFor m) ∷ [])
+
+pub record Sized (m size : ℕ) : Type 0 where
+  pub least : 2 ≤ m
+  pub greatest : m ≤ maxWidth
+  pub exact : size ≡ m * bytesFor m
+
+pub size-fine : (m size : ℕ) → isNone (sizeFault m size) ≡ true → Sized m size
+size-fine m size e =
+    let h = two-fine _ _ e in
+    let w = width-fine m (h .0) in
+    record { least = w .0; greatest = w .1; exact = length-fine _ _ (h .1) }
+
+pub width-of : {m size : ℕ} → Sized m size → IsWidth m
+width-of s = record { least = s .least; greatest = s .greatest }
+
+pub size-none : {m size : ℕ} → Sized m size → isNone (sizeFault m size) ≡ true
+size-none {m} {size} s =
+    none-true (first-two _ _ ∙ or-second _ _ (none-true (width-none m (width-of s))) ∙ length-none _ _ (s .exact))
+
+pub sized : {m : ℕ} {t : List ℕ} → Shaped m t → Sized m (length t)
+sized s = record { least = s .least; greatest = s .greatest; exact = s .isTable .size }
+
+-- m·W is a small number
+pub size-small : (m : ℕ) → m ≤ maxWidth → m * bytesFor m ≤ maxWidth * carriedBytes
+size-small m h = let w : bytesFor m ≤ carriedBytes = omega arith in mul-le-mul h w
+
+module _ (m d : ℕ) (t : List ℕ) (h : length t ≡ m * bytesFor m) (l : d < m) where
+  pub row-within : d * bytesFor m + bytesFor m ≤ length t
+  row-within = rw (h, ← suc-mul) (mul-le-mul-right (bytesFor m) l)
+
+  pub row-length : length (row m t d) ≡ bytesFor m
+  unfolding row
+  row-length = length-take-le _ _ (rw length-drop (omega (arith, row-within)))
+
+  pub row-byte : Bytes t → Bytes (row m t d)
+  unfolding row
+  row-byte small b = elim (decLt b (bytesFor m)) [
+    | yes q ↦ rw (getD-take {A = ℕ} (bytesFor m) (drop (d * bytesFor m) t) b 0 q, getD-drop) (small _)
+    | no q ↦ rw (List·getD-eq-default (row m t d) 0 {n = b} (omega (arith, row-length))) (omega arith)
+  ]
+
+pub row-short : (m d : ℕ) (t : List ℕ) → Sized m (length t) → d < m → length (row m t d) ≤ carriedBytes
+row-short m d t s l = let g = s .greatest in omega (arith, row-length m d t (s .exact) l)
+
+-- the coordinates of bytes that are carried
+pub clear-carried : (m : ℕ) (x : List ℕ) → length x ≤ carriedBytes → isClear m (carriedBy x) ≡ isClear m x
+clear-carried m x h =
+    let e = coord-carried carriedBytes x h in
+    bool-ext _ _ (λ q. clear-of m x (λ i l. sym (e i) ∙ clear-at m _ q i l)) (λ q. clear-of m _ (λ i l. e i ∙ clear-at m x q i l))
+
+pub high-carried : (m : ℕ) (x : List ℕ) → length x ≤ carriedBytes → highFault m (carriedBy x) ≡ highFault m x
+unfolding highFault
+high-carried m x h = ap (λ b. when (not b) HighBit) (clear-carried m x h)
+
+pub carried-operand : {m n : ℕ} {x : List ℕ} → n ≤ carriedBytes → IsOperand n m x → IsOperand carriedBytes m (carriedBy x)
+carried-operand {m} {n} {x} h o = record {
+  size = length-pack carriedBytes (coord x);
+  byte = pack-byte carriedBytes (coord x);
+  clear = λ i l. coord-carried carriedBytes x (rw (o .size) h) i ∙ o .clear i l;
+}
+
+-- a row of a table, carried
+module _ {m : ℕ} {t : List ℕ} (s : Shaped m t) (d : ℕ) (l : d < m) where
+  pub row-operand : IsOperand carriedBytes m (carriedRow m t d)
+  row-operand = let g = s .greatest in carried-operand (omega arith) (s .isTable .rows d l)
+
+-- the answer of `row` for a table whose size has no fault
+pub row-read : (m d : ℕ) (t : List ℕ) → Sized m (length t) → answer (bytesFault m (row m t (d % m))) m (carriedRow m t (d % m)) ≡ rowCall m t d
+unfolding rowCall bytesFault
+row-read m d t s = ap (λ f. answer f m (carriedRow m t (d % m)))
+    (first-three _ _ _ ∙ or-second _ _ fine ∙ sym (first-three _ _ _ ∙ or-second _ _ (size-none s)))
+  where
+    fine : isNone (firstOf (widthFault m ∷ lengthFault (length (row m t (d % m))) (bytesFor m) ∷ [])) ≡ true
+    fine = none-true (first-two _ _ ∙ or-second _ _ (none-true (width-none m (width-of s)))
+        ∙ length-none _ _ (row-length m (d % m) t (s .exact) (mod-lt d (let l = s .least in omega arith))))
+
+-- a row of a table without fault of shape is an operand
+pub row-done : {m : ℕ} {t : List ℕ} (s : Shaped m t) (d : ℕ) → rowCall m t d ≡ done m (carriedRow m t (d % m))
+unfolding rowCall answer isNone
+row-done {m} {t} s d = rw none
+  where
+    fine : IsOperand (bytesFor m) m (row m t (d % m))
+    fine = s .isTable .rows (d % m) (mod-lt d (let l = s .least in omega arith))
+
+    none : firstOf (widthFault m ∷ lengthFault (length t) (m * bytesFor m) ∷ highFault m (row m t (d % m)) ∷ []) ≡ None
+    none = first-three _ _ _ ∙ or-second _ _ (size-none (sized s)) ∙ high-none m _ fine
+
+-- the fault of shape, row after row
+module _ (m : ℕ) (t : List ℕ) where
+  abbrev pub clearRow : ℕ → Bool
+  clearRow d = isClear m (row m t d)
+
+  pub every-more : (d : ℕ) → every d clearRow ≡ true → clearRow d ≡ true → every (d + 1) clearRow ≡ true
+  unfolding every
+  every-more d e q = rw (add-one, e, q)
+
+  pub rows-done : every m clearRow ≡ true → rowsFault m t ≡ None
+  unfolding rowsFault
+  rows-done e = when-passes _ HighBit e
+
+  pub rows-hit : (d : ℕ) → d < m → isNone (highFault m (row m t d)) ≡ false → highFault m (row m t d) ≡ rowsFault m t
+  unfolding highFault rowsFault isNone
+  rows-hit d l e = go (clearRow d) refl
+    where
+      go : (b : Bool) → clearRow d ≡ b → highFault m (row m t d) ≡ rowsFault m t
+      go true q = absurd (true≢false (sym (none-true (when-passes _ HighBit q)) ∙ e))
+      go false q = when-fails _ HighBit q ∙ sym (when-fails _ HighBit (bool-ext _ _ (λ z. sym q ∙ every-at m clearRow z d l) (λ z. absurd (true≢false (sym z)))))
+
+-- a table of bytes has no fault of shape just where it is shaped
+pub shape-fine : (m : ℕ) (t : List ℕ) → Bytes t → (shapeFault m t ≡ None) ↔ Shaped m t
+unfolding shapeFault rowsFault
+shape-fine m t small = (to, from)
+  where
+    to : shapeFault m t ≡ None → Shaped m t
+    to e =
+        let q = three-none _ _ _ .0 e in
+        let w = width-fine m (none-true (q .0)) in
+        let size = length-fine _ _ (none-true (q .1)) in
+        let clear = when-none (every m (clearRow m t)) HighBit high-some (q .2) in
+        record {
+          least = w .0;
+          greatest = w .1;
+          isTable = record {
+            size = size;
+            rows = λ d l. record {
+              size = row-length m d t size l;
+              byte = row-byte m d t size l small;
+              clear = clear-at m _ (every-at m (clearRow m t) clear d l);
+            };
+          };
+        }
+
+    from : Shaped m t → shapeFault m t ≡ None
+    from s = three-none _ _ _ .1 (width-none m (width-of (sized s)), length-none _ _ (s .isTable .size), rows-done m t (every-of m _ (λ d l. clear-of m _ (s .isTable .rows d l .clear))))

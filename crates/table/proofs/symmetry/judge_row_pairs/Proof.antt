@@ -1,0 +1,63 @@
+-- `table::symmetry::judge_row_pairs` meets its contract.
+use mathlib.Core.Path.{_≡_, refl, sym, ap, _∙_}
+use mathlib.Core.Bool.{not}
+use Prim.Native.Nat.{_-_, _≤_}
+use native.Mathlib.Omega.{arith}
+use borrow.Author.Tests.{not-true, not-false}
+use Rattle.operand.specs.declared.fault.Fault.the-variants.{RowPair}
+use Rattle.operand.specs.Faults.{isNone, when, firstFrom}
+use Rattle.table.specs.Judgements.{rowPairFault}
+use Rattle.table.proofs.Searches.{when-passes, when-fails, none-true, first-done, first-hit, first-miss}
+use Rattle.table.proofs.Rules.{mirrorFault}
+use borrow.Author.Needs.{needs}
+use Rattle.table.proofs.symmetry.judge_row_pairs.Statement.{statement}
+use Rattle.table.proofs.symmetry.judge_row_pairs.Tie as tie
+
+abbrev Inv-loop : tie.InvT-loop
+Inv-loop width table d₀ d = (1 ≤ d) × (rowPairFault width table ≡ firstFrom d (width - d) (mirrorFault width table))
+
+abbrev μ-loop : tie.MeasureT-loop
+μ-loop width table d₀ d = width - d
+
+loop-holds : tie.Need-loop-holds Inv-loop μ-loop
+unfolding rowPairFault
+loop-holds c = (omega arith, refl)
+
+mirrored-requires : tie.Need-mirrored-requires Inv-loop μ-loop
+mirrored-requires c κs = (c .before .before .before .pre, c .before .loop .inv .0, c .loop-test .taken)
+
+returns : tie.Need-returns Inv-loop μ-loop
+unfolding isNone
+returns c =
+    let s = c .before .before .before in
+    let e = when-fails _ (RowPair (s .loop .d)) (sym (c .before .mirrored .ensures) ∙ not-true _ (c .if1 .taken)) in
+    sym (s .loop .inv .1 ∙ first-hit _ _ _ (c .before .before .loop-test .taken) (ap isNone e) ∙ e)
+
+add-d : tie.Need-add-d Inv-loop μ-loop
+add-d c = search needs
+
+loop-less : tie.Need-loop-less Inv-loop μ-loop
+loop-less c = search needs
+
+loop-again : tie.Need-loop-again Inv-loop μ-loop
+loop-again c =
+    let s = c .before .before .before in
+    let e = when-passes _ (RowPair (s .loop .d)) (sym (c .before .mirrored .ensures) ∙ not-false _ (c .if1 .left)) in
+    (omega arith, s .loop .inv .1 ∙ first-miss _ _ _ (c .before .before .loop-test .taken) (none-true e))
+
+returns-2 : tie.Need-returns-2 Inv-loop μ-loop
+returns-2 c = sym (c .before .loop .inv .1 ∙ first-done _ _ _ (omega arith))
+
+pub judge-row-pairs-spec : {M : Type 1} → statement M
+judge-row-pairs-spec =
+    tie.close
+    (tie.spec
+    Inv-loop
+    μ-loop
+    loop-holds
+    mirrored-requires
+    returns
+    add-d
+    loop-less
+    loop-again
+    returns-2)

@@ -1,0 +1,43 @@
+-- `table::symmetry::judge_row_zero` meets its contract.
+use mathlib.Core.Path.{_≡_, sym, ap₂, _∙_}
+use native.Mathlib.Omega.{arith}
+use Rattle.gf2.specs.Operands.{carriedBytes}
+use Rattle.gf2.specs.Tables.{row, basis}
+use Rattle.gf2.proofs.Operands.{from-operand}
+use Rattle.operand.specs.declared.fault.Fault.the-variants.{RowZero}
+use Rattle.table.specs.Rows.{Shaped}
+use Rattle.table.specs.Judgements.{same, rowZeroFault}
+use Rattle.table.proofs.Searches.{when-passes, when-fails}
+use Rattle.table.proofs.Carrying.{same-carried, basis-operand}
+use borrow.Author.Needs.{needs}
+use Rattle.table.proofs.symmetry.judge_row_zero.Statement.{statement}
+use Rattle.table.proofs.symmetry.judge_row_zero.Tie as tie
+
+row-bytes-requires : tie.Need-row-bytes-requires
+row-bytes-requires c κs = let s = c .before .pre in (s .greatest, s .isTable .size, omega (arith, s .least))
+
+basis-bytes-requires : tie.Need-basis-bytes-requires
+basis-bytes-requires c κs = let s = c .before .before .pre in (omega arith, s .least, s .greatest)
+
+same-bytes-requires : tie.Need-same-bytes-requires
+same-bytes-requires c κs = search needs
+
+-- what the test of the carried bytes says of the table's
+tested : (c : tie.After-same-bytes) → let a = c .before .before .before .before .args in c .same-bytes .result ≡ same (row (a .width) (a .table .now) 0) (basis (a .width) 1)
+tested c =
+    let s = c .before .before .before .before .pre in
+    c .same-bytes .ensures ∙ ap₂ same (c .before .before .row-bytes .ensures) (c .before .basis-bytes .ensures)
+    ∙ same-carried (omega (arith, s .greatest)) (s .isTable .rows 0 (omega (arith, s .least))) (basis-operand _ 1)
+
+returns : tie.Need-returns
+unfolding rowZeroFault
+returns c = sym (when-passes _ RowZero (sym (tested (c .before)) ∙ c .if1 .taken))
+
+returns-2 : tie.Need-returns-2
+unfolding rowZeroFault
+returns-2 c = sym (when-fails _ RowZero (sym (tested (c .before)) ∙ c .if1 .left))
+
+pub judge-row-zero-spec : {M : Type 1} → statement M
+judge-row-zero-spec =
+    tie.close
+    (tie.spec row-bytes-requires basis-bytes-requires same-bytes-requires returns returns-2)

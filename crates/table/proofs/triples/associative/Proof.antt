@@ -1,0 +1,28 @@
+-- `table::triples::associative` meets its contract.
+use mathlib.Core.Path.{_≡_, ap₂, _∙_}
+use native.Mathlib.Omega.{arith}
+use Rattle.table.specs.Rows.{Shaped}
+use Rattle.table.specs.Judgements.{same}
+use Rattle.table.proofs.Carrying.{same-carried, basis-operand, product-operand}
+use borrow.Author.Needs.{needs}
+use Rattle.table.proofs.triples.associative.Statement.{statement}
+use Rattle.table.proofs.triples.associative.Tie as tie
+
+left-product-requires : tie.Need-left-product-requires
+left-product-requires c κs = search needs
+
+right-product-requires : tie.Need-right-product-requires
+right-product-requires c κs = search needs
+
+same-bytes-requires : tie.Need-same-bytes-requires
+same-bytes-requires c κs = search needs
+
+returns : tie.Need-returns
+returns c =
+    let s = c .before .before .before .before .pre in
+    c .same-bytes .ensures ∙ ap₂ same (c .before .before .left-product .ensures) (c .before .right-product .ensures)
+    ∙ same-carried (omega (arith, s .0 .greatest)) (product-operand _ _ (product-operand _ _ (basis-operand _ 0))) (product-operand _ _ (basis-operand _ 0))
+
+pub associative-spec : {M : Type 1} → statement M
+associative-spec =
+    tie.close (tie.spec left-product-requires right-product-requires same-bytes-requires returns)

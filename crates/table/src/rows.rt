@@ -1,0 +1,79 @@
+// The shape of a table, and its rows as carried operands.
+ghost use mathlib.Core.Path.{_≡_};
+ghost use mathlib.Core.List.{[], _∷_};
+ghost use Prim.Native.Nat.{_*_, _<_, _≤_};
+ghost use lib.ListN.{length};
+ghost use Rattle.gf2.specs.Operands.{maxWidth, bytesFor};
+ghost use Rattle.operand.specs.Faults.{firstOf};
+ghost use Rattle.operand.specs.Judgements.{widthFault, lengthFault};
+ghost use Rattle.table.specs.Rows.{Shaped, carriedRow};
+ghost use Rattle.table.specs.Judgements.{shapeFault};
+ghost use Rattle.table.specs.Calls.{rowCall};
+use operand::Fault;
+use operand::Operand;
+use operand::OperandAnswer;
+
+// The number of bytes is worked out only for a width that has passed: of any other it may be more than a usize holds.
+fn judge_size(width: usize, size: usize) -> Fault
+    ensures { λ r. ⌜ r ≡ firstOf (widthFault width ∷ lengthFault size (width * bytesFor width) ∷ []) ⌝ }
+{
+    let fault = operand::judge_width(width);
+    if operand::is_none(fault) {
+        operand::judge_length(size, width * operand::bytes_for(width))
+    } else {
+        fault
+    }
+}
+
+// The bytes of row d, in those of a carried operand.
+pub(crate) fn row_bytes(width: usize, table: &[u8], d: usize) -> [u8; Operand::BYTES]
+    requires { ⌜ (width ≤ maxWidth) × (length (now table) ≡ width * bytesFor width) × (d < width) ⌝ }
+    ensures { λ r. ⌜ r ≡ carriedRow width (now (table .entry)) d ⌝ }
+{
+    let size = operand::bytes_for(width);
+    let from = d * size;
+    operand::carried(&table[from..from + size])
+}
+
+// Row d modulo the width.
+pub fn row(width: usize, table: &[u8], d: usize) -> OperandAnswer
+    ensures { λ r. ⌜ r ≡ rowCall width (now (table .entry)) d ⌝ }
+{
+    let fault = judge_size(width, table.len());
+    if !operand::is_none(fault) {
+        return operand::refused(fault);
+    }
+    let size = operand::bytes_for(width);
+    let from = d % width * size;
+    Operand::read(width, &table[from..from + size])
+}
+
+// The shape of a table: width, length, and the bits of each row.
+pub fn judge_shape(width: usize, table: &[u8]) -> Fault
+    ensures { λ r. ⌜ r ≡ shapeFault width (now (table .entry)) ⌝ }
+{
+    let fault = judge_size(width, table.len());
+    if !operand::is_none(fault) {
+        return fault;
+    }
+    let mut d = 0;
+    while d < width {
+        let high = operand::judge_high(row_bytes(width, table, d), width);
+        if !operand::is_none(high) {
+            return high;
+        }
+        d += 1;
+    }
+    Fault::None
+}
+
+// Row d of a table that has passed the judgement of its shape.
+pub(crate) fn row_at(width: usize, table: &[u8], d: usize) -> Operand
+    requires { ⌜ (Shaped width (now table)) × (d < width) ⌝ }
+    ensures { λ r. ⌜ r ≡ (record { bytes = carriedRow width (now (table .entry)) d; width = width }) ⌝ }
+{
+    Operand {
+        bytes: row_bytes(width, table, d),
+        width: width as u16,
+    }
+}

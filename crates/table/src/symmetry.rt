@@ -1,0 +1,83 @@
+// Rules 4 and 5 of the check: row 0, and row d against row m-d.
+ghost use mathlib.Core.Path.{_≡_};
+ghost use Prim.Native.Nat.{_-_, _<_, _≤_};
+ghost use Rattle.gf2.specs.Operands.{maxWidth, turned};
+ghost use Rattle.gf2.specs.Tables.{row, basis};
+ghost use Rattle.table.specs.Rows.{Shaped, carriedBy};
+ghost use Rattle.table.specs.Judgements.{same, rowZeroFault, rowPairFault, symmetryFault};
+use crate::rows;
+use operand::Fault;
+use operand::Operand;
+
+pub(crate) fn same_bytes(x: [u8; Operand::BYTES], y: [u8; Operand::BYTES]) -> bool
+    ensures { λ r. ⌜ r ≡ same x y ⌝ }
+{
+    let mut b = 0;
+    while b < Operand::BYTES {
+        if x[b] != y[b] {
+            return false;
+        }
+        b += 1;
+    }
+    true
+}
+
+// The bytes of the basis operand whose only coordinate is k, in the first byte.
+pub(crate) fn basis_bytes(width: usize, k: usize) -> [u8; Operand::BYTES]
+    requires { ⌜ (k < 8) × (k < width) × (width ≤ maxWidth) ⌝ }
+    ensures { λ r. ⌜ r ≡ carriedBy (basis width k) ⌝ }
+{
+    let mut out = [0u8; Operand::BYTES];
+    out[0] = 1u8 << k;
+    out
+}
+
+fn judge_row_zero(width: usize, table: &[u8]) -> Fault
+    requires { ⌜ Shaped width (now table) ⌝ }
+    ensures { λ r. ⌜ r ≡ rowZeroFault width (now (table .entry)) ⌝ }
+{
+    if same_bytes(rows::row_bytes(width, table, 0), basis_bytes(width, 1)) {
+        Fault::None
+    } else {
+        Fault::RowZero
+    }
+}
+
+// Whether row d is row m-d turned d places.
+fn mirrored(width: usize, table: &[u8], d: usize) -> bool
+    requires { ⌜ (Shaped width (now table)) × (1 ≤ d) × (d < width) ⌝ }
+    ensures { λ r. ⌜ r ≡ same (row width (now (table .entry)) d) (turned width d (row width (now (table .entry)) (width - d))) ⌝ }
+{
+    let turned = rows::row_at(width, table, width - d).turn(d);
+    let turned_bytes = turned.value.bytes;
+    same_bytes(rows::row_bytes(width, table, d), turned_bytes)
+}
+
+fn judge_row_pairs(width: usize, table: &[u8]) -> Fault
+    requires { ⌜ Shaped width (now table) ⌝ }
+    ensures { λ r. ⌜ r ≡ rowPairFault width (now (table .entry)) ⌝ }
+{
+    let mut d = 1;
+    while d < width {
+        if !mirrored(width, table, d) {
+            return Fault::RowPair(d);
+        }
+        d += 1;
+    }
+    Fault::None
+}
+
+// 1 to 5, which the check, the reduced product and the gate lists have in common.
+pub fn judge_symmetry(width: usize, table: &[u8]) -> Fault
+    ensures { λ r. ⌜ r ≡ symmetryFault width (now (table .entry)) ⌝ }
+{
+    let shape = rows::judge_shape(width, table);
+    if !operand::is_none(shape) {
+        return shape;
+    }
+    let zero = judge_row_zero(width, table);
+    if !operand::is_none(zero) {
+        return zero;
+    }
+    judge_row_pairs(width, table)
+}

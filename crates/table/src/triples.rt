@@ -1,0 +1,97 @@
+// The check. Rules 6 and 7 are judged by sums of rows, on a table that has passed rules 4 and 5: no product is made.
+ghost use mathlib.Core.Path.{_≡_};
+ghost use Prim.Native.Nat.{_<_};
+ghost use Rattle.gf2.specs.Tables.{basis};
+ghost use Rattle.gf2.specs.Products.{product};
+ghost use Rattle.gf2.specs.Check.{Symmetric};
+ghost use Rattle.table.specs.Rows.{Shaped, carriedBy};
+ghost use Rattle.table.specs.Judgements.{same, tripleFault, rowSumFault, checkFault};
+use crate::rows;
+use crate::sums;
+use crate::symmetry;
+use operand::Fault;
+use operand::Operand;
+
+// (β0·βi)·βj: the factor β0·βi is row i, and by rule 5 βk·βj is row k-j turned j places.
+fn left_product(width: usize, table: &[u8], i: usize, j: usize) -> [u8; Operand::BYTES]
+    requires { ⌜ (Shaped width (now table)) × (Symmetric width (now table)) × (i < width) × (j < width) ⌝ }
+    ensures { λ r. ⌜ r ≡ carriedBy (product width (now (table .entry)) (product width (now (table .entry)) (basis width 0) (basis width i)) (basis width j)) ⌝ }
+{
+    let factor = rows::row_at(width, table, i);
+    let answer = sums::sum_of_rows(width, table, factor, j).turn(j);
+    let bytes = answer.value.bytes;
+    bytes
+}
+
+// β0·(βi·βj): the factor βi·βj is row j-i turned i places, and β0·βs is row s.
+fn right_product(width: usize, table: &[u8], i: usize, j: usize) -> [u8; Operand::BYTES]
+    requires { ⌜ (Shaped width (now table)) × (i < width) × (j < width) ⌝ }
+    ensures { λ r. ⌜ r ≡ carriedBy (product width (now (table .entry)) (basis width 0) (product width (now (table .entry)) (basis width i) (basis width j))) ⌝ }
+{
+    let factor = rows::row_at(width, table, (j + (width - i)) % width).turn(i);
+    let sum = sums::sum_of_rows(width, table, factor.value, 0);
+    let bytes = sum.bytes;
+    bytes
+}
+
+// Whether the triple of 0, i and j is associative.
+fn associative(width: usize, table: &[u8], i: usize, j: usize) -> bool
+    requires { ⌜ (Shaped width (now table)) × (Symmetric width (now table)) × (i < width) × (j < width) ⌝ }
+    ensures { λ r. ⌜ r ≡ same (product width (now (table .entry)) (product width (now (table .entry)) (basis width 0) (basis width i)) (basis width j)) (product width (now (table .entry)) (basis width 0) (product width (now (table .entry)) (basis width i) (basis width j))) ⌝ }
+{
+    symmetry::same_bytes(
+        left_product(width, table, i, j),
+        right_product(width, table, i, j),
+    )
+}
+
+// The search ends at the first pair that differs.
+fn judge_triples(width: usize, table: &[u8]) -> Fault
+    requires { ⌜ (Shaped width (now table)) × (Symmetric width (now table)) ⌝ }
+    ensures { λ r. ⌜ r ≡ tripleFault width (now (table .entry)) ⌝ }
+{
+    let mut fault = Fault::None;
+    let mut i = 0;
+    'search: while i < width {
+        let mut j = 0;
+        while j < width {
+            if !associative(width, table, i, j) {
+                fault = Fault::Triple(i, j);
+                break 'search;
+            }
+            j += 1;
+        }
+        i += 1;
+    }
+    fault
+}
+
+// The sum of all rows is the sum of those over the coordinates of one.
+fn judge_row_sum(width: usize, table: &[u8]) -> Fault
+    requires { ⌜ Shaped width (now table) ⌝ }
+    ensures { λ r. ⌜ r ≡ rowSumFault width (now (table .entry)) ⌝ }
+{
+    let one = Operand::one(width);
+    let sum = sums::sum_of_rows(width, table, one.value, 0);
+    let bytes = sum.bytes;
+    if symmetry::same_bytes(bytes, symmetry::basis_bytes(width, 0)) {
+        Fault::None
+    } else {
+        Fault::RowSum
+    }
+}
+
+// No fault just where the operands of the width form a field under the table, whose square is the turn by one.
+pub fn check(width: usize, table: &[u8]) -> Fault
+    ensures { λ r. ⌜ r ≡ checkFault width (now (table .entry)) ⌝ }
+{
+    let fault = symmetry::judge_symmetry(width, table);
+    if !operand::is_none(fault) {
+        return fault;
+    }
+    let triple = judge_triples(width, table);
+    if !operand::is_none(triple) {
+        return triple;
+    }
+    judge_row_sum(width, table)
+}
