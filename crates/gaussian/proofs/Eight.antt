@@ -1,0 +1,175 @@
+-- Where 8 divides p - 1 and p is prime, 2 to (p - 1) / 2 leaves 1 modulo p (2 is a square). So a width that 8 divides has no type.
+--
+use mathlib.Core.Path.{_≡_, refl, sym, ap, ap₂, _∙_, subst}
+use mathlib.Core.Logic.{_⊎_, inl, inr}
+use Prim.Native.Nat.{ℕ, zero, suc, _+_, _-_, _*_, _/_, _%_, _^_, _≤_, _<_, _∣_, zero-le, suc-le-suc}
+use native.Mathlib.Nat.{zero-add, one-mul, mul-one, mul-comm, mul-assoc, mul-add, add-mul, mul-left-comm, mul-mul-mul-comm, le-refl, le-trans, le-of-lt, not-suc-le-zero, mod-lt, mod-eq-of-lt, mod-add-div', add-mul-mod-self-right, dvd-add-iff-right, dvd-mul-left-of-dvd, dvd-mul-right, eq-zero-or-pos, pow-suc, mul-div-cancel', dvd-mul-left}
+use native.Mathlib.Decide.{ℕ-discrete}
+use native.Mathlib.Omega.{arith}
+use lib.Pow.{pow-pos}
+use Rattle.gaussian.specs.Types.{Prime, IsType}
+use Rattle.gaussian.proofs.Modulo.{mul-cong}
+use Rattle.gaussian.proofs.Soundness.{hit-refutes}
+
+-- Euclid: a prime that divides a product of a lesser number, not 0, divides the other factor.
+euclid′ : (p b f a : ℕ) → Prime p → a ≤ f → 0 < a → a < p → p ∣ a * b → p ∣ b
+euclid′ p b zero a hp h h₁ h₂ d = absurd (not-suc-le-zero (le-trans h₁ h))
+euclid′ p b (suc f) a hp h h₁ h₂ d = pick (ℕ-discrete a 1) (λ l pos q. euclid′ p b f (p % a) hp l pos q (rest))
+  where
+    eq : p * b ≡ p / a * (a * b) + p % a * b
+    eq = ap (λ (x : ℕ). x * b) (sym (mod-add-div' p a)) ∙ add-mul (p % a) (p / a * a) b ∙ omega (arith, mul-assoc (p / a) a b)
+
+    rest : p ∣ p % a * b
+    rest = dvd-add-iff-right p (dvd-mul-left-of-dvd p d (p / a)) .1 (subst (λ (x : ℕ). p ∣ x) eq (dvd-mul-right p b))
+
+    less : p % a < a
+    less = mod-lt p h₁
+
+    pick : Dec (a ≡ 1) → (p % a ≤ f → 0 < p % a → p % a < p → p ∣ b) → p ∣ b
+    pick (yes q) w = subst (λ (x : ℕ). p ∣ x) (ap (λ (x : ℕ). x * b) q ∙ one-mul b) d
+    pick (no q) w = w (omega (arith, less)) (positive (eq-zero-or-pos (p % a))) (omega (arith, less))
+      where
+        positive : (p % a ≡ 0) ⊎ (0 < p % a) → 0 < p % a
+        positive (inl z) = absurd (hp .1 a (omega arith) h₂ z)
+        positive (inr z) = z
+
+pub euclid : (p a b : ℕ) → Prime p → 0 < a → a < p → p ∣ a * b → p ∣ b
+euclid p a b hp h h′ d = euclid′ p b a a hp (le-refl a) h h′ d
+
+-- the product 2 · 4 ⋯ 2k, the product 1 · 3 ⋯ (2k - 1), the product of k factors n, n - 2, ⋯ and the factorial
+evens : ℕ → ℕ
+evens zero = 1
+evens (suc k) = evens k * (2 * suc k)
+
+odds : ℕ → ℕ
+odds zero = 1
+odds (suc k) = odds k * (2 * k + 1)
+
+downs : ℕ → ℕ → ℕ
+downs n zero = 1
+downs n (suc k) = downs n k * (n - 2 * k)
+
+factorial : ℕ → ℕ
+factorial zero = 1
+factorial (suc n) = factorial n * suc n
+
+-- 2 · 4 ⋯ 2k = 2^k · k!
+evens-factorial : (k : ℕ) → evens k ≡ 2 ^ k * factorial k
+unfolding evens factorial
+evens-factorial zero = refl
+evens-factorial (suc k) = ap (λ (x : ℕ). x * (2 * suc k)) (evens-factorial k) ∙ mul-mul-mul-comm (2 ^ k) (factorial k) 2 (suc k) ∙ ap (λ (x : ℕ). x * (factorial k * suc k)) (sym (pow-suc 2 k))
+
+-- (2k)! = (2 · 4 ⋯ 2k) · (1 · 3 ⋯ (2k - 1))
+factorial-halves : (k : ℕ) → factorial (2 * k) ≡ evens k * odds k
+unfolding evens factorial odds
+factorial-halves zero = refl
+factorial-halves (suc k) = ap factorial shape ∙ ap (λ (x : ℕ). x * suc (2 * k) * suc (suc (2 * k))) (factorial-halves k) ∙ regroup
+  where
+    shape : 2 * suc k ≡ suc (suc (2 * k))
+    shape = omega arith
+
+    regroup : evens k * odds k * suc (2 * k) * suc (suc (2 * k)) ≡ evens k * (2 * suc k) * (odds k * (2 * k + 1))
+    regroup =
+        mul-assoc (evens k * odds k) (suc (2 * k)) (suc (suc (2 * k)))
+        ∙ ap (λ (x : ℕ). evens k * odds k * x) (mul-comm (suc (2 * k)) (suc (suc (2 * k))) ∙ ap₂ _*_ (sym shape) (omega arith))
+        ∙ sym (mul-mul-mul-comm (evens k) (2 * suc k) (odds k) (2 * k + 1))
+
+-- 2 · 4 ⋯ 2n = (2 · 4 ⋯ 2c) · (the last k factors), where k + c = n
+evens-split : (n k c : ℕ) → k + c ≡ n → evens n ≡ evens c * downs (2 * n) k
+unfolding evens downs
+evens-split n zero c e = ap evens (sym e ∙ zero-add c) ∙ sym (mul-one (evens c))
+evens-split n (suc k) c e =
+    evens-split n k (suc c) (omega arith)
+    ∙ mul-assoc (evens c) (2 * suc c) (downs (2 * n) k)
+    ∙ ap (λ (x : ℕ). evens c * x) (mul-comm (2 * suc c) (downs (2 * n) k) ∙ ap (λ (x : ℕ). downs (2 * n) k * x) (omega arith))
+
+-- two factors may both be replaced by what p lacks of them
+negatives : (a a′ b b′ p : ℕ) → a + a′ ≡ p → b + b′ ≡ p → a′ * b′ % p ≡ a * b % p
+negatives a a′ b b′ p ha hb = sym (add-mul-mod-self-right (a′ * b′) a p) ∙ ap (λ (x : ℕ). x % p) same ∙ add-mul-mod-self-right (a * b) b′ p
+  where
+    left : a * p ≡ a * b + a * b′
+    left = ap (λ (x : ℕ). a * x) (sym hb) ∙ mul-add a b b′
+
+    right : b′ * p ≡ a * b′ + a′ * b′
+    right = ap (λ (x : ℕ). b′ * x) (sym ha) ∙ mul-comm b′ (a + a′) ∙ add-mul a a′ b′
+
+    same : a′ * b′ + a * p ≡ a * b + b′ * p
+    same = omega (arith, left, right)
+
+downs-odds : (n p : ℕ) → n + 1 ≡ p → (j : ℕ) → 4 * j ≤ n → downs n (2 * j) % p ≡ odds (2 * j) % p
+unfolding downs odds
+downs-odds n p e zero h = refl
+downs-odds n p e (suc j) h =
+    ap (λ (x : ℕ). downs n x % p) shape
+    ∙ ap (λ (x : ℕ). x % p) (mul-assoc (downs n k) (n - 2 * k) (n - 2 * suc k))
+    ∙ mul-cong (downs n k) (odds k) ((n - 2 * k) * (n - 2 * suc k)) ((2 * k + 1) * (2 * suc k + 1)) p (downs-odds n p e j (omega arith))
+    (negatives (2 * k + 1) (n - 2 * k) (2 * suc k + 1) (n - 2 * suc k) p (omega arith) (omega arith))
+    ∙ ap (λ (x : ℕ). x % p) (sym (mul-assoc (odds k) (2 * k + 1) (2 * suc k + 1)))
+    ∙ ap (λ (x : ℕ). odds x % p) (sym shape)
+  where
+    k : ℕ
+    k = 2 * j
+
+    shape : 2 * suc j ≡ suc (suc (2 * j))
+    shape = omega arith
+
+-- what may be added with the remainder unchanged is divided
+pub same-remainder : (p a x : ℕ) → (a + x) % p ≡ a % p → p ∣ x
+same-remainder p a x e = dvd-add-iff-right p (dvd-mul-left p (a / p)) .1 (subst (λ (y : ℕ). p ∣ y) (sym both) (dvd-mul-left p ((a + x) / p)))
+  where
+    both : a / p * p + x ≡ (a + x) / p * p
+    both = omega (arith, mod-add-div' a p, mod-add-div' (a + x) p, e)
+
+cancel : (p c k : ℕ) → Prime p → k < p → p ∣ factorial k * c → p ∣ c
+unfolding factorial
+cancel p c zero hp h d = subst (λ (x : ℕ). p ∣ x) (one-mul c) d
+cancel p c (suc k) hp h d = euclid p (suc k) c hp (suc-le-suc zero-le) h (cancel p (suc k * c) k hp (le-of-lt h) (subst (λ (x : ℕ). p ∣ x) (mul-assoc (factorial k) (suc k) c) d))
+
+pub two-half : (n p : ℕ) → p ≡ 8 * n + 1 → Prime p → 2 ^ (4 * n) % p ≡ 1
+two-half n p e hp = ap (λ (x : ℕ). x % p) (sym one-more) ∙ last
+  where
+    f : ℕ
+    f = factorial (4 * n)
+
+    c : ℕ
+    c = 2 ^ (4 * n) - 1
+
+    one-more : 1 + c ≡ 2 ^ (4 * n)
+    one-more = omega (arith, pow-pos (4 * n))
+
+    same : 2 * (2 * n) ≡ 4 * n
+    same = omega arith
+
+    product : 2 ^ (4 * n) * f % p ≡ f % p
+    product =
+        ap (λ (x : ℕ). x % p) (sym (evens-factorial (4 * n)) ∙ evens-split (4 * n) (2 * n) (2 * n) (omega arith))
+        ∙ mul-cong (evens (2 * n)) (evens (2 * n)) (downs (2 * (4 * n)) (2 * n)) (odds (2 * n)) p refl (downs-odds (2 * (4 * n)) p (omega arith) n (omega arith))
+        ∙ ap (λ (x : ℕ). x % p) (sym (factorial-halves (2 * n)) ∙ ap factorial same)
+
+    sum : f + f * c ≡ 2 ^ (4 * n) * f
+    sum = omega (arith, mul-add f 1 c, mul-one f) ∙ mul-comm f (1 + c) ∙ ap (λ (x : ℕ). x * f) one-more
+
+    divides : p ∣ c
+    divides = cancel p c (4 * n) hp (omega arith) (same-remainder p f (f * c) (ap (λ (x : ℕ). x % p) sum ∙ product))
+
+    last : (1 + c) % p ≡ 1
+    last =
+        ap (λ (x : ℕ). (1 + x) % p) (sym (mul-div-cancel' p divides) ∙ mul-comm p (c / p))
+        ∙ add-mul-mod-self-right 1 (c / p) p
+        ∙ mod-eq-of-lt (hp .0)
+
+-- a width that 8 divides has no type
+pub eight : (m : ℕ) → 0 < m → m % 8 ≡ 0 → (t : ℕ) → ¬ IsType m t
+eight m hm z t ty = hit-refutes m t 2 hm (suc-le-suc (suc-le-suc zero-le)) (omega arith) (ap (λ (x : ℕ). 2 ^ x % (t * m + 1)) half ∙ two-half n (t * m + 1) (omega (arith, whole)) (ty .0)) ty
+  where
+    n : ℕ
+    n = t * (m / 8)
+
+    whole : t * m ≡ 8 * n
+    whole = ap (λ (x : ℕ). t * x) eq ∙ mul-left-comm t 8 (m / 8)
+      where
+        eq : m ≡ 8 * (m / 8)
+        eq = omega arith
+
+    half : t * m / 2 ≡ 4 * n
+    half = omega (arith, whole)

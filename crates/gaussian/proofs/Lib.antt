@@ -1,0 +1,14 @@
+pub mod Entries
+pub mod Modulo
+pub mod TypeTests
+pub mod Soundness
+pub mod Eight
+pub mod TypeBound
+pub mod Fermat
+pub mod Cosets
+pub mod ResidueLaws
+pub mod LogLaws
+pub mod RowLaws
+pub mod TermLaws
+pub mod Answers
+pub mod Theorems

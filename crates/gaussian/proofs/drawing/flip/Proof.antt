@@ -1,0 +1,56 @@
+-- `gaussian::drawing::flip` meets its contract.
+use mathlib.Core.Path.{refl, ap}
+use Prim.Native.Nat.{_+_, _*_, _/_}
+use native.Mathlib.Nat.{le-of-lt}
+use native.Mathlib.Omega.{arith}
+use Rattle.gaussian.proofs.RowLaws.{byte-in, row-small, flip-adds}
+use borrow.Author.Needs.{needs}
+use Rattle.gaussian.proofs.drawing.flip.Statement.{statement}
+use Rattle.gaussian.proofs.drawing.flip.Tie as tie
+
+bytes-for-requires : tie.Need-bytes-for-requires
+bytes-for-requires c κs = search needs
+
+mul-at : tie.Need-mul-at
+mul-at c = let r = c .before .before .pre .0 in rw (c .bytes-for .ensures) (omega (arith, row-small _ _ (r .greatest) (le-of-lt (r .row))))
+
+add-at : tie.Need-add-at
+add-at c = let r = c .before .before .pre .0 in rw (c .bytes-for .ensures) (omega (arith, row-small _ _ (r .greatest) (le-of-lt (r .row))))
+
+slice-read-table : tie.Need-slice-read-table
+slice-read-table c =
+    let p = c .before .before .before .pre in
+    rw (c .before .bytes-for .ensures, p .0 .size) (byte-in _ _ _ _ (p .0 .row) (p .1))
+
+cast-table : tie.Need-cast-table
+cast-table c = search needs
+
+shl-table : tie.Need-shl-table
+shl-table c = search needs
+
+slice-write-table : tie.Need-slice-write-table
+slice-write-table c =
+    let p = c .before .before .before .pre in
+    rw (c .before .bytes-for .ensures, p .0 .size) (byte-in _ _ _ _ (p .0 .row) (p .1))
+
+same-length : tie.Need-same-length
+same-length c = search needs
+
+returns : tie.Need-returns
+returns c =
+    let s = c .before .before .before in
+    flip-adds (s .pre .0) (s .pre .1) (ap (λ w. s .args .d * w + s .args .s / 8) (c .before .bytes-for .ensures)) refl
+
+pub flip-spec : {M : Type 1} → statement M
+flip-spec =
+    tie.close
+    (tie.spec
+    bytes-for-requires
+    mul-at
+    add-at
+    slice-read-table
+    cast-table
+    shl-table
+    slice-write-table
+    same-length
+    returns)

@@ -1,0 +1,21 @@
+-- `gaussian::residues::digit` meets its contract.
+use native.Mathlib.Omega.{arith}
+use Rattle.gaussian.proofs.ResidueLaws.{product-small, digit-zero, digit-one}
+use borrow.Author.Needs.{needs}
+use Rattle.gaussian.proofs.residues.digit.Statement.{statement}
+use Rattle.gaussian.proofs.residues.digit.Tie as tie
+
+mul-result : tie.Need-mul-result
+mul-result c = omega (arith, product-small (c .before .pre .0) (c .before .pre .1))
+
+rem-result : tie.Need-rem-result
+rem-result c = search needs
+
+returns : tie.Need-returns
+returns c = digit-zero _ _ (c .before .pre .0) (c .if1 .taken)
+
+returns-2 : tie.Need-returns-2
+returns-2 c = digit-one _ _ _ _ (c .if1 .left)
+
+pub digit-spec : {M : Type 1} → statement M
+digit-spec = tie.close (tie.spec mul-result rem-result returns returns-2)

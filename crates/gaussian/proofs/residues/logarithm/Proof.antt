@@ -1,0 +1,44 @@
+-- `gaussian::residues::logarithm` meets its contract.
+use mathlib.Core.Path.{ap}
+use native.Mathlib.Omega.{arith}
+use lib.ListN.{getD}
+use Rattle.gaussian.specs.Types.{modulus}
+use Rattle.gaussian.specs.Drawing.{Residue}
+use Rattle.gaussian.proofs.ResidueLaws.{residue-of}
+use Rattle.gaussian.proofs.residues.logarithm.Statement.{statement}
+use Rattle.gaussian.proofs.residues.logarithm.Tie as tie
+
+-- the power is a residue
+less : (c : tie.After-power) → let a = c .before .before .before .args in Residue (modulus (a .m) (a .t)) (c .power .result)
+less c = residue-of _ (rw (c .before .modulus .ensures) at (c .power .ensures)) (c .before .before .before .pre .2)
+
+modulus-requires : tie.Need-modulus-requires
+modulus-requires c κs = c .before .pre .0
+
+power-requires : tie.Need-power-requires
+power-requires c κs = rw (c .modulus .ensures) (c .before .before .pre .2)
+
+mul-result : tie.Need-mul-result
+mul-result c = let r = less c in omega (arith, r .small, r .less)
+
+shared-slice-read-result : tie.Need-shared-slice-read-result
+shared-slice-read-result c =
+    let r = less (c .before) in
+    omega (arith, r .small, r .less, c .before .before .before .before .pre .1 .size)
+
+cast-result : tie.Need-cast-result
+cast-result c = omega (arith, c .shared-slice-known2 .given (c .before .power .result))
+
+returns : tie.Need-returns
+returns c = ap (λ y. getD (c .before .before .before .before .args .logs .now) y 0) (rw (c .before .before .modulus .ensures) at (c .before .power .ensures))
+
+pub logarithm-spec : {M : Type 1} → statement M
+logarithm-spec =
+    tie.close
+    (tie.spec
+    modulus-requires
+    power-requires
+    mul-result
+    shared-slice-read-result
+    cast-result
+    returns)

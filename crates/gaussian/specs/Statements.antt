@@ -1,0 +1,28 @@
+-- What is proved of the list of types and of drawn tables: the statements alone.
+use mathlib.Core.Path.{_≡_}
+use mathlib.Core.Logic.{_↔_}
+use Prim.Native.Nat.{ℕ, _∣_, _≤_}
+use Rattle.gf2.specs.Operands.{maxWidth}
+use Rattle.table.specs.Carried.{carried2, carried3, carried4, carried5}
+use Rattle.gaussian.specs.Types.{IsType, LeastType, typeOf}
+use Rattle.gaussian.specs.Table.{drawn}
+
+-- what the list's entry t says of the width m
+pub record Listed (m t : ℕ) : Type 0 where
+  -- "the least T"
+  pub least : ¬ (t ≡ 0) → LeastType m t
+  -- "or 0 exactly where 8 divides m"
+  pub none : (t ≡ 0) ↔ (8 ∣ m)
+  -- and there no T at all is a type
+  pub never : 8 ∣ m → (s : ℕ) → ¬ IsType m s
+
+-- "A fixed list holds the type of each width 2 to 255"
+abbrev pub TypeList : Type 0
+TypeList = (m : ℕ) → 2 ≤ m → m ≤ maxWidth → Listed m (typeOf m)
+
+-- "Four tables are carried in the program itself": those that are drawn for their widths
+pub record DrawnCarried : Type 0 where
+  pub width2 : drawn 2 (typeOf 2) ≡ carried2
+  pub width3 : drawn 3 (typeOf 3) ≡ carried3
+  pub width4 : drawn 4 (typeOf 4) ≡ carried4
+  pub width5 : drawn 5 (typeOf 5) ≡ carried5

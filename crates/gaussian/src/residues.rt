@@ -1,0 +1,69 @@
+// Residues modulo p = T·m+1, a prime: powers, and logarithms to the base 2^T.
+ghost use mathlib.Core.Path.{_≡_};
+ghost use Prim.Native.Nat.{_*_, _%_, _^_};
+ghost use lib.ListN.{getD};
+ghost use Rattle.gaussian.specs.Types.{modulus};
+ghost use Rattle.gaussian.specs.Drawing.{Residue, Drawable, Logarithms};
+use crate::types;
+use operand::Operand;
+
+// No modulus of a listed type reaches this number.
+const RESIDUES: usize = types::MAX_TYPE * Operand::MAX_WIDTH + 2;
+
+pub(crate) fn modulus(m: usize, t: usize) -> u64
+    requires { ⌜ Drawable m t ⌝ }
+    ensures { λ r. ⌜ r ≡ modulus m t ⌝ }
+{
+    (t * m + 1) as u64
+}
+
+// r, times x where the last binary digit of e is 1.
+fn digit(r: u64, x: u64, e: usize, p: u64) -> u64
+    requires { ⌜ Residue p r × Residue p x ⌝ }
+    ensures { λ n. ⌜ n ≡ r * x ^ (e % 2) % p ⌝ }
+{
+    if e % 2 == 0 { r } else { r * x % p }
+}
+
+// x^e modulo p, by the binary digits of e from the lowest on.
+pub(crate) fn power(x: u64, e: usize, p: u64) -> u64
+    requires { ⌜ Residue p x ⌝ }
+    ensures { λ r. ⌜ r ≡ x ^ e % p ⌝ }
+{
+    let mut r: u64 = 1;
+    let mut square = x;
+    let mut left = e;
+    while 0 < left {
+        r = digit(r, square, left, p);
+        square = square * square % p;
+        left = left / 2;
+    }
+    r
+}
+
+// Entry y is s + 1 where y is 2^(T·s) modulo p for an s below m, and 0 where there is none.
+pub(crate) fn logarithms(m: usize, t: usize) -> [u16; RESIDUES]
+    requires { ⌜ Drawable m t ⌝ }
+    ensures { λ r. ⌜ Logarithms m t m r ⌝ }
+{
+    let p = modulus(m, t);
+    let base = power(2, t, p);
+    let mut logs = [0u16; RESIDUES];
+    let mut y: u64 = 1;
+    let mut s = 0;
+    while s < m {
+        logs[y as usize] = (s + 1) as u16;
+        y = y * base % p;
+        s += 1;
+    }
+    logs
+}
+
+// The entry of x^T modulo p.
+pub(crate) fn logarithm(logs: &[u16], m: usize, t: usize, x: u64) -> usize
+    requires { ⌜ Drawable m t × Logarithms m t m (now logs) × Residue (modulus m t) x ⌝ }
+    ensures { λ r. ⌜ r ≡ getD (now (logs .entry)) (x ^ t % modulus m t) 0 ⌝ }
+{
+    let y = power(x, t, modulus(m, t));
+    logs[y as usize] as usize
+}

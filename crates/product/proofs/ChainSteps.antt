@@ -1,0 +1,204 @@
+-- The steps of the inverse's chain: the binary digits of m - 1, and what a doubling and an adding hand on.
+use mathlib.Core.Path.{_≡_, refl, sym, ap, _∙_}
+use mathlib.Core.List.{List}
+use Prim.Native.Nat.{ℕ, zero, suc, _+_, _-_, _*_, _/_, _%_, _^_, _<_, _≤_}
+use native.Mathlib.Nat.{pow-suc, div-div-eq-div-mul, le-trans}
+use native.Mathlib.Decide.{decLt}
+use native.Mathlib.Omega.{arith}
+use lib.ListN.{length}
+use lib.Pow.{pow-mono, shr-le}
+use borrow.Author.Tests.{lt-ltb, le-ltb}
+use Rattle.gf2.specs.Operands.{carriedBytes, maxWidth, IsOperand, turned}
+use Rattle.gf2.specs.Products.{product}
+use Rattle.gf2.specs.Inverse.{halvings, log2, Chain, start, doubling, adding, digits, chain, inverse, productsMade}
+use Rattle.gf2.proofs.Operands.{length-from, from-operand}
+use Rattle.gf2.proofs.Chain.{log2-bounds, top-digit}
+use Rattle.operand.specs.declared.Operand.{Operand}
+use Rattle.operand.specs.declared.OperandAnswer.{OperandAnswer}
+use Rattle.operand.specs.Calls.{turnCall}
+use Rattle.table.specs.Rows.{Shaped}
+use Rattle.product.specs.declared.chain.State.{State}
+use Rattle.product.specs.Kernels.{Sound, carried}
+use Rattle.product.specs.ChainStates.{chainOf, stateOf, Underway}
+use Rattle.product.proofs.SoundOperands.{is-carried, made-sound, turn-value, turn-made}
+
+-- log2 by one halving more; fuel enough makes no difference
+halvings-small : (fuel n : ℕ) → n < 2 → halvings fuel n ≡ 0
+unfolding halvings
+halvings-small zero n h = refl
+halvings-small (suc fuel) n h = rw (lt-ltb n 2 h)
+
+halvings-fuel : (f g n : ℕ) → n ≤ f → n ≤ g → halvings f n ≡ halvings g n
+unfolding halvings
+halvings-fuel zero g n h l = sym (halvings-small g n (omega arith))
+halvings-fuel (suc f) zero n h l = halvings-small (suc f) n (omega arith)
+halvings-fuel (suc f) (suc g) n h l = elim (decLt n 2) [
+  | yes q ↦ rw (lt-ltb n 2 q)
+  | no q ↦ rw (le-ltb n 2 (omega arith)) (ap suc (halvings-fuel f g (n / 2) (omega arith) (omega arith)))
+]
+
+pub log2-small : (n : ℕ) → n < 2 → log2 n ≡ 0
+log2-small n h = halvings-small n n h
+
+pub log2-half : (n : ℕ) → 2 ≤ n → log2 n ≡ log2 (n / 2) + 1
+unfolding halvings
+log2-half zero h = absurd (omega arith)
+log2-half (suc n) h = rw (le-ltb (suc n) 2 h) (omega (arith, halvings-fuel n (suc n / 2) (suc n / 2) (omega arith) (omega arith)))
+
+halvings-le : (fuel n : ℕ) → halvings fuel n ≤ fuel
+unfolding halvings
+halvings-le zero n = omega arith
+halvings-le (suc fuel) n = elim (decLt n 2) [
+  | yes q ↦ rw (lt-ltb n 2 q) (omega arith)
+  | no q ↦ rw (le-ltb n 2 (omega arith)) (omega (arith, halvings-le fuel (n / 2)))
+]
+
+pub log2-le : (n : ℕ) → log2 n ≤ n
+log2-le n = halvings-le n n
+
+-- a small number has few digits, so that a shift by their number is no overflow
+pub few-digits : (u k : ℕ) → maxWidth < 2 ^ k → 2 ^ u ≤ maxWidth → u < k
+few-digits u k big h = elim (decLt u k) [
+  | yes q ↦ q
+  | no q ↦ absurd (omega (arith, pow-mono {i = k} {j = u} (omega arith)))
+]
+
+-- the digits read so far, with one more
+read-more : (n u : ℕ) → 0 < u → 2 * (n / 2 ^ u) + n / 2 ^ (u - 1) % 2 ≡ n / 2 ^ (u - 1)
+read-more n zero h = absurd (omega arith)
+read-more n (suc u) h =
+    let q : suc u - 1 ≡ u = omega arith in
+    let e : n / 2 ^ suc u ≡ n / 2 ^ u / 2 = rw (pow-suc, ← div-div-eq-div-mul) in
+    rw (q, e) (omega arith)
+
+module _ (m : ℕ) (t a : List ℕ) (n : ℕ) where
+  pub digits-none : (u : ℕ) (s : Chain) → u ≡ 0 → digits m t a n u s ≡ s
+  unfolding digits
+  digits-none u s e = rw e
+
+  pub digits-next : (u : ℕ) (s : Chain) → 0 < u → digits m t a n u s ≡ digits m t a n (u - 1) (adding m t a (n / 2 ^ (u - 1) % 2) (doubling m t s))
+  unfolding digits
+  digits-next zero s h = absurd (omega arith)
+  digits-next (suc u) s h = let q : suc u - 1 ≡ u = omega arith in rw q
+
+-- a product of carried operands is one, and so is every power of the chain
+product-operand : (m : ℕ) (t x y : List ℕ) → length x ≡ carriedBytes → IsOperand carriedBytes m (product m t x y)
+unfolding product
+product-operand m t x y size = rw size (from-operand carriedBytes m _)
+
+product-sound : {m : ℕ} (t x y : List ℕ) {a p : Operand} → Sound m a → length x ≡ carriedBytes → p ≡ carried m (product m t x y) → Sound m p
+product-sound {m} t x y s size e =
+    rw e (record { least = s .least; greatest = s .greatest; width = refl; operand = product-operand m t x y size })
+
+module _ (m : ℕ) (t a : List ℕ) where
+  abbrev Fine : Chain → Type 0
+  Fine s = IsOperand carriedBytes m (s .t)
+
+  turned-length : (k : ℕ) (x : List ℕ) → length (turned m k x) ≡ length x
+  unfolding turned
+  turned-length k x = length-from (length x) m _
+
+  adding-fine : (d : ℕ) (s : Chain) → Fine s → Fine (adding m t a d s)
+  unfolding adding
+  adding-fine zero s h = h
+  adding-fine (suc d) s h = product-operand m t _ _ (turned-length 1 (s .t) ∙ h .size)
+
+  digits-fine : (n u : ℕ) (s : Chain) → Fine s → Fine (digits m t a n u s)
+  unfolding digits doubling
+  digits-fine n zero s h = h
+  digits-fine n (suc u) s h = digits-fine n u _ (adding-fine _ _ (product-operand m t _ _ (turned-length (s .k) (s .t) ∙ h .size)))
+
+module _ {m : ℕ} {t : List ℕ} {a : Operand} {s : State} {u d : ℕ} (w : Underway m t a s u d) where
+  pub k-small : s .k < m
+  k-small = omega (arith, w .reached, w .base .least, shr-le (m - 1) u)
+
+  -- the state as the definition has it
+  pub state-is : s ≡ stateOf m (chainOf s)
+  state-is = ap (λ o. record { t = o; k = s .k; count = s .count }) (is-carried (w .power))
+
+  -- t turned
+  pub turned-sound : (k : ℕ) → k < m → {r : OperandAnswer} → r ≡ turnCall (s .t) k → Sound m (r .value)
+  turned-sound k h e = made-sound (w .power) _ (turn-made (w .power) k h e)
+
+  -- a digit 0 is added by doing nothing
+  pub skipped : d ≡ 0 → Underway m t a s u 0
+  skipped e = rw e at w
+
+-- what a doubling and an adding hand on, with their product p
+abbrev doubled : State → Operand → State
+doubled s p = record { t = p; k = 2 * s .k; count = s .count + 1 }
+
+abbrev added : State → Operand → State
+added s p = record { t = p; k = s .k + 1; count = s .count + 1 }
+
+-- the doubling of a state from which u digits are unread
+module _ {m : ℕ} {t : List ℕ} {a : Operand} {s : State} {u : ℕ} (w : Underway m t a s u 0) {r : OperandAnswer} {p : Operand}
+    (e : r ≡ turnCall (s .t) (s .k)) (q : p ≡ carried m (product m t (r .value .bytes) (s .t .bytes))) where
+  pub doubled-is : chainOf (doubled s p) ≡ doubling m t (chainOf s)
+  unfolding doubling
+  doubled-is = ap (λ x. record { t = x; k = 2 * s .k; count = s .count + 1 })
+      (ap (λ (o : Operand). o .bytes) q ∙ ap (λ (o : Operand). product m t (o .bytes) (s .t .bytes)) (turn-value (w .power) (s .k) (k-small w) e))
+
+  pub doubled-underway : 0 < u → Underway m t a (doubled s p) (u - 1) ((m - 1) / 2 ^ (u - 1) % 2)
+  doubled-underway h = record {
+    shaped = w .shaped;
+    base = w .base;
+    power = product-sound t _ _ (w .power) (turned-sound w (s .k) (k-small w) e .operand .size) q;
+    reached = omega (arith, w .reached, read-more (m - 1) u h);
+    short = le-trans (pow-mono {i = u - 1} {j = u} (omega arith)) (w .short);
+    few = omega (arith, w .few);
+  }
+
+-- the adding of a digit 1
+module _ {m : ℕ} {t : List ℕ} {a : Operand} {s : State} {u d : ℕ} (w : Underway m t a s u d) (one : d ≡ 1) {r : OperandAnswer} {p : Operand}
+    (e : r ≡ turnCall (s .t) 1) (q : p ≡ carried m (product m t (r .value .bytes) (a .bytes))) where
+  two : 1 < m
+  two = w .base .least
+
+  pub added-is : chainOf (added s p) ≡ adding m t (a .bytes) d (chainOf s)
+  unfolding adding
+  added-is = rw one (ap (λ x. record { t = x; k = s .k + 1; count = s .count + 1 })
+      (ap (λ (o : Operand). o .bytes) q ∙ ap (λ (o : Operand). product m t (o .bytes) (a .bytes)) (turn-value (w .power) 1 two e)))
+
+  pub added-underway : Underway m t a (added s p) u 0
+  added-underway = record {
+    shaped = w .shaped;
+    base = w .base;
+    power = product-sound t _ _ (w .power) (turned-sound w 1 two e .operand .size) q;
+    reached = omega (arith, w .reached);
+    short = w .short;
+    few = omega (arith, w .few);
+  }
+
+pub adding-none : (m : ℕ) (t a : List ℕ) (d : ℕ) (s : Chain) → d ≡ 0 → adding m t a d s ≡ s
+unfolding adding
+adding-none m t a d s e = rw e
+
+-- the chain begins with all digits but the highest one unread
+pub start-underway : {m : ℕ} {t : List ℕ} {a : Operand} → Shaped m t → Sound m a → Underway m t a (record { t = a; k = 1; count = 0 }) (log2 (m - 1)) 0
+start-underway {m} h s =
+    let l = s .least in
+    let g = s .greatest in
+    let b = log2-bounds (m - 1) (omega arith) in
+    let small : 2 ^ log2 (m - 1) ≤ maxWidth = omega arith in
+    record {
+      shaped = h;
+      base = s;
+      power = s;
+      reached = sym (top-digit (m - 1) (omega arith));
+      short = small;
+      few = omega (arith, few-digits (log2 (m - 1)) 8 (omega arith) small);
+    }
+
+-- the last state: its power turned by one is the inverse, and its count the number of products
+module _ {m : ℕ} (t : List ℕ) {a : Operand} (sa : Sound m a) {s : State} (e : s ≡ stateOf m (chain m t (a .bytes))) where
+  last-sound : Sound m (s .t)
+  last-sound = rw e (record { least = sa .least; greatest = sa .greatest; width = refl; operand = digits-fine m t (a .bytes) (m - 1) (log2 (m - 1)) (start (a .bytes)) (sa .operand) })
+
+  pub last-turned : {r : OperandAnswer} → r ≡ turnCall (s .t) 1 → r .value ≡ carried m (inverse m t (a .bytes))
+  unfolding inverse
+  last-turned q = turn-value last-sound 1 (sa .least) q ∙ ap (λ (z : State). carried m (turned m 1 (z .t .bytes))) e
+
+  pub last-count : s .count ≡ productsMade m t (a .bytes)
+  unfolding productsMade
+  last-count = ap (λ (z : State). z .count) e

@@ -1,0 +1,34 @@
+-- `product::chain::further_digits` meets its contract.
+use mathlib.Core.Path.{_≡_}
+use Prim.Native.Nat.{_+_}
+use native.Mathlib.Omega.{arith}
+use Rattle.gf2.specs.Inverse.{log2}
+use Rattle.product.proofs.ChainSteps.{log2-small, log2-half, log2-le}
+use borrow.Author.Needs.{needs}
+use Rattle.product.proofs.chain.further_digits.Statement.{statement}
+use Rattle.product.proofs.chain.further_digits.Tie as tie
+
+abbrev Inv-loop : tie.InvT-loop
+Inv-loop n rest₀ found₀ rest found = found + log2 rest ≡ log2 n
+
+abbrev μ-loop : tie.MeasureT-loop
+μ-loop n rest₀ found₀ rest found = rest
+
+loop-holds : tie.Need-loop-holds Inv-loop μ-loop
+loop-holds c = omega arith
+
+add-found : tie.Need-add-found Inv-loop μ-loop
+add-found c = omega (arith, log2-half (c .before .loop .rest) (c .loop-test .taken), log2-le (c .before .before .args .n))
+
+loop-less : tie.Need-loop-less Inv-loop μ-loop
+loop-less c = search needs
+
+loop-again : tie.Need-loop-again Inv-loop μ-loop
+loop-again c = omega (arith, log2-half (c .before .loop .rest) (c .loop-test .taken))
+
+returns : tie.Need-returns Inv-loop μ-loop
+returns c = omega (arith, log2-small (c .before .loop .rest) (omega arith))
+
+pub further-digits-spec : {M : Type 1} → statement M
+further-digits-spec =
+    tie.close (tie.spec Inv-loop μ-loop loop-holds add-found loop-less loop-again returns)

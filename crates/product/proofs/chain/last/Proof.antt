@@ -1,0 +1,31 @@
+-- `product::chain::last` meets its contract.
+use mathlib.Core.Path.{ap, _∙_}
+use Prim.Native.Nat.{_-_}
+use native.Mathlib.Omega.{arith}
+use Rattle.gf2.specs.Inverse.{start, digits}
+use Rattle.product.specs.ChainStates.{stateOf}
+use Rattle.product.proofs.ChainSteps.{start-underway}
+use borrow.Author.Needs.{needs}
+use Rattle.product.proofs.chain.last.Statement.{statement}
+use Rattle.product.proofs.chain.last.Tie as tie
+
+sub-further-digits : tie.Need-sub-further-digits
+sub-further-digits c = omega (arith, c .before .pre .0 .least)
+
+further-digits-requires : tie.Need-further-digits-requires
+further-digits-requires c κs = search needs
+
+double-requires : tie.Need-double-requires
+double-requires c κs =
+    let s = c .before .before in
+    rw (c .further-digits .ensures) (start-underway (s .pre .0) (s .pre .1))
+
+returns : tie.Need-returns
+returns c =
+    let x = c .before .before .before .args in
+    c .double .ensures
+    ∙ ap (λ u. stateOf (x .width) (digits (x .width) (x .table .now) (x .a .bytes) (x .width - 1) u (start (x .a .bytes)))) (c .before .further-digits .ensures)
+
+pub last-spec : {M : Type 1} → statement M
+last-spec =
+    tie.close (tie.spec sub-further-digits further-digits-requires double-requires returns)

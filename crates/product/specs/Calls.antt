@@ -1,0 +1,31 @@
+-- What each call answers, for every input: its fault, and its value where there is none.
+use mathlib.Core.List.{List}
+use Prim.Native.Nat.{ℕ}
+use Rattle.gf2.specs.Operands.{choose}
+use Rattle.gf2.specs.Products.{product, reduced}
+use Rattle.gf2.specs.Inverse.{inverse, productsMade}
+use Rattle.operand.specs.declared.Operand.{Operand}
+use Rattle.operand.specs.declared.OperandAnswer.{OperandAnswer}
+use Rattle.operand.specs.Faults.{isNone}
+use Rattle.operand.specs.Calls.{answer}
+use Rattle.product.specs.declared.InverseAnswer.{InverseAnswer}
+use Rattle.product.specs.Judgements.{productFault, reducedFault, inverseFault}
+
+-- "This is "the product" everywhere; it needs no accepted table"
+abbrev pub productCall : ℕ → List ℕ → Operand → Operand → OperandAnswer
+productCall m table a b = answer (productFault m table a b) m (product m table (a .bytes) (b .bytes))
+
+-- "Reduced (004, Theorem 1): coordinate r is a(r-1)·b(r-1) plus the sum of ai·bj + aj·bi over i < j"
+abbrev pub reducedCall : ℕ → List ℕ → Operand → Operand → OperandAnswer
+reducedCall m table a b = answer (reducedFault m table a b) m (reduced m table (a .bytes) (b .bytes))
+
+-- an answer, with the number of products where there is no fault and 0 where there is one
+abbrev pub counted : OperandAnswer → ℕ → InverseAnswer
+counted r n = record { fault = r .fault; value = r .value; count = choose (isNone (r .fault)) n 0 }
+
+-- "Under a table that isn't accepted the answer is still this chain's value"; "the result carries the last count"
+abbrev pub inverseCall : ℕ → List ℕ → Operand → InverseAnswer
+inverseCall m table a =
+    counted
+    (answer (inverseFault m table a) m (inverse m table (a .bytes)))
+    (productsMade m table (a .bytes))
