@@ -1,5 +1,5 @@
 -- The proofs of Statements.
--- shape, symmetry, acceptance, fields, carriedPass.
+-- shape, symmetry, acceptance, fields, carried-pass.
 use mathlib.Core.Path.{_≡_, refl}
 use mathlib.Core.Logic.{_↔_}
 use mathlib.Core.Bool.{true, false, not}
@@ -90,9 +90,9 @@ bytes-of l e b = elim (decLt b (length l)) [
   | no h ↦ rw (List·getD-eq-default l 0 {n = b} (omega arith)) (omega arith)
 ]
 
-pub carriedPass : CarriedPass
+pub carried-pass : CarriedPass
 unfolding every
-carriedPass = record {
+carried-pass = record {
   width2 = pass 2 carried2 (lit≤ tt) (lit≤ tt) (bytes-of carried2 refl) (carried .width2);
   width3 = pass 3 carried3 (lit≤ tt) (lit≤ tt) (bytes-of carried3 refl) (carried .width3);
   width4 = pass 4 carried4 (lit≤ tt) (lit≤ tt) (bytes-of carried4 refl) (carried .width4);
