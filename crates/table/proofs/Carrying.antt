@@ -1,16 +1,16 @@
 -- Operands of W bytes and the same operands carried: made from coordinates, turned, compared, and the basis operands.
 use mathlib.Core.Path.{_≡_, refl, sym, ap, _∙_}
-use mathlib.Core.Bool.{Bool, true, false}
+use mathlib.Core.Bool.{Bool, true}
 use mathlib.Core.List.{List}
 use Prim.Native.Nat.{ℕ, zero, suc, _+_, _*_, _/_, _%_, _^_, _<_, _≤_}
-use native.Mathlib.Nat.{mod-lt, mod-mod, zero-div}
+use native.Mathlib.Nat.{mod-lt, zero-div}
 use native.Mathlib.Decide.{decLt}
 use native.Mathlib.Omega.{arith}
-use lib.ListN.{length, set, replicate}
+use lib.ListN.{set, replicate}
 use lib.Dec.{eqb}
 use borrow.Author.Tests.{eqb-true, ne-eqb}
 use Rattle.gf2.specs.Sums.{every}
-use Rattle.gf2.specs.Coordinates.{coord, tabulate, pack}
+use Rattle.gf2.specs.Coordinates.{coord, tabulate}
 use Rattle.gf2.specs.Operands.{bytesFor, carriedBytes, minus, choose, IsOperand, below, fromCoords, ones, turned}
 use Rattle.gf2.specs.Tables.{basis}
 use Rattle.gf2.specs.Products.{product}
@@ -19,7 +19,7 @@ use Rattle.gf2.proofs.Sums.{every-at}
 use Rattle.gf2.proofs.Coordinates.{length-pack, pack-of}
 use Rattle.gf2.proofs.Operands.{below-in, below-out, coord-from, length-from, from-operand, from-ext, from-eq, operand-ext}
 use Rattle.operand.proofs.CallLaws.{coord-carried}
-use Rattle.table.specs.Rows.{carriedBy}
+use Rattle.table.specs.Rows.{carriedBy, leftProduct, rightProduct}
 use Rattle.table.specs.Judgements.{same}
 use Rattle.table.proofs.Searches.{same-both}
 use Rattle.table.proofs.Shapes.{carried-operand}
@@ -49,9 +49,17 @@ pub basis-operand : (m k : ℕ) → IsOperand (bytesFor m) m (basis m k)
 unfolding basis
 basis-operand m k = from-operand (bytesFor m) m _
 
-pub product-operand : {n m : ℕ} (t : List ℕ) {a : List ℕ} (b : List ℕ) → IsOperand n m a → IsOperand n m (product m t a b)
+product-operand : {n m : ℕ} (t : List ℕ) {a : List ℕ} (b : List ℕ) → IsOperand n m a → IsOperand n m (product m t a b)
 unfolding product
 product-operand {n} {m} t b o = rw (o .size) (from-operand n m _)
+
+pub left-operand : (m : ℕ) (t : List ℕ) (i j : ℕ) → IsOperand (bytesFor m) m (leftProduct m t i j)
+unfolding leftProduct
+left-operand m t i j = product-operand t _ (product-operand t _ (basis-operand m 0))
+
+pub right-operand : (m : ℕ) (t : List ℕ) (i j : ℕ) → IsOperand (bytesFor m) m (rightProduct m t i j)
+unfolding rightProduct
+right-operand m t i j = product-operand t _ (basis-operand m 0)
 
 pub sum-operand : (m : ℕ) (t : List ℕ) → IsOperand (bytesFor m) m (rowSum m t)
 unfolding rowSum

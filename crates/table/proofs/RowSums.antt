@@ -11,9 +11,8 @@ use native.Mathlib.Omega.{arith}
 use lib.ListN.{length, getD}
 use Rattle.gf2.specs.Sums.{sum}
 use Rattle.gf2.specs.Coordinates.{coord}
-use Rattle.gf2.specs.Operands.{maxWidth, bytesFor, carriedBytes, minus, IsOperand, fromCoords, zeroes, ones, added, turned}
-use Rattle.gf2.specs.Tables.{row, basis}
-use Rattle.gf2.specs.Products.{product}
+use Rattle.gf2.specs.Operands.{maxWidth, bytesFor, carriedBytes, minus, IsOperand, zeroes, ones, added, turned}
+use Rattle.gf2.specs.Tables.{row}
 use Rattle.gf2.specs.Check.{Symmetric, rowSum}
 use Rattle.gf2.proofs.Sums.{sum-ext}
 use Rattle.gf2.proofs.Coordinates.{coord-digit, length-pack}
@@ -23,14 +22,14 @@ use Rattle.gf2.proofs.Index.{Ix, at, o, _⊖_, num-at, num-minus, at-minus, sub
 use Rattle.gf2.proofs.IndexSums.{Σ-ext, odd-Σ}
 use Rattle.gf2.proofs.Vector.{Vec, turn, β, lin, turn-lin}
 use Rattle.gf2.proofs.VectorProduct.{_·_, pair, pair-swap, rule6-left, rule6-right}
-use Rattle.gf2.proofs.OperandVectors.{bytes-fit, vec, bytes, length-bytes, vec-bytes, from-vec, basis-vec, turned-vec, turned-bytes}
+use Rattle.gf2.proofs.OperandVectors.{bytes-fit, vec, bytes, vec-bytes, from-vec, basis-vec, turned-vec, turned-bytes}
 use Rattle.gf2.proofs.TableVectors.{rows, product-bytes, symmetric}
 use Rattle.operand.specs.Faults.{isNone}
 use Rattle.operand.specs.Calls.{answer, zeroCall, oneCall}
 use Rattle.operand.proofs.FaultFree.{IsWidth, done, width-none}
 use Rattle.operand.proofs.CallLaws.{coord-carried}
-use Rattle.table.specs.Rows.{Shaped, carriedBy, carriedRow, rowsOver}
-use Rattle.table.proofs.Shapes.{sized, row-short, row-operand}
+use Rattle.table.specs.Rows.{Shaped, carriedBy, carriedRow, rowsOver, leftProduct, rightProduct}
+use Rattle.table.proofs.Shapes.{sized, row-short}
 use Rattle.table.proofs.Carrying.{carried-from}
 
 pub minus-lt : (m j i : ℕ) → 0 < m → minus m j i < m
@@ -117,17 +116,18 @@ module _ (p : ℕ) (t : List ℕ) (s : Shaped (suc p) t) where
   left-vec y i j = rule6-left T i j ∙ ap (lin (T i)) (fun-ext (λ k. pair-swap T (symmetric p t (s .isTable) (s .least) .0 y) k j)) ∙ sym (turn-lin j (T i) (λ k. T (k ⊖ j)))
 
   left-rows : Symmetric (suc p) t → (i j : ℕ) → i < suc p → j < suc p → turned (suc p) j (rowsOver (suc p) t (carriedRow (suc p) t i) j (suc p))
-      ≡ carriedBy (product (suc p) t (product (suc p) t (basis (suc p) 0) (basis (suc p) i)) (basis (suc p) j))
+      ≡ carriedBy (leftProduct (suc p) t i j)
+  unfolding leftProduct
   left-rows y i j li lj =
       ap (turned (suc p) j) (over-vec _ j ∙ ap (λ v. bytes p carriedBytes (lin v (λ k. T (k ⊖ at j)))) (row-vec i li))
       ∙ turned-bytes p carriedBytes room j _ ∙ ap (bytes p carriedBytes) (sym (left-vec y (at i) (at j))) ∙ sym (carried-vec _) ∙ ap carriedBy (sym products)
     where
-      products : product (suc p) t (product (suc p) t (basis (suc p) 0) (basis (suc p) i)) (basis (suc p) j) ≡ bytes p W (_·_ T (_·_ T (β o) (β (at i))) (β (at j)))
+      products : leftProduct (suc p) t i j ≡ bytes p W (_·_ T (_·_ T (β o) (β (at i))) (β (at j)))
       products = let h = bytes-fit (suc p) in let l : 0 < suc p = omega arith in let is = s .isTable in simp (basis-vec, product-bytes)
 
   right-rows : (i j : ℕ) → i < suc p → j < suc p → rowsOver (suc p) t (turned (suc p) i (carriedRow (suc p) t (minus (suc p) j i))) 0 (suc p)
-      ≡ carriedBy (product (suc p) t (basis (suc p) 0) (product (suc p) t (basis (suc p) i) (basis (suc p) j)))
-  unfolding pair
+      ≡ carriedBy (rightProduct (suc p) t i j)
+  unfolding pair rightProduct
   right-rows i j li lj =
       over-vec _ 0 ∙ ap₂ (λ v u. bytes p carriedBytes (lin v u)) factor (fun-ext (λ k. ap T (sub-z k)))
       ∙ ap (bytes p carriedBytes) (sym (rule6-right T (at i) (at j))) ∙ sym (carried-vec _) ∙ ap carriedBy (sym products)
@@ -139,16 +139,16 @@ module _ (p : ℕ) (t : List ℕ) (s : Shaped (suc p) t) where
       factor = ap (vec p) (turned-vec p i (carriedRow (suc p) t d)) ∙ vec-bytes p _ _ (rw length-pack room)
           ∙ ap (turn (at i)) (row-vec d (minus-lt (suc p) j i (omega arith)) ∙ ap T (at-minus j i))
 
-      products : product (suc p) t (basis (suc p) 0) (product (suc p) t (basis (suc p) i) (basis (suc p) j)) ≡ bytes p W (_·_ T (β o) (_·_ T (β (at i)) (β (at j))))
+      products : rightProduct (suc p) t i j ≡ bytes p W (_·_ T (β o) (_·_ T (β (at i)) (β (at j))))
       products = let h = bytes-fit (suc p) in let l : 0 < suc p = omega arith in let is = s .isTable in simp (basis-vec, product-bytes)
 
 pub left-sum : {m : ℕ} {t : List ℕ} → Shaped m t → Symmetric m t → (i j : ℕ) → i < m → j < m →
-    turned m j (rowsOver m t (carriedRow m t i) j m) ≡ carriedBy (product m t (product m t (basis m 0) (basis m i)) (basis m j))
+    turned m j (rowsOver m t (carriedRow m t i) j m) ≡ carriedBy (leftProduct m t i j)
 left-sum {m = zero} {t} s y i j li lj = absurd (omega arith)
 left-sum {m = suc p} {t} s y i j li lj = left-rows p t s y i j li lj
 
 pub right-sum : {m : ℕ} {t : List ℕ} → Shaped m t → (i j : ℕ) → i < m → j < m →
-    rowsOver m t (turned m i (carriedRow m t (minus m j i))) 0 m ≡ carriedBy (product m t (basis m 0) (product m t (basis m i) (basis m j)))
+    rowsOver m t (turned m i (carriedRow m t (minus m j i))) 0 m ≡ carriedBy (rightProduct m t i j)
 right-sum {m = zero} {t} s i j li lj = absurd (omega arith)
 right-sum {m = suc p} {t} s i j li lj = right-rows p t s i j li lj
 

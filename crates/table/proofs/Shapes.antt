@@ -3,17 +3,17 @@ use mathlib.Core.Path.{_≡_, refl, sym, ap, _∙_}
 use mathlib.Core.Logic.{_↔_}
 use mathlib.Core.Bool.{Bool, true, false, not, true≢false}
 use mathlib.Core.List.{List, [], _∷_}
-use Prim.Native.Nat.{ℕ, zero, suc, _+_, _*_, _%_, _<_, _≤_}
+use Prim.Native.Nat.{ℕ, _+_, _*_, _%_, _<_, _≤_}
 use native.Mathlib.Nat.{suc-mul, mul-le-mul-right, mul-le-mul, mod-lt}
 use native.Mathlib.Numerals.{add-one}
 use native.Mathlib.Decide.{decLt}
 use native.Mathlib.Omega.{arith}
-use lib.ListN.{length, getD, take, drop, length-drop, List·getD-eq-default}
+use lib.ListN.{length, drop, length-drop, List·getD-eq-default}
 use lib.Seq.{length-take-le, getD-take, getD-drop}
 use Rattle.gf2.specs.Sums.{every}
-use Rattle.gf2.specs.Coordinates.{coord, pack}
+use Rattle.gf2.specs.Coordinates.{coord}
 use Rattle.gf2.specs.Operands.{maxWidth, bytesFor, carriedBytes, IsOperand, isClear}
-use Rattle.gf2.specs.Tables.{row, IsTable}
+use Rattle.gf2.specs.Tables.{row}
 use Rattle.gf2.proofs.Parity.{bool-ext}
 use Rattle.gf2.proofs.Sums.{every-at, every-of}
 use Rattle.gf2.proofs.Coordinates.{length-pack, pack-byte}
@@ -25,7 +25,7 @@ use Rattle.operand.specs.Judgements.{widthFault, lengthFault, highFault, bytesF
 use Rattle.operand.specs.Calls.{answer}
 use Rattle.operand.proofs.ByteLoops.{Bytes}
 use Rattle.operand.proofs.CallLaws.{coord-carried}
-use Rattle.operand.proofs.FaultLaws.{or-first, or-second, first-two, first-more, two-fine, width-fine, length-fine, high-fine}
+use Rattle.operand.proofs.FaultLaws.{or-first, or-second, first-two, first-more, two-fine, width-fine, length-fine}
 use Rattle.operand.proofs.FaultFree.{IsWidth, done, width-none, length-none, high-none}
 use Rattle.table.specs.Rows.{Shaped, carriedBy, carriedRow}
 use Rattle.table.specs.Judgements.{rowsFault, shapeFault}

@@ -9,11 +9,10 @@ use lib.ListN.{length, getD, drop}
 use lib.Seq.{getD-take, getD-drop}
 use Rattle.gf2.specs.Sums.{sum}
 use Rattle.gf2.specs.Coordinates.{coord}
-use Rattle.gf2.specs.Operands.{bytesFor, IsOperand}
+use Rattle.gf2.specs.Operands.{bytesFor}
 use Rattle.gf2.specs.Tables.{row, IsTable, onesIn}
 use Rattle.gf2.proofs.Sums.{sum-ext, sum-split, sum-digits}
 use Rattle.gf2.proofs.Coordinates.{coord-digit}
-use Rattle.gf2.proofs.OperandVectors.{bytes-fit}
 
 -- the first b bytes are counted
 pub record Counted (t : List ℕ) (total b : ℕ) : Type 0 where

@@ -1,6 +1,6 @@
 -- The proofs of Statements.
 -- shape, symmetry, acceptance, fields, carried-pass.
-use mathlib.Core.Path.{_≡_, refl}
+use mathlib.Core.Path.{_≡_, refl, sym, _∙_}
 use mathlib.Core.Logic.{_↔_}
 use mathlib.Core.Bool.{true, false, not}
 use mathlib.Core.List.{List}
@@ -21,11 +21,12 @@ use Rattle.operand.specs.declared.fault.Fault.{Fault}
 use Rattle.operand.specs.declared.fault.Fault.the-variants.{None, RowZero, RowPair, Triple, RowSum}
 use Rattle.operand.specs.Faults.{isNone, when}
 use Rattle.table.specs.Carried.{carried2, carried3, carried4, carried5}
+use Rattle.table.specs.Rows.{mirrors, leftProduct, rightProduct, associates}
 use Rattle.table.specs.Judgements.{same, rowZeroFault, rowPairFault, tripleFault, rowSumFault, symmetryFault, checkFault}
 use Rattle.table.specs.Statements.{Bytes, Shape, Symmetry, Acceptance, Fields, CarriedPass}
 use Rattle.table.proofs.Searches.{same-correct, when-passes, when-none, three-none, first-none}
 use Rattle.table.proofs.Shapes.{shape-fine}
-use Rattle.table.proofs.Rules.{mirrorFault, pairFault, rowFault}
+use Rattle.table.proofs.Rules.{mirrorFault, mirror-search, pairFault, rowFault, triple-search}
 
 pub shape : Shape
 shape = shape-fine
@@ -40,18 +41,18 @@ module _ (m : ℕ) (t : List ℕ) where
   rule4 = unequal _ _ RowZero refl
 
   rule5 : (rowPairFault m t ≡ None) ↔ ((d : ℕ) → 1 ≤ d → d < m → Rule5 m t d)
-  unfolding rowPairFault isNone
+  unfolding mirrors isNone
   rule5 = (
-    λ e d l h. unequal _ _ (RowPair d) refl .0 (first-none (mirrorFault m t) 1 _ .0 e d l (omega arith)),
-    λ r. first-none (mirrorFault m t) 1 _ .1 (λ d l h. unequal _ _ (RowPair d) refl .1 (r d l (omega arith))),
+    λ e d l h. unequal _ _ (RowPair d) refl .0 (first-none (mirrorFault m t) 1 _ .0 (sym (mirror-search m t) ∙ e) d l (omega arith)),
+    λ r. mirror-search m t ∙ first-none (mirrorFault m t) 1 _ .1 (λ d l h. unequal _ _ (RowPair d) refl .1 (r d l (omega arith))),
   )
 
   rule6 : (tripleFault m t ≡ None) ↔ ((i j : ℕ) → i < m → j < m → Rule6 m t i j)
-  unfolding tripleFault isNone
+  unfolding associates leftProduct rightProduct isNone
   rule6 = (
     λ e i j li lj. unequal _ _ (Triple i j) refl .0
-        (first-none (pairFault m t i) 0 m .0 (first-none (rowFault m t) 0 m .0 e i (omega arith) (omega arith)) j (omega arith) (omega arith)),
-    λ r. first-none (rowFault m t) 0 m .1 (λ i l li. first-none (pairFault m t i) 0 m .1 (λ j k lj.
+        (first-none (pairFault m t i) 0 m .0 (first-none (rowFault m t) 0 m .0 (sym (triple-search m t) ∙ e) i (omega arith) (omega arith)) j (omega arith) (omega arith)),
+    λ r. triple-search m t ∙ first-none (rowFault m t) 0 m .1 (λ i l li. first-none (pairFault m t i) 0 m .1 (λ j k lj.
         unequal _ _ (Triple i j) refl .1 (r i j (omega arith) (omega arith)))),
   )
 

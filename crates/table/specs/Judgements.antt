@@ -1,7 +1,7 @@
 -- The faults of a table: its shape, and the rules 4 to 7 of the check, each by its cause in document 01's table of faults.
 use mathlib.Core.Bool.{Bool, true, false, not, _&&_}
 use mathlib.Core.List.{List, [], _∷_}
-use Prim.Native.Nat.{ℕ, _+_, _-_, _*_}
+use Prim.Native.Nat.{ℕ, _-_, _*_}
 use lib.ListN.{length}
 use lib.Dec.{eqb}
 use Rattle.gf2.specs.Sums.{every}

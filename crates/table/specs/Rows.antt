@@ -1,12 +1,13 @@
--- Rows as carried operands, their sums, and what the calls inside the crate take for granted of a table.
-use mathlib.Core.Path.{_≡_}
+-- Rows as carried operands, their sums, rules 5 and 6 as tests, and what the calls inside the crate take for granted of a table.
+use mathlib.Core.Bool.{Bool}
 use mathlib.Core.List.{List}
-use Prim.Native.Nat.{ℕ, _*_, _≤_}
-use lib.ListN.{length}
+use Prim.Native.Nat.{ℕ, _-_, _*_, _≤_}
 use Rattle.gf2.specs.Sums.{sum}
 use Rattle.gf2.specs.Coordinates.{coord, pack}
-use Rattle.gf2.specs.Operands.{maxWidth, bytesFor, carriedBytes, minus, fromCoords}
-use Rattle.gf2.specs.Tables.{row, IsTable}
+use Rattle.gf2.specs.Operands.{maxWidth, carriedBytes, minus, fromCoords, turned}
+use Rattle.gf2.specs.Tables.{row, IsTable, basis}
+use Rattle.gf2.specs.Products.{product}
+use Rattle.table.specs.Judgements.{same}
 
 -- "m is the width, 2 to 255"; "A table is m rows, each an operand of W bytes, m·W in all"
 pub record Shaped (m : ℕ) (table : List ℕ) : Type 0 where
@@ -26,3 +27,19 @@ carriedRow m table d = carriedBy (row m table d)
 unfoldable pub rowsOver : ℕ → List ℕ → List ℕ → ℕ → ℕ → List ℕ
 rowsOver m table x j n =
     fromCoords carriedBytes m (λ s. sum n (λ k. coord x k * coord (row m table (minus m k j)) s))
+
+-- "row d equals row m-d turned d places"
+unfoldable pub mirrors : ℕ → List ℕ → ℕ → Bool
+mirrors m table d = same (row m table d) (turned m d (row m table (m - d)))
+
+-- "(β0·βi)·βj"
+unfoldable pub leftProduct : ℕ → List ℕ → ℕ → ℕ → List ℕ
+leftProduct m table i j = product m table (product m table (basis m 0) (basis m i)) (basis m j)
+
+-- "β0·(βi·βj)"
+unfoldable pub rightProduct : ℕ → List ℕ → ℕ → ℕ → List ℕ
+rightProduct m table i j = product m table (basis m 0) (product m table (basis m i) (basis m j))
+
+-- "(β0·βi)·βj = β0·(βi·βj)"
+unfoldable pub associates : ℕ → List ℕ → ℕ → ℕ → Bool
+associates m table i j = same (leftProduct m table i j) (rightProduct m table i j)

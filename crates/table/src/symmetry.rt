@@ -1,9 +1,9 @@
 // Rules 4 and 5 of the check: row 0, and row d against row m-d.
 ghost use mathlib.Core.Path.{_≡_};
 ghost use Prim.Native.Nat.{_-_, _<_, _≤_};
-ghost use Rattle.gf2.specs.Operands.{maxWidth, turned};
-ghost use Rattle.gf2.specs.Tables.{row, basis};
-ghost use Rattle.table.specs.Rows.{Shaped, carriedBy};
+ghost use Rattle.gf2.specs.Operands.{maxWidth};
+ghost use Rattle.gf2.specs.Tables.{basis};
+ghost use Rattle.table.specs.Rows.{Shaped, carriedBy, mirrors};
 ghost use Rattle.table.specs.Judgements.{same, rowZeroFault, rowPairFault, symmetryFault};
 use crate::rows;
 use operand::Fault;
@@ -46,7 +46,7 @@ fn judge_row_zero(width: usize, table: &[u8]) -> Fault
 // Whether row d is row m-d turned d places.
 fn mirrored(width: usize, table: &[u8], d: usize) -> bool
     requires { ⌜ (Shaped width (now table)) × (1 ≤ d) × (d < width) ⌝ }
-    ensures { λ r. ⌜ r ≡ same (row width (now (table .entry)) d) (turned width d (row width (now (table .entry)) (width - d))) ⌝ }
+    ensures { λ r. ⌜ r ≡ mirrors width (now (table .entry)) d ⌝ }
 {
     let turned = rows::row_at(width, table, width - d).turn(d);
     let turned_bytes = turned.value.bytes;

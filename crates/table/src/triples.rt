@@ -1,11 +1,9 @@
 // The check. Rules 6 and 7 are judged by sums of rows, on a table that has passed rules 4 and 5: no product is made.
 ghost use mathlib.Core.Path.{_≡_};
 ghost use Prim.Native.Nat.{_<_};
-ghost use Rattle.gf2.specs.Tables.{basis};
-ghost use Rattle.gf2.specs.Products.{product};
 ghost use Rattle.gf2.specs.Check.{Symmetric};
-ghost use Rattle.table.specs.Rows.{Shaped, carriedBy};
-ghost use Rattle.table.specs.Judgements.{same, tripleFault, rowSumFault, checkFault};
+ghost use Rattle.table.specs.Rows.{Shaped, carriedBy, leftProduct, rightProduct, associates};
+ghost use Rattle.table.specs.Judgements.{tripleFault, rowSumFault, checkFault};
 use crate::rows;
 use crate::sums;
 use crate::symmetry;
@@ -15,7 +13,7 @@ use operand::Operand;
 // (β0·βi)·βj: the factor β0·βi is row i, and by rule 5 βk·βj is row k-j turned j places.
 fn left_product(width: usize, table: &[u8], i: usize, j: usize) -> [u8; Operand::BYTES]
     requires { ⌜ (Shaped width (now table)) × (Symmetric width (now table)) × (i < width) × (j < width) ⌝ }
-    ensures { λ r. ⌜ r ≡ carriedBy (product width (now (table .entry)) (product width (now (table .entry)) (basis width 0) (basis width i)) (basis width j)) ⌝ }
+    ensures { λ r. ⌜ r ≡ carriedBy (leftProduct width (now (table .entry)) i j) ⌝ }
 {
     let factor = rows::row_at(width, table, i);
     let answer = sums::sum_of_rows(width, table, factor, j).turn(j);
@@ -26,7 +24,7 @@ fn left_product(width: usize, table: &[u8], i: usize, j: usize) -> [u8; Operand:
 // β0·(βi·βj): the factor βi·βj is row j-i turned i places, and β0·βs is row s.
 fn right_product(width: usize, table: &[u8], i: usize, j: usize) -> [u8; Operand::BYTES]
     requires { ⌜ (Shaped width (now table)) × (i < width) × (j < width) ⌝ }
-    ensures { λ r. ⌜ r ≡ carriedBy (product width (now (table .entry)) (basis width 0) (product width (now (table .entry)) (basis width i) (basis width j))) ⌝ }
+    ensures { λ r. ⌜ r ≡ carriedBy (rightProduct width (now (table .entry)) i j) ⌝ }
 {
     let factor = rows::row_at(width, table, (j + (width - i)) % width).turn(i);
     let sum = sums::sum_of_rows(width, table, factor.value, 0);
@@ -37,7 +35,7 @@ fn right_product(width: usize, table: &[u8], i: usize, j: usize) -> [u8; Operand
 // Whether the triple of 0, i and j is associative.
 fn associative(width: usize, table: &[u8], i: usize, j: usize) -> bool
     requires { ⌜ (Shaped width (now table)) × (Symmetric width (now table)) × (i < width) × (j < width) ⌝ }
-    ensures { λ r. ⌜ r ≡ same (product width (now (table .entry)) (product width (now (table .entry)) (basis width 0) (basis width i)) (basis width j)) (product width (now (table .entry)) (basis width 0) (product width (now (table .entry)) (basis width i) (basis width j))) ⌝ }
+    ensures { λ r. ⌜ r ≡ associates width (now (table .entry)) i j ⌝ }
 {
     symmetry::same_bytes(
         left_product(width, table, i, j),

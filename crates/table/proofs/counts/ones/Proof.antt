@@ -1,7 +1,6 @@
 -- `table::counts::ones` meets its contract.
 use mathlib.Core.Path.{_≡_, _∙_}
 use mathlib.Core.Bool.{true}
-use native.Mathlib.Omega.{arith}
 use Rattle.operand.specs.Faults.{isNone}
 use Rattle.operand.proofs.FaultLaws.{judged, none-is}
 use Rattle.table.specs.Rows.{Shaped}

@@ -1,5 +1,5 @@
 -- `table::rows::judge_size` meets its contract.
-use mathlib.Core.Path.{_≡_, sym, ap, _∙_}
+use mathlib.Core.Path.{sym, _∙_}
 use native.Mathlib.Omega.{arith}
 use Rattle.operand.proofs.FaultLaws.{judged, width-fine, first-two, or-first, or-second}
 use Rattle.table.proofs.Shapes.{size-small}

@@ -1,5 +1,4 @@
 -- `table::rows::row_at` meets its contract.
-use Rattle.table.specs.Rows.{Shaped}
 use borrow.Author.Needs.{needs}
 use Rattle.table.proofs.rows.row_at.Statement.{statement}
 use Rattle.table.proofs.rows.row_at.Tie as tie

@@ -1,14 +1,13 @@
 -- `table::sums::plus_row` meets its contract.
 use mathlib.Core.Path.{_≡_, ap, ap₂, _∙_}
-use Prim.Native.Nat.{_+_, _-_, _%_, _<_}
+use Prim.Native.Nat.{_-_, _<_}
 use native.Mathlib.Nat.{mod-lt}
 use native.Mathlib.Omega.{arith}
 use Rattle.gf2.specs.Coordinates.{coord}
-use Rattle.gf2.specs.Operands.{minus}
 use Rattle.operand.specs.declared.OperandAnswer.{OperandAnswer}
 use Rattle.operand.specs.Calls.{sumCall}
 use Rattle.operand.proofs.FaultFree.{carry, sum-done}
-use Rattle.table.specs.Rows.{Shaped, carriedRow}
+use Rattle.table.specs.Rows.{carriedRow}
 use Rattle.table.proofs.Shapes.{width-of, sized, row-short, row-operand}
 use Rattle.table.proofs.RowSums.{minus-lt, minus-at, over-operand, over-skip, over-add}
 use borrow.Author.Needs.{needs}

@@ -5,7 +5,7 @@ use native.Mathlib.Omega.{arith}
 use Rattle.gf2.specs.Operands.{carriedBytes}
 use Rattle.operand.specs.declared.OperandAnswer.{OperandAnswer}
 use Rattle.operand.proofs.FaultFree.{carry}
-use Rattle.table.specs.Rows.{Shaped, rowsOver}
+use Rattle.table.specs.Rows.{rowsOver}
 use Rattle.table.proofs.Shapes.{width-of, sized}
 use Rattle.table.proofs.RowSums.{zero-done, over-none, over-all}
 use borrow.Author.Needs.{needs}

@@ -1,14 +1,13 @@
 -- `table::symmetry::judge_row_pairs` meets its contract.
-use mathlib.Core.Path.{_≡_, refl, sym, ap, _∙_}
-use mathlib.Core.Bool.{not}
+use mathlib.Core.Path.{_≡_, sym, ap, _∙_}
 use Prim.Native.Nat.{_-_, _≤_}
 use native.Mathlib.Omega.{arith}
 use borrow.Author.Tests.{not-true, not-false}
 use Rattle.operand.specs.declared.fault.Fault.the-variants.{RowPair}
-use Rattle.operand.specs.Faults.{isNone, when, firstFrom}
+use Rattle.operand.specs.Faults.{isNone, firstFrom}
 use Rattle.table.specs.Judgements.{rowPairFault}
 use Rattle.table.proofs.Searches.{when-passes, when-fails, none-true, first-done, first-hit, first-miss}
-use Rattle.table.proofs.Rules.{mirrorFault}
+use Rattle.table.proofs.Rules.{mirrorFault, mirror-search}
 use borrow.Author.Needs.{needs}
 use Rattle.table.proofs.symmetry.judge_row_pairs.Statement.{statement}
 use Rattle.table.proofs.symmetry.judge_row_pairs.Tie as tie
@@ -20,8 +19,7 @@ abbrev μ-loop : tie.MeasureT-loop
 μ-loop width table d₀ d = width - d
 
 loop-holds : tie.Need-loop-holds Inv-loop μ-loop
-unfolding rowPairFault
-loop-holds c = (omega arith, refl)
+loop-holds c = (omega arith, mirror-search _ _)
 
 mirrored-requires : tie.Need-mirrored-requires Inv-loop μ-loop
 mirrored-requires c κs = (c .before .before .before .pre, c .before .loop .inv .0, c .loop-test .taken)

@@ -1,11 +1,8 @@
 -- `table::symmetry::judge_row_zero` meets its contract.
 use mathlib.Core.Path.{_≡_, sym, ap₂, _∙_}
 use native.Mathlib.Omega.{arith}
-use Rattle.gf2.specs.Operands.{carriedBytes}
 use Rattle.gf2.specs.Tables.{row, basis}
-use Rattle.gf2.proofs.Operands.{from-operand}
 use Rattle.operand.specs.declared.fault.Fault.the-variants.{RowZero}
-use Rattle.table.specs.Rows.{Shaped}
 use Rattle.table.specs.Judgements.{same, rowZeroFault}
 use Rattle.table.proofs.Searches.{when-passes, when-fails}
 use Rattle.table.proofs.Carrying.{same-carried, basis-operand}

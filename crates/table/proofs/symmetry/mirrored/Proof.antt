@@ -1,5 +1,5 @@
 -- `table::symmetry::mirrored` meets its contract.
-use mathlib.Core.Path.{_≡_, ap, ap₂, _∙_}
+use mathlib.Core.Path.{ap, ap₂, _∙_}
 use Prim.Native.Nat.{_-_, _<_, _≤_}
 use native.Mathlib.Omega.{arith}
 use Rattle.gf2.specs.Operands.{bytesFor, carriedBytes}
@@ -7,7 +7,7 @@ use Rattle.operand.specs.declared.OperandAnswer.{OperandAnswer}
 use Rattle.operand.specs.Calls.{turnCall}
 use Rattle.operand.proofs.FaultFree.{turn-done}
 use Rattle.gf2.proofs.OperandVectors.{bytes-fit}
-use Rattle.table.specs.Rows.{Shaped}
+use Rattle.table.specs.Rows.{mirrors}
 use Rattle.table.specs.Judgements.{same}
 use Rattle.table.proofs.Shapes.{width-of, sized, row-operand}
 use Rattle.table.proofs.Carrying.{same-carried, turned-carried, turned-operand}
@@ -31,6 +31,7 @@ same-bytes-requires : tie.Need-same-bytes-requires
 same-bytes-requires c κs = search needs
 
 returns : tie.Need-returns
+unfolding mirrors
 returns c =
     let s = c .before .before .before .before .before .before .pre in
     let a = c .before .before .before .before .before .before .args in

@@ -1,9 +1,9 @@
 -- `table::triples::associative` meets its contract.
-use mathlib.Core.Path.{_≡_, ap₂, _∙_}
+use mathlib.Core.Path.{ap₂, _∙_}
 use native.Mathlib.Omega.{arith}
-use Rattle.table.specs.Rows.{Shaped}
+use Rattle.table.specs.Rows.{associates}
 use Rattle.table.specs.Judgements.{same}
-use Rattle.table.proofs.Carrying.{same-carried, basis-operand, product-operand}
+use Rattle.table.proofs.Carrying.{same-carried, left-operand, right-operand}
 use borrow.Author.Needs.{needs}
 use Rattle.table.proofs.triples.associative.Statement.{statement}
 use Rattle.table.proofs.triples.associative.Tie as tie
@@ -18,10 +18,12 @@ same-bytes-requires : tie.Need-same-bytes-requires
 same-bytes-requires c κs = search needs
 
 returns : tie.Need-returns
+unfolding associates
 returns c =
     let s = c .before .before .before .before .pre in
-    c .same-bytes .ensures ∙ ap₂ same (c .before .before .left-product .ensures) (c .before .right-product .ensures)
-    ∙ same-carried (omega (arith, s .0 .greatest)) (product-operand _ _ (product-operand _ _ (basis-operand _ 0))) (product-operand _ _ (basis-operand _ 0))
+    c .same-bytes .ensures
+    ∙ ap₂ same (c .before .before .left-product .ensures) (c .before .right-product .ensures)
+    ∙ same-carried (omega (arith, s .0 .greatest)) (left-operand _ _ _ _) (right-operand _ _ _ _)
 
 pub associative-spec : {M : Type 1} → statement M
 associative-spec =

@@ -1,13 +1,12 @@
 -- `table::triples::judge_row_sum` meets its contract.
 use mathlib.Core.Path.{_≡_, sym, ap, ap₂, _∙_}
 use native.Mathlib.Omega.{arith}
-use Rattle.gf2.specs.Operands.{carriedBytes, ones}
 use Rattle.gf2.specs.Tables.{basis}
 use Rattle.gf2.specs.Check.{rowSum}
 use Rattle.operand.specs.declared.Operand.{Operand}
 use Rattle.operand.specs.declared.OperandAnswer.{OperandAnswer}
 use Rattle.operand.specs.declared.fault.Fault.the-variants.{RowSum}
-use Rattle.table.specs.Rows.{Shaped, rowsOver}
+use Rattle.table.specs.Rows.{rowsOver}
 use Rattle.table.specs.Judgements.{same, rowSumFault}
 use Rattle.table.proofs.Searches.{when-passes, when-fails}
 use Rattle.table.proofs.Shapes.{width-of, sized}

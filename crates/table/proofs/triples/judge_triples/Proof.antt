@@ -7,7 +7,7 @@ use Rattle.operand.specs.declared.fault.Fault.the-variants.{None, Triple}
 use Rattle.operand.specs.Faults.{isNone, firstFrom}
 use Rattle.table.specs.Judgements.{tripleFault}
 use Rattle.table.proofs.Searches.{when-passes, when-fails, none-true, first-start, first-done, first-hit, first-miss}
-use Rattle.table.proofs.Rules.{pairFault, rowFault}
+use Rattle.table.proofs.Rules.{pairFault, rowFault, triple-search}
 use borrow.Author.Needs.{needs}
 use Rattle.table.proofs.triples.judge_triples.Statement.{statement}
 use Rattle.table.proofs.triples.judge_triples.Tie as tie
@@ -25,8 +25,7 @@ abbrev μ-search : tie.MeasureT-search
 μ-search width table fault₀ i₀ fault i = width - i
 
 search-holds : tie.Need-search-holds Inv-loop μ-loop Inv-search μ-search
-unfolding tripleFault
-search-holds c = (refl, first-start _ _)
+search-holds c = (refl, triple-search _ _ ∙ first-start _ _)
 
 loop-holds : tie.Need-loop-holds Inv-loop μ-loop Inv-search μ-search
 loop-holds c = (c .before .search .inv .0, first-start _ _)

@@ -1,11 +1,10 @@
 -- `table::triples::left_product` meets its contract.
-use mathlib.Core.Path.{_≡_, ap, _∙_}
-use Rattle.gf2.specs.Operands.{carriedBytes, IsOperand}
+use mathlib.Core.Path.{ap, _∙_}
 use Rattle.operand.specs.declared.Operand.{Operand}
 use Rattle.operand.specs.declared.OperandAnswer.{OperandAnswer}
 use Rattle.operand.specs.Calls.{turnCall}
 use Rattle.operand.proofs.FaultFree.{carry, turn-done}
-use Rattle.table.specs.Rows.{Shaped, rowsOver}
+use Rattle.table.specs.Rows.{rowsOver}
 use Rattle.table.proofs.Shapes.{width-of, sized, row-operand}
 use Rattle.table.proofs.RowSums.{over-operand, left-sum}
 use borrow.Author.Needs.{needs}

@@ -8,7 +8,7 @@ use Rattle.operand.specs.declared.Operand.{Operand}
 use Rattle.operand.specs.declared.OperandAnswer.{OperandAnswer}
 use Rattle.operand.specs.Calls.{turnCall}
 use Rattle.operand.proofs.FaultFree.{carry, done, turn-done}
-use Rattle.table.specs.Rows.{Shaped, carriedRow, rowsOver}
+use Rattle.table.specs.Rows.{carriedRow, rowsOver}
 use Rattle.table.proofs.Shapes.{width-of, sized, row-operand}
 use Rattle.table.proofs.Carrying.{turned-operand}
 use Rattle.table.proofs.RowSums.{minus-lt, minus-at, right-sum}
