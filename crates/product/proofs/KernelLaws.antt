@@ -1,4 +1,6 @@
--- Products of coordinates, and an operand spread by the ones of a row.
+-- What the kernels make, as coordinates.
+-- Products of coordinates: of two operands, of one and another turned back, of both ways round.
+-- The spread: digit by digit in a byte of the row, then byte by byte.
 use mathlib.Core.Path.{_≡_, refl, sym, ap, _∙_}
 use mathlib.Core.Bool.{Bool, true, false}
 use mathlib.Core.List.{List}
@@ -44,7 +46,7 @@ masked-bytes n x y sx sy = pack-of n _ (λ i. coord x i * coord y i) (λ b h. an
     rw (coord-digit x b j l, coord-digit y b j l) (and-bit (getD x b 0) (getD y b 0) j ∙ bit-mul _ _ (omega arith) (omega arith)))
 
 -- an operand without fault, coordinate by coordinate times another
-pub masked-made : {m : ℕ} {a : Operand} → Sound m a → (x : List ℕ) →
+masked-made : {m : ℕ} {a : Operand} → Sound m a → (x : List ℕ) →
     carried (a .width) (pack carriedBytes (λ i. coord (a .bytes) i * coord x i)) ≡ made m (λ i. coord (a .bytes) i * coord x i)
 unfolding fromCoords
 masked-made {m} {a} s x = ap (λ w. carried w (pack carriedBytes f)) (s .width) ∙ ap (carried m) (pack-ext carriedBytes f (below m f) (λ i l. ap (λ y. y % 2) (same i)))
@@ -63,14 +65,14 @@ unfolding minus
 minus-lt m i k h = mod-lt _ h
 
 -- the products of the coordinates, turned by one
-pub diagonal-made : {m : ℕ} {a b : Operand} → Sound m a → Sound m b → {masked : Operand} {r : OperandAnswer} →
-    masked ≡ carried (a .width) (pack carriedBytes (λ i. coord (a .bytes) i * coord (b .bytes) i)) → r ≡ turnCall masked 1 →
-    r .value ≡ made m (λ i. coord (a .bytes) (minus m i 1) * coord (b .bytes) (minus m i 1))
-diagonal-made {m} {a} {b} sa sb e q =
-    let p = e ∙ masked-made sa (b .bytes) in
+pub diagonal-made : {m : ℕ} {a : Operand} → Sound m a → (x : List ℕ) {masked : Operand} {r : OperandAnswer} →
+    masked ≡ carried (a .width) (pack carriedBytes (λ i. coord (a .bytes) i * coord x i)) → r ≡ turnCall masked 1 →
+    r .value ≡ made m (λ i. coord (a .bytes) (minus m i 1) * coord x (minus m i 1))
+diagonal-made {m} sa x e q =
+    let p = e ∙ masked-made sa x in
     let l = sa .least in
     turn-made (made-sound sa _ p) 1 (omega arith) q
-    ∙ ap (carried m) (from-ext carriedBytes m _ _ (λ i h. ap (λ x. x % 2) (coord-made (sa .greatest) _ p (minus m i 1) (minus-lt m i 1 (omega arith))) ∙ mod-mod _ 2))
+    ∙ ap (carried m) (from-ext carriedBytes m _ _ (λ i h. ap (λ y. y % 2) (coord-made (sa .greatest) _ p (minus m i 1) (minus-lt m i 1 (omega arith))) ∙ mod-mod _ 2))
 
 minus-mod : (m i k : ℕ) → minus m i (k % m) ≡ minus m i k
 unfolding minus
@@ -108,15 +110,15 @@ cleared-made m n h w f {a} e = pack-ext carriedBytes _ _ (λ i l. elim (decLt i 
     ]
 
 -- the pairs at distance d both ways round, of which the first `kept` count
-pub across-made : {m : ℕ} {a b : Operand} → Sound m a → Sound m b → (d : ℕ) → d < m → {one other : Operand} {sum : OperandAnswer} →
-    one ≡ made m (apartAt m d (a .bytes) (b .bytes)) → other ≡ made m (apartAt m d (b .bytes) (a .bytes)) → sum ≡ sumCall one other →
-    fromCoords carriedBytes (kept m d) (coord (sum .value .bytes)) ≡ fromCoords carriedBytes m (acrossAt m d (a .bytes) (b .bytes))
+pub across-made : {m : ℕ} {a : Operand} → Sound m a → (x : List ℕ) (d : ℕ) → d < m → {one other : Operand} {sum : OperandAnswer} →
+    one ≡ made m (apartAt m d (a .bytes) x) → other ≡ made m (apartAt m d x (a .bytes)) → sum ≡ sumCall one other →
+    fromCoords carriedBytes (kept m d) (coord (sum .value .bytes)) ≡ fromCoords carriedBytes m (acrossAt m d (a .bytes) x)
 unfolding acrossAt
-across-made {m} sa sb d h p q e = cleared-made m (kept m d) (kept-le m d h) (sa .greatest) _
+across-made {m} sa x d h p q e = cleared-made m (kept m d) (kept-le m d h) (sa .greatest) _
     (sum-made (made-sound sa _ p) _ _ (λ i l. omega (arith, coord-made (sa .greatest) _ p i l)) q e)
 
 -- the terms past m are 0
-pub sum-tail : (n m : ℕ) (f : ℕ → ℕ) → m ≤ n → ((i : ℕ) → m ≤ i → f i ≡ 0) → sum n f ≡ sum m f
+sum-tail : (n m : ℕ) (f : ℕ → ℕ) → m ≤ n → ((i : ℕ) → m ≤ i → f i ≡ 0) → sum n f ≡ sum m f
 unfolding sum
 sum-tail n m f h z =
     let e : n ≡ m + (n - m) = omega arith in

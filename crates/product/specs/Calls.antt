@@ -11,19 +11,19 @@ use Rattle.operand.specs.Calls.{answer}
 use Rattle.product.specs.declared.InverseAnswer.{InverseAnswer}
 use Rattle.product.specs.Judgements.{productFault, reducedFault, inverseFault}
 
--- "This is "the product" everywhere; it needs no accepted table"
+-- "coordinate r is the sum modulo 2 of ai·bj over all i, j for which βi·βj has coordinate r"; "it needs no accepted table"
 abbrev pub productCall : ℕ → List ℕ → Operand → Operand → OperandAnswer
 productCall m table a b = answer (productFault m table a b) m (product m table (a .bytes) (b .bytes))
 
--- "Reduced (004, Theorem 1): coordinate r is a(r-1)·b(r-1) plus the sum of ai·bj + aj·bi over i < j"
+-- "coordinate r is a(r-1)·b(r-1) plus the sum of ai·bj + aj·bi over i < j for which βi·βj has coordinate r"
 abbrev pub reducedCall : ℕ → List ℕ → Operand → Operand → OperandAnswer
 reducedCall m table a b = answer (reducedFault m table a b) m (reduced m table (a .bytes) (b .bytes))
 
--- an answer, with the number of products where there is no fault and 0 where there is one
+-- "the result carries the last count as the number of products made"; 0 beside a fault
 abbrev pub counted : OperandAnswer → ℕ → InverseAnswer
 counted r n = record { fault = r .fault; value = r .value; count = choose (isNone (r .fault)) n 0 }
 
--- "Under a table that isn't accepted the answer is still this chain's value"; "the result carries the last count"
+-- "Inverse of a is a to the power 2^m - 2"; "Under a table that isn't accepted the answer is still this chain's value"
 abbrev pub inverseCall : ℕ → List ℕ → Operand → InverseAnswer
 inverseCall m table a =
     counted

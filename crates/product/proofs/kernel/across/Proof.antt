@@ -4,7 +4,7 @@ use native.Mathlib.Omega.{arith}
 use Rattle.gf2.specs.Coordinates.{coord}
 use Rattle.gf2.specs.Operands.{carriedBytes, fromCoords}
 use Rattle.product.specs.Kernels.{carried, apartAt, made}
-use Rattle.product.proofs.SoundOperands.{of-width}
+use Rattle.product.proofs.SoundOperands.{of-width, at-width}
 use Rattle.product.proofs.KernelLaws.{across-made}
 use borrow.Author.Needs.{needs}
 use Rattle.product.proofs.kernel.across.Statement.{statement}
@@ -36,9 +36,9 @@ returns c =
     let s = c .before .before .before .before .before .before .before in
     let a = s .args .a in
     let b = s .args .b in
-    let other = c .before .before .before .before .apart2 .ensures ∙ ap (λ w. made w (apartAt w (s .args .d) (b .bytes) (a .bytes))) (s .pre .1 .width) in
+    let other = at-width (λ w. apartAt w (s .args .d) (b .bytes) (a .bytes)) (s .pre .1 .width) (c .before .before .before .before .apart2 .ensures) in
     ap (carried (a .width)) (c .cleared .ensures ∙ ap (λ n. fromCoords carriedBytes n (coord (c .before .before .before .sum .result .value .bytes))) (c .before .kept .ensures)
-    ∙ across-made (s .pre .0) (s .pre .1) (s .args .d) (s .pre .2) (c .before .before .before .before .before .apart .ensures) other (c .before .before .before .sum .ensures))
+    ∙ across-made (s .pre .0) (b .bytes) (s .args .d) (s .pre .2) (c .before .before .before .before .before .apart .ensures) other (c .before .before .before .sum .ensures))
 
 pub across-spec : {M : Type 1} → statement M
 across-spec =

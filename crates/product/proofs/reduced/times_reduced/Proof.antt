@@ -25,7 +25,7 @@ turn-requires c κs = search needs
 loop-holds : tie.Need-loop-holds Inv-loop μ-loop
 loop-holds c =
     let s = c .before .before .before .before in
-    let diagonal = diagonal-made (s .pre .2) (s .pre .3) (c .before .before .masked .ensures) (c .before .turn .ensures) in
+    let diagonal = diagonal-made (s .pre .2) (s .args .b .bytes) (c .before .before .masked .ensures) (c .before .turn .ensures) in
     (omega arith, omega arith, remade (s .args .width) _ _ (λ i l. omega (arith, reduced-none (s .args .width) (s .args .table .now) (s .args .a .bytes) (s .args .b .bytes) i)) diagonal)
 
 with-rows-requires : tie.Need-with-rows-requires Inv-loop μ-loop
