@@ -21,7 +21,7 @@ abbrev pub given : Fault → ℕ → TypeAnswer
 given f t = record { fault = f; t = t }
 
 -- a fault
-pub refused : {f : Fault} (g : Fault) (m : ℕ) → f ≡ g → isNone g ≡ false → given f 0 ≡ answer g m
+refused : {f : Fault} (g : Fault) (m : ℕ) → f ≡ g → isNone g ≡ false → given f 0 ≡ answer g m
 unfolding answer
 refused g m e n = rw (e, n)
 

@@ -17,7 +17,7 @@ use Rattle.gaussian.proofs.Soundness.{hit-refutes}
 use Rattle.gaussian.proofs.Fermat.{fermat}
 
 -- the powers of g below its order are distinct
-pub distinct : (g m p : ℕ) → 1 < p → IsOrder m g p → (i j : ℕ) → i < j → j < m → g ^ i % p ≢ g ^ j % p
+distinct : (g m p : ℕ) → 1 < p → IsOrder m g p → (i j : ℕ) → i < j → j < m → g ^ i % p ≢ g ^ j % p
 distinct g m p hp o i j h h′ e = lt-irrefl 0 (subst (λ (x : ℕ). 0 < x) rest pos)
   where
     d : ℕ
@@ -66,7 +66,7 @@ some-none zero test h = refl
 some-none (suc n) test h = rw (some-none n test (λ i l. h i (omega arith)), h n (omega arith))
 
 -- a type is not 0
-pub type-pos : (m t : ℕ) → IsType m t → 0 < t
+type-pos : (m t : ℕ) → IsType m t → 0 < t
 type-pos m zero ty = absurd (lt-irrefl 1 (subst (λ (x : ℕ). 1 < x + 1) (zero-mul m) (ty .0 .0)))
 type-pos m (suc t) ty = suc-le-suc zero-le
 
@@ -74,38 +74,38 @@ module _ (m t : ℕ) (hm : 1 < m) (ty : IsType m t) where
   abbrev pub p : ℕ
   p = t * m + 1
 
-  pub hp : Prime p
+  hp : Prime p
   hp = ty .0
 
-  pub size : p ≡ suc (t * m)
+  size : p ≡ suc (t * m)
   size = add-one (t * m)
 
-  pub m-pos : 0 < m
+  m-pos : 0 < m
   m-pos = le-of-lt hm
 
   pub at-least : m ≤ t * m
   at-least = subst (λ (x : ℕ). x ≤ t * m) (one-mul m) (mul-le-mul-right m (type-pos m t ty))
 
-  pub p-pos : 0 < p
+  p-pos : 0 < p
   p-pos = le-of-lt (hp .0)
 
-  pub fermat-p : (x : ℕ) → 0 < x → x < p → x ^ (t * m) % p ≡ 1
+  fermat-p : (x : ℕ) → 0 < x → x < p → x ^ (t * m) % p ≡ 1
   fermat-p x h h′ = subst (λ (n : ℕ). x ^ (t * m) % n ≡ 1) (sym size) (fermat x (t * m) (subst Prime size hp) h (subst (λ (n : ℕ). x < n) size h′))
 
-  pub two-whole : 2 ^ (t * m) % p ≡ 1
+  two-whole : 2 ^ (t * m) % p ≡ 1
   two-whole = fermat-p 2 (suc-le-suc zero-le) (omega (arith, size, at-least))
 
   abbrev pub g : ℕ
   g = 2 ^ t
 
-  pub g-pow : (j : ℕ) → g ^ j ≡ 2 ^ (t * j)
+  g-pow : (j : ℕ) → g ^ j ≡ 2 ^ (t * j)
   g-pow j = sym (pow-mul 2 t j)
 
-  pub g-whole : g ^ m % p ≡ 1
+  g-whole : g ^ m % p ≡ 1
   g-whole = ap (λ (x : ℕ). x % p) (g-pow m) ∙ two-whole
 
   -- the order of 2 ^ t is m
-  pub g-order : IsOrder m g p
+  g-order : IsOrder m g p
   g-order = (m-pos, g-whole, least)
     where
       least : (j : ℕ) → 0 < j → j < m → g ^ j % p ≢ 1

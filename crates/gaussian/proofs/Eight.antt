@@ -1,5 +1,4 @@
 -- Where 8 divides p - 1 and p is prime, 2 to (p - 1) / 2 leaves 1 modulo p (2 is a square). So a width that 8 divides has no type.
---
 use mathlib.Core.Path.{_≡_, refl, sym, ap, ap₂, _∙_, subst}
 use mathlib.Core.Logic.{_⊎_, inl, inr}
 use Prim.Native.Nat.{ℕ, zero, suc, _+_, _-_, _*_, _/_, _%_, _^_, _≤_, _<_, _∣_, zero-le, suc-le-suc}
@@ -125,7 +124,7 @@ unfolding factorial
 cancel p c zero hp h d = subst (λ (x : ℕ). p ∣ x) (one-mul c) d
 cancel p c (suc k) hp h d = euclid p (suc k) c hp (suc-le-suc zero-le) h (cancel p (suc k * c) k hp (le-of-lt h) (subst (λ (x : ℕ). p ∣ x) (mul-assoc (factorial k) (suc k) c) d))
 
-pub two-half : (n p : ℕ) → p ≡ 8 * n + 1 → Prime p → 2 ^ (4 * n) % p ≡ 1
+two-half : (n p : ℕ) → p ≡ 8 * n + 1 → Prime p → 2 ^ (4 * n) % p ≡ 1
 two-half n p e hp = ap (λ (x : ℕ). x % p) (sym one-more) ∙ last
   where
     f : ℕ

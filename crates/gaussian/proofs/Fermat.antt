@@ -74,7 +74,7 @@ binomial-theorem a (suc n) =
     ∙ omega (arith, mul-suc (sum a n (suc n)) a, mul-comm (sum a n (suc n)) a, sum-step a n (suc n), sum-suc a n (suc n), ap (λ (x : ℕ). x * a ^ suc n) (binomial-none n (suc n) (le-refl (suc n))), zero-mul (a ^ suc n))
 
 -- what p divides may be added
-pub add-dvd : (p a x : ℕ) → p ∣ x → (a + x) % p ≡ a % p
+add-dvd : (p a x : ℕ) → p ∣ x → (a + x) % p ≡ a % p
 add-dvd p a x d = ap (λ (y : ℕ). (a + y) % p) (sym (mul-div-cancel' p d) ∙ mul-comm p (x / p)) ∙ add-mul-mod-self-right a (x / p) p
 
 divides : (n k : ℕ) → Prime (suc n) → k < n → suc n ∣ binomial (suc n) (suc k)

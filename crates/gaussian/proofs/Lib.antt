@@ -9,6 +9,7 @@ pub mod Cosets
 pub mod ResidueLaws
 pub mod LogLaws
 pub mod RowLaws
+pub mod AddLaws
 pub mod TermLaws
 pub mod Answers
 pub mod Theorems

@@ -1,4 +1,4 @@
--- A passed test is what the definitions say.
+-- A test of types that is passed says what the definitions say: prime, a type, no type, the least type.
 use mathlib.Core.Path.{_≡_, sym, ap, _∙_, subst}
 use mathlib.Core.Logic.{_≢_, _⊎_, inl, inr}
 use mathlib.Core.Bool.{Bool, true, false}
@@ -16,7 +16,7 @@ eq→eqb : (a b : ℕ) → a ≡ b → T (eqb a b)
 eq→eqb a b e = subst (λ (x : ℕ). T (eqb a x)) e (eqb-refl a)
 
 -- the tests by cases
-pub unless : (a b : Bool) → T (elim a [ true ↦ false | false ↦ b ]) → (T a → ⊥) × T b
+unless : (a b : Bool) → T (elim a [ true ↦ false | false ↦ b ]) → (T a → ⊥) × T b
 unless true b t = absurd t
 unless false b t = (λ x. x, t)
 
@@ -180,7 +180,7 @@ hit-refutes m t n hm h z one ty = lt-irrefl 1 (subst (λ (x : ℕ). 1 < x) (ty .
     divides : n ∣ e / k
     divides = subst (λ (x : ℕ). n ∣ x) (sym quotient) (dvd-mul-right n c)
 
-pub no-type : (m t : ℕ) → 0 < m → T (noType m t) → ¬ IsType m t
+no-type : (m t : ℕ) → 0 < m → T (noType m t) → ¬ IsType m t
 no-type m t hm s ty = pick (else (refutes p d) (refutes′ m e p n) s)
   where
     e : ℕ

@@ -14,7 +14,8 @@ use Rattle.gaussian.specs.Table.{inK, gives, term, rowCoord, rowsOf, dra
 use Rattle.gaussian.specs.Drawing.{Residue, inRow, Adds}
 use Rattle.gaussian.proofs.Modulo.{mul-mod-left}
 use Rattle.gaussian.proofs.ResidueLaws.{residue-mod}
-use Rattle.gaussian.proofs.RowLaws.{adds-none, upTo, rows-none, rows-more, rows-all, zero-rows}
+use Rattle.gaussian.proofs.RowLaws.{zero-rows}
+use Rattle.gaussian.proofs.AddLaws.{adds-none, upTo, rows-none, rows-more, rows-all}
 
 -- what w gives in row d
 abbrev pub given : ℕ → ℕ → ℕ → ℕ → ℕ → ℕ

@@ -12,11 +12,12 @@ use Rattle.gf2.specs.Coordinates.{value, tabulate, pack}
 use Rattle.gf2.specs.Operands.{below, fromCoords}
 use Rattle.gaussian.specs.Types.{IsType, types, typeOf}
 use Rattle.gaussian.specs.Table.{some, inK, inCoset, gives, term, rowCoord, rowsOf, drawn}
-use Rattle.gaussian.specs.Statements.{Listed, TypeList, DrawnCarried}
+use Rattle.gaussian.specs.Statements.{Listed, TypeList, DrawnTable, DrawnCarried}
 use Rattle.gaussian.proofs.Entries.{both, both-left, every, at}
 use Rattle.gaussian.proofs.TypeTests.{entry, isType, noneBelow}
 use Rattle.gaussian.proofs.Soundness.{least}
 use Rattle.gaussian.proofs.Eight.{eight}
+use Rattle.gaussian.proofs.RowLaws.{row-of, rows-table}
 
 passes : T (every entry 0 types)
 passes = tt
@@ -59,6 +60,10 @@ type-list m h h′ = subst (λ (y : ℕ). Listed y (getD types (m - 2) 0)) back 
   where
     back : m - 2 + 2 ≡ m
     back = omega arith
+
+pub drawn-table : (m t : ℕ) → DrawnTable m t
+unfolding drawn
+drawn-table m t = record { isTable = rows-table m _; rows = λ d h. row-of m m _ d h }
 
 pub drawn-carried : DrawnCarried
 unfolding sum value tabulate pack below fromCoords typeOf some inK inCoset gives term rowCoord rowsOf drawn

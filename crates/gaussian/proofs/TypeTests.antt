@@ -1,4 +1,4 @@
--- The tests that antt computes.
+-- The tests of types that antt computes: a type, no type, no lesser type, an entry of the list.
 use mathlib.Core.Bool.{Bool, true, false}
 use Prim.Native.Nat.{ℕ, zero, suc, _+_, _*_, _/_, _%_, _^_}
 use lib.Dec.{eqb, ltb}
@@ -36,6 +36,7 @@ isType m t = both (noDiv (t * m + 1) 2 (t * m + 1)) (both (eqb (2 ^ (t * m) % (t
 abbrev pub refutes : ℕ → ℕ → Bool
 refutes p d = both (ltb 1 d) (both (ltb d p) (eqb (p % d) 0))
 
+-- n above 1 hits
 abbrev pub refutes′ : ℕ → ℕ → ℕ → ℕ → Bool
 refutes′ m e p n = both (ltb 1 n) (hits m e p n)
 

@@ -1,11 +1,12 @@
 -- What is proved of the list of types and of drawn tables: the statements alone.
 use mathlib.Core.Path.{_≡_}
 use mathlib.Core.Logic.{_↔_}
-use Prim.Native.Nat.{ℕ, _∣_, _≤_}
-use Rattle.gf2.specs.Operands.{maxWidth}
+use Prim.Native.Nat.{ℕ, _∣_, _<_, _≤_}
+use Rattle.gf2.specs.Operands.{maxWidth, bytesFor, fromCoords}
+use Rattle.gf2.specs.Tables.{IsTable, row}
 use Rattle.table.specs.Carried.{carried2, carried3, carried4, carried5}
-use Rattle.gaussian.specs.Types.{IsType, LeastType, typeOf}
-use Rattle.gaussian.specs.Table.{drawn}
+use Rattle.gaussian.specs.Types.{modulus, IsType, LeastType, typeOf}
+use Rattle.gaussian.specs.Table.{rowCoord, drawn}
 
 -- what the list's entry t says of the width m
 pub record Listed (m t : ℕ) : Type 0 where
@@ -19,6 +20,11 @@ pub record Listed (m t : ℕ) : Type 0 where
 -- "A fixed list holds the type of each width 2 to 255"
 abbrev pub TypeList : Type 0
 TypeList = (m : ℕ) → 2 ≤ m → m ≤ maxWidth → Listed m (typeOf m)
+
+-- "A table is m rows, each an operand of W bytes, m·W in all. Row d holds the coordinates ..": for any m and T
+pub record DrawnTable (m t : ℕ) : Type 0 where
+  pub isTable : IsTable m (drawn m t)
+  pub rows : (d : ℕ) → d < m → row m (drawn m t) d ≡ fromCoords (bytesFor m) m (rowCoord (modulus m t) t d)
 
 -- "Four tables are carried in the program itself": those that are drawn for their widths
 pub record DrawnCarried : Type 0 where

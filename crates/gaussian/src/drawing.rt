@@ -84,6 +84,7 @@ fn clear(table: &mut [u8])
     }
 }
 
+// The table of width m and type T: the sum of the terms of all w below p.
 pub(crate) fn fill(table: &mut [u8], m: usize, t: usize)
     requires { ⌜ Drawable m t × HasRow m 0 (now table) ⌝ }
     ensures { λ _. ⌜ now (table .exit) ≡ drawn m t ⌝ }

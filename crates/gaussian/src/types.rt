@@ -5,8 +5,10 @@ ghost use Rattle.gf2.specs.Operands.{maxWidth};
 ghost use Rattle.gaussian.specs.Types.{typeOf};
 use operand::Operand;
 
+// Widths 2 to the greatest.
 const LISTED: usize = Operand::MAX_WIDTH - 1;
 
+// The greatest type of the list.
 pub(crate) const MAX_TYPE: usize = 25;
 
 // The least type of each width from 2 on, or 0 where 8 divides the width.
@@ -267,6 +269,7 @@ const TYPES: [u8; LISTED] = [
     6,
 ];
 
+// The entry for a width.
 pub(crate) fn listed(width: usize) -> usize
     requires { ⌜ (2 ≤ width) × (width ≤ maxWidth) ⌝ }
     ensures { λ r. ⌜ r ≡ typeOf width ⌝ }

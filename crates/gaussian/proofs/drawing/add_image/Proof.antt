@@ -1,6 +1,6 @@
 -- `gaussian::drawing::add_image` meets its contract.
 use Rattle.gaussian.proofs.LogLaws.{gives-odd, gives-even, log-less, gives-log, gives-none}
-use Rattle.gaussian.proofs.RowLaws.{row-none, row-same}
+use Rattle.gaussian.proofs.AddLaws.{row-none, row-same}
 use borrow.Author.Needs.{needs}
 use Rattle.gaussian.proofs.drawing.add_image.Statement.{statement}
 use Rattle.gaussian.proofs.drawing.add_image.Tie as tie

@@ -3,7 +3,7 @@ use Prim.Native.Nat.{_-_}
 use native.Mathlib.Omega.{arith}
 use Rattle.gaussian.specs.Types.{modulus}
 use Rattle.gaussian.proofs.ResidueLaws.{residue-mod}
-use Rattle.gaussian.proofs.RowLaws.{has-row}
+use Rattle.gaussian.proofs.AddLaws.{has-row}
 use Rattle.gaussian.proofs.TermLaws.{TermLoop, term-start, term-more, term-done}
 use borrow.Author.Needs.{needs}
 use Rattle.gaussian.proofs.drawing.add_images.Statement.{statement}

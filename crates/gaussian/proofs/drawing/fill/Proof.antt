@@ -7,7 +7,7 @@ use Rattle.gf2.specs.Coordinates.{tabulate}
 use Rattle.gf2.specs.Operands.{bytesFor}
 use Rattle.gaussian.specs.Types.{modulus}
 use Rattle.gaussian.proofs.ResidueLaws.{residue}
-use Rattle.gaussian.proofs.RowLaws.{has-row}
+use Rattle.gaussian.proofs.AddLaws.{has-row}
 use Rattle.gaussian.proofs.TermLaws.{partial, sum-start, sum-more, sum-done}
 use borrow.Author.Needs.{needs}
 use Rattle.gaussian.proofs.drawing.fill.Statement.{statement}

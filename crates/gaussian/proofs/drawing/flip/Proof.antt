@@ -3,7 +3,8 @@ use mathlib.Core.Path.{refl, ap}
 use Prim.Native.Nat.{_+_, _*_, _/_}
 use native.Mathlib.Nat.{le-of-lt}
 use native.Mathlib.Omega.{arith}
-use Rattle.gaussian.proofs.RowLaws.{byte-in, row-small, flip-adds}
+use Rattle.gaussian.proofs.RowLaws.{byte-in, row-small}
+use Rattle.gaussian.proofs.AddLaws.{flip-adds}
 use borrow.Author.Needs.{needs}
 use Rattle.gaussian.proofs.drawing.flip.Statement.{statement}
 use Rattle.gaussian.proofs.drawing.flip.Tie as tie

@@ -8,7 +8,7 @@ use native.Mathlib.Nat.{lt-of-lt-of-le}
 use borrow.Author.Tests.{lt-ltb, le-ltb}
 use Rattle.gf2.specs.Operands.{choose}
 use Rattle.gaussian.specs.Drawing.{inRow, Adds}
-use Rattle.gaussian.proofs.RowLaws.{row-none, row-more, row-same, up-to, has-row}
+use Rattle.gaussian.proofs.AddLaws.{row-none, row-more, row-same, up-to, has-row}
 use borrow.Author.Needs.{needs}
 use Rattle.gaussian.proofs.drawing.flip_row.Statement.{statement}
 use Rattle.gaussian.proofs.drawing.flip_row.Tie as tie
