@@ -1,0 +1,280 @@
+-- The steps of the code that writes a card.
+-- Numbers and rows: the loops over the places of a row and over the rows.
+-- Lengths: no card is longer than `longest`.
+-- Calls: the answers of `write`, and the output afterwards.
+use mathlib.Core.Path.{_≡_, refl, sym, ap, _∙_}
+use mathlib.Core.List.{List, [], _∷_, _++_}
+use mathlib.Core.Bool.{true, false}
+use Prim.Native.Nat.{ℕ, zero, suc, _+_, _-_, _*_, _/_, _%_, _<_, _≤_}
+use native.Mathlib.Nat.{suc-mul, mul-le-mul}
+use native.Mathlib.Numerals.{add-one}
+use native.Mathlib.Decide.{decLt}
+use native.Mathlib.Omega.{arith}
+use lib.ListN.{length, take, drop, set, length-append}
+use lib.Seq.{sets}
+use lib.Dec.{ltb}
+use borrow.Author.Tests.{lt-ltb, le-ltb}
+use Rattle.gf2.specs.Coordinates.{coord}
+use Rattle.gf2.specs.Operands.{maxWidth, bytesFor}
+use Rattle.gf2.specs.Tables.{row}
+use Rattle.operand.specs.declared.fault.Fault.{Fault}
+use Rattle.operand.specs.declared.fault.Fault.the-variants.{None, OutputShort}
+use Rattle.operand.specs.Faults.{isNone, when}
+use Rattle.operand.specs.Judgements.{widthFault, lengthFault}
+use Rattle.operand.proofs.FaultLaws.{or-both, first-more, two-fine, two-first, two-second, width-fine, length-fine}
+use Rattle.table.specs.Judgements.{rowsFault, shapeFault}
+use Rattle.card.specs.declared.CardAnswer.{CardAnswer}
+use Rattle.card.specs.Numbers.{number}
+use Rattle.card.specs.Rows.{places, steps, onesOf, rowCard, rowsCard}
+use Rattle.card.specs.Cards.{card}
+use Rattle.card.specs.Calls.{writeFault, writeCall, writeCard}
+use Rattle.card.specs.Steps.{longest}
+use Rattle.card.proofs.Places.{places-zero, places-one, places-ascend, count-le}
+use Rattle.card.proofs.ReadSteps.{sets-append, sets-front}
+
+one-byte : (n : ℕ) → n < 128 → number n ≡ n ∷ []
+unfolding number
+one-byte n h = rw (lt-ltb n 128 h)
+
+two-bytes : (n : ℕ) → 128 ≤ n → number n ≡ (128 + n % 128) ∷ (n / 128) ∷ []
+unfolding number
+two-bytes n h = rw (le-ltb n 128 h)
+
+number-le : (n : ℕ) → length (number n) ≤ 2
+number-le n = elim (decLt n 128) [
+  | yes h ↦ rw (one-byte n h) (omega arith)
+  | no h ↦ rw (two-bytes n (omega arith)) (omega arith)
+]
+
+module _ (n at : ℕ) (out : List ℕ) where
+  pub put-short : n < 128 → (at + 1 ≡ at + length (number n)) × (set out at n ≡ sets out at (number n))
+  put-short h = rw (one-byte n h) (refl, refl)
+
+  pub put-long : 128 ≤ n → (at + 2 ≡ at + length (number n)) × (set (set out at (128 + n % 128)) (at + 1) (n / 128) ≡ sets out at (number n))
+  put-long h = rw (two-bytes n h, add-one) (refl, refl)
+
+-- the places from i on
+module _ (m : ℕ) (f : ℕ → ℕ) (i : ℕ) where
+  place-left : i < m → m - i ≡ suc (m - (i + 1))
+  place-left h = omega arith
+
+  left-zero : i < m → f i ≡ 0 → places f i (m - i) ≡ places f (i + 1) (m - (i + 1))
+  left-zero h z = rw (place-left h) (places-zero f i (m - (i + 1)) z)
+
+  left-one : i < m → (f i ≡ 0 → ⊥) → places f i (m - i) ≡ i ∷ places f (i + 1) (m - (i + 1))
+  left-one h n = rw (place-left h) (places-one f i (m - (i + 1)) n)
+
+  left-none : m ≤ i → places f i (m - i) ≡ []
+  unfolding places
+  left-none h = let z : m - i ≡ 0 = omega arith in rw z
+
+all-left : (m : ℕ) (f : ℕ → ℕ) → places f 0 (m - 0) ≡ places f 0 m
+all-left m f = let z : m - 0 ≡ m = omega arith in rw z
+
+pub ones-le : (m : ℕ) (f : ℕ → ℕ) → length (places f 0 m) ≤ m
+ones-le m f = omega (arith, count-le (places-ascend f 0 m m (omega arith)))
+
+-- the loop that counts the ones: n of them stand below i
+pub record OnesTo (m : ℕ) (f : ℕ → ℕ) (n i : ℕ) : Type 0 where
+  pub within : i ≤ m
+  pub few : n ≤ i
+  pub counted : n + length (places f i (m - i)) ≡ length (places f 0 m)
+
+pub ones-none : (m : ℕ) (f : ℕ → ℕ) → OnesTo m f 0 0
+ones-none m f = record { within = omega arith; few = omega arith; counted = omega (arith, ap length (all-left m f)) }
+
+module _ {m : ℕ} {f : ℕ → ℕ} {n i : ℕ} (to : OnesTo m f n i) where
+  pub ones-zero : i < m → f i ≡ 0 → OnesTo m f n (i + 1)
+  ones-zero h z =
+      let few = to .few in
+      record { within = omega arith; few = omega arith; counted = omega (arith, to .counted, ap length (left-zero m f i h z)) }
+
+  pub ones-one : i < m → (f i ≡ 0 → ⊥) → OnesTo m f (n + 1) (i + 1)
+  ones-one h z =
+      let few = to .few in
+      record { within = omega arith; few = omega arith; counted = omega (arith, to .counted, ap length (left-one m f i h z)) }
+
+  pub ones-done : m ≤ i → n ≡ length (places f 0 m)
+  ones-done h = omega (arith, to .counted, ap length (left-none m f i h))
+
+-- the loop that puts the places: those below i are stored, and what is left is put at `next`
+pub record StepsTo (m : ℕ) (f : ℕ → ℕ) (at : ℕ) (old new : List ℕ) (next free i : ℕ) : Type 0 where
+  pub within : i ≤ m
+  pub below : free ≤ i
+  pub ends : next + length (steps free (places f i (m - i))) ≡ at + length (steps 0 (places f 0 m))
+  pub stored : sets new next (steps free (places f i (m - i))) ≡ sets old at (steps 0 (places f 0 m))
+  pub kept : length new ≡ length old
+
+pub steps-none : (m : ℕ) (f : ℕ → ℕ) (at : ℕ) (old : List ℕ) → StepsTo m f at old old at 0 0
+steps-none m f at old = record {
+  within = omega arith;
+  below = omega arith;
+  ends = ap (λ ps. at + length (steps 0 ps)) (all-left m f);
+  stored = ap (λ ps. sets old at (steps 0 ps)) (all-left m f);
+  kept = refl;
+}
+
+module _ {m : ℕ} {f : ℕ → ℕ} {at : ℕ} {old new : List ℕ} {next free i : ℕ} (to : StepsTo m f at old new next free i) where
+  pub steps-zero : i < m → f i ≡ 0 → StepsTo m f at old new next free (i + 1)
+  steps-zero h z =
+      let e = left-zero m f i h z in
+      let b = to .below in record {
+        within = omega arith;
+        below = omega arith;
+        ends = ap (λ ps. next + length (steps free ps)) (sym e) ∙ to .ends;
+        stored = ap (λ ps. sets new next (steps free ps)) (sym e) ∙ to .stored;
+        kept = to .kept;
+      }
+
+  steps-split : i < m → (f i ≡ 0 → ⊥) → steps free (places f i (m - i)) ≡ number (i - free) ++ steps (i + 1) (places f (i + 1) (m - (i + 1)))
+  unfolding steps
+  steps-split h n = rw (left-one m f i h n)
+
+  pub steps-one : {then : ℕ} {put : List ℕ} → i < m → (f i ≡ 0 → ⊥) → then ≡ next + length (number (i - free)) → put ≡ sets new next (number (i - free)) →
+      length put ≡ length new → StepsTo m f at old put then (i + 1) (i + 1)
+  steps-one h n t p k =
+      let e = steps-split h n in
+      let rest = steps (i + 1) (places f (i + 1) (m - (i + 1))) in record {
+        within = omega arith;
+        below = omega arith;
+        ends = omega (arith, t, to .ends, ap length e, length-append (number (i - free)) rest);
+        stored = rw (p, t) (sym (sets-append new next (number (i - free)) rest) ∙ ap (sets new next) (sym e) ∙ to .stored);
+        kept = k ∙ to .kept;
+      }
+
+  steps-all : m ≤ i → steps free (places f i (m - i)) ≡ []
+  unfolding steps
+  steps-all h = rw (left-none m f i h)
+
+  pub steps-done : m ≤ i → (next ≡ at + length (steps 0 (places f 0 m))) × (new ≡ sets old at (steps 0 (places f 0 m)))
+  steps-done h = (omega (arith, to .ends, ap length (steps-all h)), ap (sets new next) (sym (steps-all h)) ∙ to .stored)
+
+pub row-length : (m : ℕ) (x : List ℕ) → length (rowCard m x) ≡ length (number (length (onesOf m x))) + length (steps 0 (onesOf m x))
+unfolding rowCard
+row-length m x = length-append (number (length (onesOf m x))) (steps 0 (onesOf m x))
+
+pub row-put : (m : ℕ) (x old : List ℕ) (at : ℕ) {mid new : List ℕ} {next : ℕ} → next ≡ at + length (number (length (onesOf m x))) →
+    mid ≡ sets old at (number (length (onesOf m x))) → new ≡ sets mid next (steps 0 (onesOf m x)) → new ≡ sets old at (rowCard m x)
+unfolding rowCard
+row-put m x old at e p q = q ∙ rw (e, p) (sym (sets-append old at (number (length (onesOf m x))) (steps 0 (onesOf m x))))
+
+-- row d, as it is lent
+pub lent-row : (m d size : ℕ) (t : List ℕ) → size ≡ bytesFor m → take (d * size + size - d * size) (drop (d * size) t) ≡ row m t d
+unfolding row
+lent-row m d size t e =
+    let w : d * bytesFor m + bytesFor m - d * bytesFor m ≡ bytesFor m = omega arith in
+    rw (e, w)
+
+-- the loop over the rows: those below d are stored, and what is left is put at `next`
+pub record RowsPut (m : ℕ) (table : List ℕ) (start count at : ℕ) (old new : List ℕ) (next d : ℕ) : Type 0 where
+  pub above : start ≤ d
+  pub within : d ≤ start + count
+  pub ends : next + length (rowsCard m table d (start + count - d)) ≡ at + length (rowsCard m table start count)
+  pub stored : sets new next (rowsCard m table d (start + count - d)) ≡ sets old at (rowsCard m table start count)
+  pub kept : length new ≡ length old
+
+pub put-none : (m : ℕ) (table : List ℕ) (start count at : ℕ) (old : List ℕ) → RowsPut m table start count at old old at start
+put-none m table start count at old =
+    let z : start + count - start ≡ count = omega arith in
+    record { above = omega arith; within = omega arith; ends = rw z; stored = rw z; kept = refl }
+
+module _ {m : ℕ} {table : List ℕ} {start count at : ℕ} {old new : List ℕ} {next d : ℕ} (to : RowsPut m table start count at old new next d) where
+  put-split : d < start + count → rowsCard m table d (start + count - d) ≡ rowCard m (row m table d) ++ rowsCard m table (d + 1) (start + count - (d + 1))
+  unfolding rowsCard
+  put-split h = let e : start + count - d ≡ suc (start + count - (d + 1)) = omega arith in rw e
+
+  -- the next row ends within the card
+  pub put-fits : d < start + count → next + length (rowCard m (row m table d)) ≤ at + length (rowsCard m table start count)
+  put-fits h = omega (arith, to .ends, ap length (put-split h), length-append (rowCard m (row m table d)) (rowsCard m table (d + 1) (start + count - (d + 1))))
+
+  pub put-more : {then : ℕ} {put : List ℕ} → d < start + count → then ≡ next + length (rowCard m (row m table d)) → put ≡ sets new next (rowCard m (row m table d)) →
+      length put ≡ length new → RowsPut m table start count at old put then (d + 1)
+  put-more h t p k =
+      let a = to .above in
+      let e = put-split h in
+      let rest = rowsCard m table (d + 1) (start + count - (d + 1)) in record {
+        above = omega arith;
+        within = omega arith;
+        ends = omega (arith, t, to .ends, ap length e, length-append (rowCard m (row m table d)) rest);
+        stored = rw (p, t) (sym (sets-append new next (rowCard m (row m table d)) rest) ∙ ap (sets new next) (sym e) ∙ to .stored);
+        kept = k ∙ to .kept;
+      }
+
+  put-all : start + count ≤ d → rowsCard m table d (start + count - d) ≡ []
+  unfolding rowsCard
+  put-all h = let z : start + count - d ≡ 0 = omega arith in rw z
+
+  pub put-done : start + count ≤ d → (next ≡ at + length (rowsCard m table start count)) × (new ≡ sets old at (rowsCard m table start count))
+  put-done h = (omega (arith, to .ends, ap length (put-all h)), ap (sets new next) (sym (put-all h)) ∙ to .stored)
+
+-- lengths
+
+steps-le : (free : ℕ) (ps : List ℕ) → length (steps free ps) ≤ 2 * length ps
+unfolding steps
+steps-le free [] = omega arith
+steps-le free (p ∷ ps) = omega (arith, length-append (number (p - free)) (steps (p + 1) ps), number-le (p - free), steps-le (p + 1) ps)
+
+row-le : (m : ℕ) (x : List ℕ) → length (rowCard m x) ≤ 2 * m + 2
+row-le m x = omega (arith, row-length m x, number-le (length (onesOf m x)), steps-le 0 (onesOf m x), ones-le m (coord x))
+
+rows-le : (m : ℕ) (table : List ℕ) (start count : ℕ) → length (rowsCard m table start count) ≤ count * (2 * m + 2)
+unfolding rowsCard
+rows-le m table start zero = omega arith
+rows-le m table start (suc count) = rw (length-append, suc-mul) (omega (arith, row-le m (row m table start), rows-le m table (start + 1) count))
+
+pub one-length : length (number 1) ≡ 1
+unfolding number
+one-length = refl
+
+pub card-length : (m : ℕ) (table : List ℕ) → length (card m table) ≡ 1 + length (number m) + length (rowsCard m table 0 m)
+unfolding card number
+card-length m table = omega (arith, length-append (number 1) (number m ++ rowsCard m table 0 m), length-append (number m) (rowsCard m table 0 m))
+
+pub card-le : (m : ℕ) (table : List ℕ) → m ≤ maxWidth → length (card m table) ≤ longest
+card-le m table h =
+    let wide : 2 * m + 2 ≤ 2 * maxWidth + 2 = omega arith in
+    omega (arith, card-length m table, number-le m, rows-le m table 0 m, mul-le-mul h wide)
+
+pub card-put : (m : ℕ) (table old : List ℕ) {a b new : List ℕ} {form rows : ℕ} → form ≡ 0 + length (number 1) → a ≡ sets old 0 (number 1) →
+    rows ≡ form + length (number m) → b ≡ sets a form (number m) → new ≡ sets b rows (rowsCard m table 0 m) → new ≡ sets old 0 (card m table)
+unfolding card
+card-put m table old {a} {b} {form = form} {rows} ef ea er eb en =
+    let r = rowsCard m table 0 m in
+    let e1 : sets b rows r ≡ sets a form (number m ++ r) = rw (er, eb) (sym (sets-append a form (number m) r)) in
+    let e2 : sets a form (number m ++ r) ≡ sets old 0 (number 1 ++ (number m ++ r)) = rw (ef, ea) (sym (sets-append old 0 (number 1) (number m ++ r))) in
+    en ∙ e1 ∙ e2
+
+-- what is known of a table without fault of shape
+pub shape-size : (m : ℕ) (table : List ℕ) → isNone (shapeFault m table) ≡ true → (m ≤ maxWidth) × (length table ≡ m * bytesFor m)
+unfolding shapeFault
+shape-size m table e =
+    let a = or-both (widthFault m) _ (ap isNone (sym (first-more (widthFault m) (lengthFault (length table) (m * bytesFor m)) (rowsFault m table ∷ []))) ∙ e) in
+    (width-fine m (a .0) .1, length-fine (length table) (m * bytesFor m) (two-fine _ _ (a .1) .0))
+
+-- the answer of `write`, and the output afterwards
+pub record Wrote (m : ℕ) (table old : List ℕ) (r : CardAnswer) (new : List ℕ) : Type 0 where
+  pub answers : r ≡ writeCall m table old
+  pub leaves : new ≡ writeCard m table old
+
+module _ (m : ℕ) (table old : List ℕ) where
+  wrote-fault : {f : Fault} → writeFault m table (length old) ≡ f → isNone f ≡ false → Wrote m table old (record { fault = f; value = 0 }) old
+  wrote-fault e n = record { answers = rw (e, n); leaves = rw (e, n) }
+
+  pub wrote-shape : {f : Fault} → f ≡ shapeFault m table → isNone f ≡ false → Wrote m table old (record { fault = f; value = 0 }) old
+  unfolding writeFault
+  wrote-shape {f} e n = wrote-fault (two-first (shapeFault m table) (when (ltb (length old) (length (card m table))) OutputShort) (ap isNone (sym e) ∙ n) ∙ sym e) n
+
+  module _ (shape : isNone (shapeFault m table) ≡ true) {n : ℕ} (size : n ≡ length (card m table)) where
+    pub wrote-short : length old < n → Wrote m table old (record { fault = OutputShort; value = 0 }) old
+    unfolding writeFault isNone
+    wrote-short h = wrote-fault (two-second (shapeFault m table) (when (ltb (length old) (length (card m table))) OutputShort) shape ∙ rw (lt-ltb (length old) (length (card m table)) (omega arith))) refl
+
+    wrote-none : n ≤ length old → writeFault m table (length old) ≡ None
+    unfolding writeFault isNone
+    wrote-none h = two-second (shapeFault m table) (when (ltb (length old) (length (card m table))) OutputShort) shape ∙ rw (le-ltb (length old) (length (card m table)) (omega arith))
+
+    pub wrote-card : {new : List ℕ} → n ≤ length old → new ≡ sets old 0 (card m table) → Wrote m table old (record { fault = None; value = n }) new
+    unfolding isNone
+    wrote-card h e =
+        let z = wrote-none h in
+        record { answers = rw (z, size); leaves = e ∙ rw z (sets-front old (card m table) (omega arith)) }

@@ -1,0 +1,64 @@
+-- `card::reading::put_bytes` meets its contract.
+use mathlib.Core.Path.{_≡_, refl, _∙_}
+use Prim.Native.Nat.{_-_, _≤_}
+use native.Mathlib.Omega.{arith}
+use lib.ListN.{length, take}
+use lib.Seq.{sets}
+use Rattle.gf2.specs.Operands.{carriedBytes}
+use Rattle.card.proofs.ReadSteps.{sets-one}
+use borrow.Author.Needs.{needs}
+use Rattle.card.proofs.reading.put_bytes.Statement.{statement}
+use Rattle.card.proofs.reading.put_bytes.Tie as tie
+
+abbrev Inv-loop : tie.InvT-loop
+Inv-loop out₀ at size row b₀ out b = (b ≤ size) × (out ≡ sets out₀ at (take b row)) × (length out ≡ length out₀)
+
+abbrev μ-loop : tie.MeasureT-loop
+μ-loop out₀ at size row b₀ out b = size - b
+
+loop-holds : tie.Need-loop-holds Inv-loop μ-loop
+loop-holds c = (omega arith, refl, refl)
+
+add-put : tie.Need-add-put Inv-loop μ-loop
+add-put c = search needs
+
+array-read-put : tie.Need-array-read-put Inv-loop μ-loop
+array-read-put c = search needs
+
+put-requires : tie.Need-put-requires Inv-loop μ-loop
+put-requires c κs = search needs
+
+add-b : tie.Need-add-b Inv-loop μ-loop
+add-b c = search needs
+
+loop-less : tie.Need-loop-less Inv-loop μ-loop
+loop-less c = search needs
+
+loop-again : tie.Need-loop-again Inv-loop μ-loop
+loop-again c =
+    let w = c .before .before .before .before .before .loop in
+    let a = c .before .before .before .before .before .before .before .args in
+    let len : length (a .t3) ≡ carriedBytes = search needs in
+    (omega arith, c .before .before .put .ensures ∙ rw (w .inv .1) (sets-one (a .out .now) (a .t3) (a .at) (w .b) (omega arith)), c .before .before .put .kept .0 ∙ w .inv .2)
+
+same-length : tie.Need-same-length Inv-loop μ-loop
+same-length c = c .before .loop .inv .2
+
+returns : tie.Need-returns Inv-loop μ-loop
+returns c = let e : c .before .loop .b ≡ c .before .before .before .args .size = omega arith in rw e at (c .before .loop .inv .1)
+
+pub put-bytes-spec : {M : Type 1} → statement M
+put-bytes-spec =
+    tie.close
+    (tie.spec
+    Inv-loop
+    μ-loop
+    loop-holds
+    add-put
+    array-read-put
+    put-requires
+    add-b
+    loop-less
+    loop-again
+    same-length
+    returns)

@@ -1,0 +1,40 @@
+-- `card::reading::row_at` meets its contract.
+use mathlib.Core.Path.{sym, ap, _∙_}
+use Rattle.card.specs.Steps.{told}
+use Rattle.card.proofs.ReadSteps.{row-refused, row-some, row-far}
+use borrow.Author.Needs.{needs}
+use Rattle.card.proofs.reading.row_at.Statement.{statement}
+use Rattle.card.proofs.reading.row_at.Tie as tie
+
+number-at-requires : tie.Need-number-at-requires
+number-at-requires c κs = search needs
+
+enum-known-f : tie.Need-enum-known-f
+enum-known-f c = search needs
+
+enum-known-count : tie.Need-enum-known-count
+enum-known-count c = search needs
+
+places-at-requires : tie.Need-places-at-requires
+places-at-requires c κs = search needs
+
+returns : tie.Need-returns
+returns c = row-refused _ _ (sym (c .before .before .before .number-at .ensures) ∙ ap (told _) (c .before .f .given .1))
+
+returns-2 : tie.Need-returns-2
+returns-2 c = row-some _ _ (sym (c .before .before .before .before .before .number-at .ensures) ∙ ap (told _) (c .before .before .before .count .given .1)) (c .before .if1 .taken) (c .places-at .ensures)
+
+returns-3 : tie.Need-returns-3
+returns-3 c = row-far _ _ (sym (c .before .before .before .before .number-at .ensures) ∙ ap (told _) (c .before .before .count .given .1)) (c .if1 .left)
+
+pub row-at-spec : {M : Type 1} → statement M
+row-at-spec =
+    tie.close
+    (tie.spec
+    number-at-requires
+    enum-known-f
+    enum-known-count
+    places-at-requires
+    returns
+    returns-2
+    returns-3)

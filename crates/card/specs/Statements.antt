@@ -1,0 +1,62 @@
+-- What is proved of cards beside the contracts of the calls: the statements alone, over the definitions that the contracts cite.
+-- Numbers, rows and cards: what is written is read as it was, and what is read is written as it was.
+-- A table has exactly one card.
+use mathlib.Core.Path.{_≡_}
+use mathlib.Core.List.{List, _++_}
+use Prim.Native.Nat.{ℕ, _+_, _*_, _<_, _≤_}
+use lib.ListN.{length, getD, take}
+use Rattle.gf2.specs.Operands.{maxWidth, bytesFor, IsOperand}
+use Rattle.gf2.specs.Tables.{row, IsTable}
+use Rattle.operand.specs.declared.fault.Fault.the-variants.{None}
+use Rattle.card.specs.Numbers.{number, numberLimit, got, readNumber}
+use Rattle.card.specs.Rows.{rowsCard, rowRange, readRows}
+use Rattle.card.specs.Cards.{card}
+use Rattle.card.specs.Calls.{inFront, readCall, readTable, writeCall, writeCard}
+
+-- every element of a list is a byte
+abbrev pub Bytes : List ℕ → Type 0
+Bytes l = (b : ℕ) → getD l b 0 < 256
+
+pub record NumberTrips : Type 0 where
+  pub readWritten : (n : ℕ) (rest : List ℕ) → n < numberLimit → readNumber (number n ++ rest) ≡ got n rest
+  pub writtenRead : (s : List ℕ) (n : ℕ) (rest : List ℕ) → Bytes s → readNumber s ≡ got n rest → s ≡ number n ++ rest
+
+-- `count` rows of a table from row `start` on, whatever follows them
+pub record RowTrips (m : ℕ) : Type 0 where
+  pub readWritten : (table : List ℕ) (start count : ℕ) (rest : List ℕ) →
+      ((d : ℕ) → start ≤ d → d < start + count → IsOperand (bytesFor m) m (row m table d)) →
+      readRows m count (rowsCard m table start count ++ rest) ≡ got (rowRange m table start count) rest
+  pub writtenRead : (table : List ℕ) (start count : ℕ) (s rest : List ℕ) → Bytes s →
+      readRows m count s ≡ got (rowRange m table start count) rest →
+      s ≡ rowsCard m table start count ++ rest
+
+-- a table of width m and its card
+pub record TableTrip (m : ℕ) (table : List ℕ) : Type 0 where
+  -- reading its card into a buffer with room gives m and the table
+  pub answers : (old : List ℕ) → m * bytesFor m ≤ length old → readCall (card m table) old ≡ (record { fault = None; value = m })
+  pub fills : (old : List ℕ) → m * bytesFor m ≤ length old → readTable (card m table) old ≡ inFront table old
+  -- and it is the only card from which these are read
+  pub only : (s old : List ℕ) → Bytes s → readCall s old ≡ (record { fault = None; value = m }) → readTable s old ≡ inFront table old → s ≡ card m table
+
+-- the width and the table that reading the card s finds, where the lent table is `old`
+abbrev pub widthRead : List ℕ → List ℕ → ℕ
+widthRead s old = readCall s old .value
+
+abbrev pub tableRead : List ℕ → List ℕ → List ℕ
+tableRead s old = take (widthRead s old * bytesFor (widthRead s old)) (readTable s old)
+
+-- a card s from which a table of width m is read into a buffer
+pub record CardTrip (s : List ℕ) (m : ℕ) (table : List ℕ) : Type 0 where
+  pub least : 2 ≤ m
+  pub greatest : m ≤ maxWidth
+  pub shape : IsTable m table
+  pub isCard : card m table ≡ s
+  -- writing the table gives the very card back
+  pub answers : (out : List ℕ) → length s ≤ length out → writeCall m table out ≡ (record { fault = None; value = length s })
+  pub writes : (out : List ℕ) → length s ≤ length out → writeCard m table out ≡ inFront s out
+
+pub record CardLaws : Type 0 where
+  pub numbers : NumberTrips
+  pub rows : (m : ℕ) → m ≤ maxWidth → RowTrips m
+  pub tables : (m : ℕ) (table : List ℕ) → 2 ≤ m → m ≤ maxWidth → IsTable m table → TableTrip m table
+  pub cards : (s old : List ℕ) → Bytes s → readCall s old .fault ≡ None → CardTrip s (widthRead s old) (tableRead s old)

@@ -1,0 +1,238 @@
+// Reading a card, in byte order. A part is read from a place in the card on; the code says its value and the place after it, or a fault.
+ghost use mathlib.Core.Path.{_≡_};
+ghost use Prim.Native.Nat.{_+_, _^_, _*_, _<_, _≤_};
+ghost use lib.ListN.{set, take, drop};
+ghost use lib.Seq.{sets};
+ghost use Rattle.gf2.specs.Operands.{maxWidth, carriedBytes};
+ghost use Rattle.card.specs.Numbers.{readNumber};
+ghost use Rattle.card.specs.Rows.{readPlaces, readRow, readRows};
+ghost use Rattle.card.specs.Cards.{lentFault, readWidth, readHead};
+ghost use Rattle.card.specs.Calls.{readCall, readTable};
+ghost use Rattle.card.specs.Steps.{longest, told, toldRow, carriedPlaces, RowsRead};
+use crate::CardAnswer;
+use crate::refused;
+use operand::Fault;
+use operand::Operand;
+
+// A value and the place after it, or a fault.
+pub(crate) enum Step {
+    Got(usize, usize),
+    Refused(Fault),
+}
+
+// A row, and where it ends.
+pub(crate) struct Row {
+    pub bytes: [u8; Operand::BYTES],
+    pub end: Step,
+}
+
+fn number_at(card: &[u8], at: usize) -> Step
+    ensures { λ r. ⌜ told (now (card .entry)) r ≡ readNumber (drop at (now (card .entry))) ⌝ }
+{
+    if card.len() <= at {
+        return Step::Refused(Fault::CardEnds);
+    }
+    let low = card[at] as usize;
+    let next = at + 1;
+    if low < 128 {
+        return Step::Got(low, next);
+    }
+    if card.len() <= next {
+        return Step::Refused(Fault::CardEnds);
+    }
+    let high = card[next] as usize;
+    if high == 0 {
+        return Step::Refused(Fault::CardNumber);
+    }
+    if high < 128 {
+        Step::Got(low - 128 + high * 128, next + 1)
+    } else {
+        Step::Refused(Fault::CardNumber)
+    }
+}
+
+// The value of bit j of a byte.
+fn bit_value(j: usize) -> u8
+    requires { ⌜ j < 8 ⌝ }
+    ensures { λ r. ⌜ r ≡ 2 ^ j ⌝ }
+{
+    1u8 << j
+}
+
+// A row of `count` ones. Each place is above the ones before, so that its bit is still 0.
+fn places_at(card: &[u8], at: usize, width: usize, count: usize) -> Row
+    requires { ⌜ width ≤ maxWidth ⌝ }
+    ensures { λ r. ⌜ toldRow (now (card .entry)) r ≡ carriedPlaces width (readPlaces width 0 count (drop at (now (card .entry)))) ⌝ }
+{
+    let mut bytes = [0u8; Operand::BYTES];
+    let mut next = at;
+    let mut free = 0;
+    let mut left = count;
+    while 0 < left {
+        match number_at(card, next) {
+            Step::Refused(f) => {
+                return Row {
+                    bytes,
+                    end: Step::Refused(f),
+                };
+            }
+            Step::Got(step, then) => {
+                if width - free <= step {
+                    return Row {
+                        bytes,
+                        end: Step::Refused(Fault::CardPlace),
+                    };
+                }
+                let place = free + step;
+                bytes[place / 8] = bytes[place / 8] ^ bit_value(place % 8);
+                free = place + 1;
+                next = then;
+            }
+        }
+        left -= 1;
+    }
+    Row {
+        bytes,
+        end: Step::Got(0, next),
+    }
+}
+
+fn row_at(card: &[u8], at: usize, width: usize) -> Row
+    requires { ⌜ width ≤ maxWidth ⌝ }
+    ensures { λ r. ⌜ toldRow (now (card .entry)) r ≡ carriedPlaces width (readRow width (drop at (now (card .entry)))) ⌝ }
+{
+    match number_at(card, at) {
+        Step::Refused(f) => Row {
+            bytes: [0u8; Operand::BYTES],
+            end: Step::Refused(f),
+        },
+        Step::Got(count, then) => if count <= width {
+            places_at(card, then, width, count)
+        } else {
+            Row {
+                bytes: [0u8; Operand::BYTES],
+                end: Step::Refused(Fault::CardPlace),
+            }
+        },
+    }
+}
+
+// A byte is stored only where there is room for it: so the first pass of reading, and the length of a card, are the second pass
+// with a spare byte lent in the place of the table or the output.
+pub(crate) fn put(out: &mut [u8], at: usize, byte: u8)
+    ensures { λ _. ⌜ now (out .exit) ≡ set (now (out .entry)) at byte ⌝ }
+{
+    if at < out.len() {
+        out[at] = byte;
+    }
+}
+
+// The first `size` bytes of a row, at a place of the table.
+fn put_bytes(out: &mut [u8], at: usize, row: [u8; Operand::BYTES], size: usize)
+    requires { ⌜ (at ≤ longest) × (size ≤ carriedBytes) ⌝ }
+    ensures { λ _. ⌜ now (out .exit) ≡ sets (now (out .entry)) at (take size row) ⌝ }
+{
+    let mut b = 0;
+    while b < size {
+        put(out, at + b, row[b]);
+        b += 1;
+    }
+}
+
+// Where `count` rows end; their bytes go to the front of the table.
+fn rows_at(card: &[u8], at: usize, width: usize, count: usize, table: &mut [u8]) -> Step
+    requires { ⌜ (width ≤ maxWidth) × (count ≤ maxWidth) ⌝ }
+    ensures { λ r. ⌜ RowsRead (readRows width count (drop at (now (card .entry)))) (told (now (card .entry)) r) (now (table .entry)) (now (table .exit)) ⌝ }
+{
+    let size = operand::bytes_for(width);
+    let mut next = at;
+    let mut from = 0;
+    let mut d = 0;
+    while d < count {
+        let row = row_at(card, next, width);
+        let end = row.end;
+        match end {
+            Step::Refused(f) => {
+                return Step::Refused(f);
+            }
+            Step::Got(_, then) => {
+                let bytes = row.bytes;
+                put_bytes(table, from, bytes, size);
+                next = then;
+            }
+        }
+        from += size;
+        d += 1;
+    }
+    Step::Got(0, next)
+}
+
+// 1, and 11 where the lent table has fewer than m·W bytes, which are worked out only for a width that has passed.
+fn judge_lent(room: usize, width: usize) -> Fault
+    ensures { λ r. ⌜ r ≡ lentFault room width ⌝ }
+{
+    let fault = operand::judge_width(width);
+    if !operand::is_none(fault) {
+        return fault;
+    }
+    if room < width * operand::bytes_for(width) {
+        Fault::OutputShort
+    } else {
+        Fault::None
+    }
+}
+
+fn width_at(card: &[u8], at: usize, room: usize) -> Step
+    ensures { λ r. ⌜ told (now (card .entry)) r ≡ readWidth room (drop at (now (card .entry))) ⌝ }
+{
+    match number_at(card, at) {
+        Step::Refused(f) => Step::Refused(f),
+        Step::Got(width, then) => {
+            let fault = judge_lent(room, width);
+            if operand::is_none(fault) {
+                Step::Got(width, then)
+            } else {
+                Step::Refused(fault)
+            }
+        }
+    }
+}
+
+// The form and the width.
+fn head_at(card: &[u8], room: usize) -> Step
+    ensures { λ r. ⌜ told (now (card .entry)) r ≡ readHead room (now (card .entry)) ⌝ }
+{
+    match number_at(card, 0) {
+        Step::Refused(f) => Step::Refused(f),
+        Step::Got(form, then) => if form == 1 {
+            width_at(card, then, room)
+        } else {
+            Step::Refused(Fault::CardForm)
+        },
+    }
+}
+
+// The lent table is written only in a second pass, once the whole card is known to have no fault.
+pub fn read(card: &[u8], table: &mut [u8]) -> CardAnswer
+    ensures answer { λ r. ⌜ r ≡ readCall (now (card .entry)) (now (table .entry)) ⌝ }
+    ensures table { λ _. ⌜ now (table .exit) ≡ readTable (now (card .entry)) (now (table .entry)) ⌝ }
+{
+    match head_at(card, table.len()) {
+        Step::Refused(f) => refused(f),
+        Step::Got(width, rows) => {
+            let mut spare = [0u8; 1];
+            match rows_at(card, rows, width, width, &mut spare) {
+                Step::Refused(f) => refused(f),
+                Step::Got(_, end) => if end < card.len() {
+                    refused(Fault::CardTail)
+                } else {
+                    rows_at(card, rows, width, width, table);
+                    CardAnswer {
+                        fault: Fault::None,
+                        value: width,
+                    }
+                },
+            }
+        }
+    }
+}

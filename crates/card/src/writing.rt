@@ -1,0 +1,133 @@
+// Writing a table's card. Each part is put at a place of the output; the code says the place after it.
+ghost use mathlib.Core.Path.{_≡_};
+ghost use Prim.Native.Nat.{_+_, _*_, _<_, _≤_};
+ghost use lib.ListN.{length};
+ghost use lib.Seq.{sets};
+ghost use Rattle.gf2.specs.Coordinates.{coord};
+ghost use Rattle.gf2.specs.Operands.{maxWidth, bytesFor};
+ghost use Rattle.card.specs.Numbers.{number, numberLimit};
+ghost use Rattle.card.specs.Rows.{onesOf, steps, rowCard, rowsCard};
+ghost use Rattle.card.specs.Cards.{card};
+ghost use Rattle.card.specs.Calls.{writeCall, writeCard};
+ghost use Rattle.card.specs.Steps.{longest};
+use crate::CardAnswer;
+use crate::reading;
+use crate::refused;
+use operand::Fault;
+
+fn put_number(out: &mut [u8], at: usize, n: usize) -> usize
+    requires { ⌜ (n < numberLimit) × (at ≤ longest) ⌝ }
+    ensures { λ r. ⌜ (r ≡ at + length (number n)) × (now (out .exit) ≡ sets (now (out .entry)) at (number n)) ⌝ }
+{
+    if n < 128 {
+        reading::put(out, at, n as u8);
+        return at + 1;
+    }
+    reading::put(out, at, (128 + n % 128) as u8);
+    reading::put(out, at + 1, (n / 128) as u8);
+    at + 2
+}
+
+fn bit_at(row: &[u8], i: usize) -> u8
+    requires { ⌜ i < 8 * length (now row) ⌝ }
+    ensures { λ r. ⌜ r ≡ coord (now (row .entry)) i ⌝ }
+{
+    (row[i / 8] >> (i % 8)) % 2
+}
+
+fn ones(row: &[u8], width: usize) -> usize
+    requires { ⌜ (width ≤ 8 * length (now row)) × (width ≤ maxWidth) ⌝ }
+    ensures { λ r. ⌜ r ≡ length (onesOf width (now (row .entry))) ⌝ }
+{
+    let mut n = 0;
+    let mut i = 0;
+    while i < width {
+        if bit_at(row, i) != 0 {
+            n += 1;
+        }
+        i += 1;
+    }
+    n
+}
+
+fn put_places(out: &mut [u8], at: usize, row: &[u8], width: usize) -> usize
+    requires { ⌜ (width ≤ 8 * length (now row)) × (width ≤ maxWidth) × (at + length (steps 0 (onesOf width (now row))) ≤ longest) ⌝ }
+    ensures { λ r. ⌜ (r ≡ at + length (steps 0 (onesOf width (now (row .entry))))) × (now (out .exit) ≡ sets (now (out .entry)) at (steps 0 (onesOf width (now (row .entry))))) ⌝ }
+{
+    let mut next = at;
+    let mut free = 0;
+    let mut i = 0;
+    while i < width {
+        if bit_at(row, i) != 0 {
+            let then = put_number(out, next, i - free);
+            next = then;
+            free = i + 1;
+        }
+        i += 1;
+    }
+    next
+}
+
+fn put_row(out: &mut [u8], at: usize, row: &[u8], width: usize) -> usize
+    requires { ⌜ (width ≤ 8 * length (now row)) × (width ≤ maxWidth) × (at + length (rowCard width (now row)) ≤ longest) ⌝ }
+    ensures { λ r. ⌜ (r ≡ at + length (rowCard width (now (row .entry)))) × (now (out .exit) ≡ sets (now (out .entry)) at (rowCard width (now (row .entry)))) ⌝ }
+{
+    let n = ones(row, width);
+    let next = put_number(out, at, n);
+    put_places(out, next, row, width)
+}
+
+// The rows from `start` on, `count` of them.
+fn put_rows(
+    out: &mut [u8],
+    at: usize,
+    table: &[u8],
+    width: usize,
+    start: usize,
+    count: usize,
+) -> usize
+    requires { ⌜ (width ≤ maxWidth) × (length (now table) ≡ width * bytesFor width) × (start + count ≤ width) × (at + length (rowsCard width (now table) start count) ≤ longest) ⌝ }
+    ensures { λ r. ⌜ (r ≡ at + length (rowsCard width (now (table .entry)) start count)) × (now (out .exit) ≡ sets (now (out .entry)) at (rowsCard width (now (table .entry)) start count)) ⌝ }
+{
+    let size = operand::bytes_for(width);
+    let mut next = at;
+    let mut d = start;
+    while d < start + count {
+        let from = d * size;
+        let then = put_row(out, next, &table[from..from + size], width);
+        next = then;
+        d += 1;
+    }
+    next
+}
+
+// The card, at the front of the output; its length.
+fn put_card(out: &mut [u8], width: usize, table: &[u8]) -> usize
+    requires { ⌜ (width ≤ maxWidth) × (length (now table) ≡ width * bytesFor width) ⌝ }
+    ensures { λ r. ⌜ (r ≡ length (card width (now (table .entry)))) × (now (out .exit) ≡ sets (now (out .entry)) 0 (card width (now (table .entry)))) ⌝ }
+{
+    let form = put_number(out, 0, 1);
+    let rows = put_number(out, form, width);
+    put_rows(out, rows, table, width, 0, width)
+}
+
+// The output is written only in a second pass, once the card's length is known.
+pub fn write(width: usize, table: &[u8], out: &mut [u8]) -> CardAnswer
+    ensures answer { λ r. ⌜ r ≡ writeCall width (now (table .entry)) (now (out .entry)) ⌝ }
+    ensures out { λ _. ⌜ now (out .exit) ≡ writeCard width (now (table .entry)) (now (out .entry)) ⌝ }
+{
+    let shape = table::judge_shape(width, table);
+    if !operand::is_none(shape) {
+        return refused(shape);
+    }
+    let mut spare = [0u8; 1];
+    let size = put_card(&mut spare, width, table);
+    if out.len() < size {
+        return refused(Fault::OutputShort);
+    }
+    put_card(out, width, table);
+    CardAnswer {
+        fault: Fault::None,
+        value: size,
+    }
+}
