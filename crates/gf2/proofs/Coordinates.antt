@@ -6,13 +6,13 @@
 use mathlib.Core.Path.{_≡_, refl, sym, ap, ap₂, _∙_}
 use mathlib.Core.List.{List, [], _∷_, _++_}
 use mathlib.Core.Bool.{Bool, true, false}
-use Prim.Native.Nat.{ℕ, zero, suc, _+_, _-_, _*_, _/_, _%_, _^_, _<_, _≤_}
-use native.Mathlib.Nat.{add-mul-div-right, div-add-mod', div-eq-of-lt, zero-div, mod-eq-of-lt, mod-lt, lt-of-lt-of-le, pow-suc, pow-succ', mul-assoc}
+use Prim.Native.Nat.{ℕ, zero, suc, _+_, _-_, _*_, _/_, _%_, _^_, _<_, _≤_, min}
+use native.Mathlib.Nat.{zero-min, min-zero, suc-min-suc, add-mul-div-right, div-add-mod', div-eq-of-lt, zero-div, mod-eq-of-lt, mod-lt, lt-of-lt-of-le, pow-suc, pow-succ', mul-assoc}
 use native.Mathlib.Decide.{ℕ-discrete, decLt}
 use native.Mathlib.Omega.{arith}
 use lib.ListN.{length, getD, replicate, length-append, length-replicate, getD-replicate, List·getD-append, List·getD-eq-default}
 use lib.Seq.{getD-at, getD-append-add, ext-getD}
-use lib.Bits.{bitXor, xor-shr, xor-add-and, xor-lt}
+use lib.Bits.{bitAnd, and-shr, and-step, bitXor, xor-shr, xor-add-and, xor-lt}
 use lib.Pow.{pow-pos, pow-mono, pow-add, mod-pow-add, mod-mod-pow, field}
 use Rattle.gf2.specs.Sums.{sum}
 use Rattle.gf2.specs.Coordinates.{coord, value, tabulate, pack}
@@ -131,6 +131,17 @@ pack-of n g f small e = tabulate-ext n g _ (λ b h. value-eq 8 (λ j. f (b * 8 +
 
 pub xor-bit : (a b k : ℕ) → bitXor a b / 2 ^ k % 2 ≡ (a / 2 ^ k % 2 + b / 2 ^ k % 2) % 2
 xor-bit a b k = rw xor-shr (omega (arith, xor-add-and (a / 2 ^ k) (b / 2 ^ k)))
+
+-- a bitwise product
+min-mul : (x y : ℕ) → x < 2 → y < 2 → min x y ≡ x * y
+min-mul zero y h l = zero-min y ∙ omega arith
+min-mul (suc zero) zero h l = min-zero 1
+min-mul (suc zero) (suc zero) h l = suc-min-suc 0 0 ∙ ap suc (min-zero 0)
+min-mul (suc zero) (suc (suc y)) h l = absurd (omega arith)
+min-mul (suc (suc x)) y h l = absurd (omega arith)
+
+pub and-bit : (a b k : ℕ) → bitAnd a b / 2 ^ k % 2 ≡ (a / 2 ^ k % 2) * (b / 2 ^ k % 2)
+and-bit a b k = rw and-shr (omega (arith, and-step (a / 2 ^ k) (b / 2 ^ k), min-mul (a / 2 ^ k % 2) (b / 2 ^ k % 2) (omega arith) (omega arith)))
 
 pub value-xor : (n : ℕ) (f g : ℕ → ℕ) → bitXor (value n f) (value n g) ≡ value n (λ j. f j + g j)
 value-xor n f g = value-eq n (λ j. f j + g j) _ (xor-lt n _ _ (value-lt n f) (value-lt n g)) (λ j l.

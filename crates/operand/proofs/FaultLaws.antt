@@ -93,12 +93,19 @@ answer-same {f} {g} m {x} {y} e h = ap (λ k. answer k m x) e ∙ go (isNone g) 
     go false q = rw q
 
 -- a later fault counts only where the earlier is none
-pub or-same : {f f′ g g′ : Fault} → f ≡ f′ → (isNone f′ ≡ true → g ≡ g′) → orElse f g ≡ orElse f′ g′
-or-same {f} {f′} {g} {g′} e h = ap (λ k. orElse k g) e ∙ go (isNone f′) refl
+pub or-cong : (f : Fault) {x y : Fault} → (isNone f ≡ true → x ≡ y) → orElse f x ≡ orElse f y
+or-cong f {x} {y} h = go (isNone f) refl
   where
-    go : (b : Bool) → isNone f′ ≡ b → orElse f′ g ≡ orElse f′ g′
-    go true q = ap (orElse f′) (h q)
-    go false q = or-first f′ g q ∙ sym (or-first f′ g′ q)
+    go : (b : Bool) → isNone f ≡ b → orElse f x ≡ orElse f y
+    go true e = ap (orElse f) (h e)
+    go false e = or-first f x e ∙ sym (or-first f y e)
+
+pub or-assoc : (f g h : Fault) → orElse (orElse f g) h ≡ orElse f (orElse g h)
+or-assoc f g h = go (isNone f) refl
+  where
+    go : (b : Bool) → isNone f ≡ b → orElse (orElse f g) h ≡ orElse f (orElse g h)
+    go true e = ap (λ z. orElse z h) (or-second f g e) ∙ sym (or-second f _ e)
+    go false e = ap (λ z. orElse z h) (or-first f g e) ∙ or-first f h e ∙ sym (or-first f _ e)
 
 -- the answer of a call whose fault is g, without and with a fault
 pub answered : (g : Fault) {m : ℕ} {x y : List ℕ} {r : OperandAnswer} → isNone g ≡ true → r ≡ (record { fault = None; value = record { bytes = x; width = m } }) → x ≡ y → r ≡ answer g m y

@@ -22,7 +22,7 @@ use Rattle.operand.specs.Judgements.{widthFault, lengthFault, highFault, operan
 use Rattle.operand.specs.Calls.{noOperand, answer}
 use Rattle.operand.proofs.ByteLoops.{Bytes}
 use Rattle.operand.proofs.CallLaws.{zero-bytes}
-use Rattle.operand.proofs.FaultLaws.{none-is, or-first, or-second, or-none, or-both, width-fine, length-fine, high-fine}
+use Rattle.operand.proofs.FaultLaws.{none-is, or-second, or-none, or-both, or-cong, or-assoc, width-fine, length-fine, high-fine}
 use Rattle.operand.proofs.FaultFree.{length-none}
 use Rattle.table.specs.Rows.{Shaped}
 use Rattle.table.specs.Judgements.{same, rowsFault, shapeFault, rowZeroFault, rowPairFault, symmetryFault}
@@ -32,21 +32,6 @@ use Rattle.product.specs.declared.InverseAnswer.{InverseAnswer}
 use Rattle.product.specs.Kernels.{Sound, carried}
 use Rattle.product.specs.Calls.{counted}
 use Rattle.product.specs.Judgements.{productFault, reducedFault, zeroFault, inverseFault}
-
--- a fault that is judged later counts only where the earlier ones are none
-or-cong : (f : Fault) {x y : Fault} → (isNone f ≡ true → x ≡ y) → orElse f x ≡ orElse f y
-or-cong f {x} {y} h = go (isNone f) refl
-  where
-    go : (b : Bool) → isNone f ≡ b → orElse f x ≡ orElse f y
-    go true e = ap (orElse f) (h e)
-    go false e = or-first f x e ∙ sym (or-first f y e)
-
-or-assoc : (f g h : Fault) → orElse (orElse f g) h ≡ orElse f (orElse g h)
-or-assoc f g h = go (isNone f) refl
-  where
-    go : (b : Bool) → isNone f ≡ b → orElse (orElse f g) h ≡ orElse f (orElse g h)
-    go true e = ap (λ z. orElse z h) (or-second f g e) ∙ sym (or-second f _ e)
-    go false e = ap (λ z. orElse z h) (or-first f g e) ∙ or-first f h e ∙ sym (or-first f _ e)
 
 -- two faults with one number may be judged in either order
 length-swap : (x y u v : ℕ) (f : Fault) → orElse (lengthFault x y) (orElse (lengthFault u v) f) ≡ orElse (lengthFault u v) (orElse (lengthFault x y) f)

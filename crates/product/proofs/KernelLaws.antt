@@ -4,19 +4,19 @@
 use mathlib.Core.Path.{_≡_, refl, sym, ap, _∙_}
 use mathlib.Core.Bool.{Bool, true, false}
 use mathlib.Core.List.{List}
-use Prim.Native.Nat.{ℕ, zero, suc, _+_, _-_, _*_, _/_, _%_, _^_, _<_, _≤_, min}
-use native.Mathlib.Nat.{zero-min, min-zero, suc-min-suc, add-zero, zero-div, mod-mod, mod-lt, mod-eq-of-lt}
+use Prim.Native.Nat.{ℕ, zero, suc, _+_, _-_, _*_, _/_, _%_, _^_, _<_, _≤_}
+use native.Mathlib.Nat.{add-zero, zero-div, mod-mod, mod-lt, mod-eq-of-lt}
 use native.Mathlib.Numerals.{add-one}
 use native.Mathlib.Decide.{decLt}
 use native.Mathlib.Omega.{arith}
 use lib.ListN.{getD}
 use lib.Dec.{eqb}
-use lib.Bits.{bitAnd, and-shr, and-step, and-lt}
+use lib.Bits.{bitAnd, and-lt}
 use Rattle.gf2.specs.Sums.{sum}
 use Rattle.gf2.specs.Coordinates.{coord, tabulate, pack}
 use Rattle.gf2.specs.Operands.{carriedBytes, maxWidth, IsOperand, minus, choose, below, fromCoords}
 use Rattle.gf2.proofs.Sums.{sum-ext, sum-split}
-use Rattle.gf2.proofs.Coordinates.{coord-lt, coord-digit, pack-of, pack-ext}
+use Rattle.gf2.proofs.Coordinates.{coord-lt, coord-digit, pack-of, pack-ext, and-bit}
 use Rattle.gf2.proofs.Operands.{below-in, below-out, from-ext}
 use Rattle.operand.specs.declared.Operand.{Operand}
 use Rattle.operand.specs.declared.OperandAnswer.{OperandAnswer}
@@ -24,17 +24,6 @@ use Rattle.operand.specs.Calls.{turnCall, sumCall}
 use Rattle.operand.proofs.ByteLoops.{Bytes}
 use Rattle.product.specs.Kernels.{Sound, carried, apartAt, kept, acrossAt, spreadAt, made}
 use Rattle.product.proofs.SoundOperands.{coord-made, made-sound, turn-made, sum-made}
-
--- the bits of a bitwise product
-min-mul : (x y : ℕ) → x < 2 → y < 2 → min x y ≡ x * y
-min-mul zero y h l = zero-min y ∙ omega arith
-min-mul (suc zero) zero h l = min-zero 1
-min-mul (suc zero) (suc zero) h l = suc-min-suc 0 0 ∙ ap suc (min-zero 0)
-min-mul (suc zero) (suc (suc y)) h l = absurd (omega arith)
-min-mul (suc (suc x)) y h l = absurd (omega arith)
-
-pub and-bit : (a b k : ℕ) → bitAnd a b / 2 ^ k % 2 ≡ (a / 2 ^ k % 2) * (b / 2 ^ k % 2)
-and-bit a b k = rw and-shr (omega (arith, and-step (a / 2 ^ k) (b / 2 ^ k), min-mul (a / 2 ^ k % 2) (b / 2 ^ k % 2) (omega arith) (omega arith)))
 
 bit-mul : (x y : ℕ) → x < 2 → y < 2 → x * y ≡ x * y % 2
 bit-mul zero y h l = omega arith

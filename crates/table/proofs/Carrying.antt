@@ -36,10 +36,6 @@ module _ {n m : ℕ} (short : n ≤ carriedBytes) where
   pub same-carried : {a b : List ℕ} → IsOperand n m a → IsOperand n m b → same (carriedBy a) (carriedBy b) ≡ same a b
   same-carried {a} {b} oa ob = same-both _ _ _ _ (carried-inj oa ob) (ap carriedBy)
 
-  pub turned-operand : (k : ℕ) {a : List ℕ} → IsOperand n m a → IsOperand n m (turned m k a)
-  unfolding turned
-  turned-operand k {a} o = rw (o .size) (from-operand n m _)
-
   pub turned-carried : m ≤ 8 * n → (k : ℕ) {a : List ℕ} → IsOperand n m a → turned m k (carriedBy a) ≡ carriedBy (turned m k a)
   unfolding turned
   turned-carried fits k {a} o = rw (o .size, length-pack, carried-from fits)

@@ -25,24 +25,17 @@ use Rattle.operand.specs.Judgements.{widthFault, lengthFault, highFault, bytesF
 use Rattle.operand.specs.Calls.{answer}
 use Rattle.operand.proofs.ByteLoops.{Bytes}
 use Rattle.operand.proofs.CallLaws.{coord-carried}
-use Rattle.operand.proofs.FaultLaws.{or-first, or-second, first-two, first-more, two-fine, width-fine, length-fine}
+use Rattle.operand.proofs.FaultLaws.{or-first, or-second, or-assoc, first-two, first-more, two-fine, width-fine, length-fine}
 use Rattle.operand.proofs.FaultFree.{IsWidth, done, width-none, length-none, high-none}
 use Rattle.table.specs.Rows.{Shaped, carriedBy, carriedRow}
 use Rattle.table.specs.Judgements.{rowsFault, shapeFault}
 use Rattle.table.specs.Calls.{rowCall}
 use Rattle.table.proofs.Searches.{when-passes, when-fails, when-none, none-true, high-some, three-none}
 
-or-assoc : (f g h : Fault) → orElse f (orElse g h) ≡ orElse (orElse f g) h
-or-assoc f g h = go (isNone f) refl
-  where
-    go : (b : Bool) → isNone f ≡ b → orElse f (orElse g h) ≡ orElse (orElse f g) h
-    go true e = or-second _ _ e ∙ ap (λ z. orElse z h) (sym (or-second f g e))
-    go false e = or-first _ _ e ∙ sym (or-first f h e) ∙ ap (λ z. orElse z h) (sym (or-first f g e))
-
 -- three causes, of which the first two are judged together
 pub first-three : (f g h : Fault) → firstOf (f ∷ g ∷ h ∷ []) ≡ orElse (firstOf (f ∷ g ∷ [])) h
 first-three f g h =
-    first-more f g (h ∷ []) ∙ ap (orElse f) (first-two g h) ∙ or-assoc f g h ∙ ap (λ z. orElse z h) (sym (first-two f g))
+    first-more f g (h ∷ []) ∙ ap (orElse f) (first-two g h) ∙ sym (or-assoc f g h) ∙ ap (λ z. orElse z h) (sym (first-two f g))
 
 -- 1 and 2
 abbrev pub sizeFault : ℕ → ℕ → Fault

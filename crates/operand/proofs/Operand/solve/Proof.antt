@@ -6,9 +6,9 @@ use native.Mathlib.Omega.{arith}
 use lib.ListN.{length}
 use Rattle.gf2.specs.Coordinates.{coord}
 use Rattle.gf2.specs.Operands.{carriedBytes, fromCoords}
-use Rattle.operand.specs.Faults.{isNone, firstOf}
+use Rattle.operand.specs.Faults.{isNone, orElse, firstOf}
 use Rattle.operand.specs.Judgements.{operandFault, traceFault}
-use Rattle.operand.proofs.FaultLaws.{answer-same, or-same, first-two, two-fine, operand-fine}
+use Rattle.operand.proofs.FaultLaws.{answer-same, or-cong, first-two, two-fine, operand-fine}
 use Rattle.operand.proofs.CallLaws.{trace-fault, root-bytes}
 use borrow.Author.Needs.{needs}
 use Rattle.operand.proofs.Operand.solve.Statement.{statement}
@@ -21,7 +21,8 @@ cast-m c = search needs
 judged : (c : tie.After-or-else) → let a = c .before .before .before .before .before .before .args .self in c .or-else .result ≡ firstOf (operandFault a ∷ traceFault (a .width) (a .bytes) ∷ [])
 judged c =
     let a = c .before .before .before .before .before .before .args .self in
-    c .or-else .ensures ∙ or-same (c .before .before .judge-operand .ensures) (λ e. c .before .judge-trace .ensures ∙ trace-fault (operand-fine a e)) ∙ sym (first-two _ _)
+    c .or-else .ensures ∙ ap (λ f. orElse f (c .before .judge-trace .result)) (c .before .before .judge-operand .ensures)
+    ∙ or-cong _ (λ e. c .before .judge-trace .ensures ∙ trace-fault (operand-fine a e)) ∙ sym (first-two _ _)
 
 root-requires : tie.Need-root-requires
 root-requires c κs = search needs

@@ -3,6 +3,7 @@ use mathlib.Core.Path.{ap, ap₂, _∙_}
 use Prim.Native.Nat.{_-_, _<_, _≤_}
 use native.Mathlib.Omega.{arith}
 use Rattle.gf2.specs.Operands.{bytesFor, carriedBytes}
+use Rattle.gf2.proofs.Operands.{turned-operand}
 use Rattle.operand.specs.declared.OperandAnswer.{OperandAnswer}
 use Rattle.operand.specs.Calls.{turnCall}
 use Rattle.operand.proofs.FaultFree.{turn-done}
@@ -10,7 +11,7 @@ use Rattle.gf2.proofs.OperandVectors.{bytes-fit}
 use Rattle.table.specs.Rows.{mirrors}
 use Rattle.table.specs.Judgements.{same}
 use Rattle.table.proofs.Shapes.{width-of, sized, row-operand}
-use Rattle.table.proofs.Carrying.{same-carried, turned-carried, turned-operand}
+use Rattle.table.proofs.Carrying.{same-carried, turned-carried}
 use borrow.Author.Needs.{needs}
 use Rattle.table.proofs.symmetry.mirrored.Statement.{statement}
 use Rattle.table.proofs.symmetry.mirrored.Tie as tie
@@ -42,7 +43,7 @@ returns c =
     let done = turn .turn .ensures ∙ ap (λ x. turnCall x (a .d)) (turn .before .row-at .ensures) ∙ turn-done (width-of (sized (s .0))) (row-operand (s .0) _ l) _ (s .2) in
     c .same-bytes .ensures
     ∙ ap₂ same (c .before .row-bytes .ensures) (ap (λ (r : OperandAnswer). r .value .bytes) done ∙ turned-carried short (bytes-fit _) (a .d) row)
-    ∙ same-carried short (s .0 .isTable .rows (a .d) (s .2)) (turned-operand short (a .d) row)
+    ∙ same-carried short (s .0 .isTable .rows (a .d) (s .2)) (turned-operand _ (row .size) (a .d))
 
 pub mirrored-spec : {M : Type 1} → statement M
 mirrored-spec =

@@ -10,7 +10,7 @@ use Rattle.operand.specs.Calls.{turnCall}
 use Rattle.operand.proofs.FaultFree.{carry, done, turn-done}
 use Rattle.table.specs.Rows.{carriedRow, rowsOver}
 use Rattle.table.proofs.Shapes.{width-of, sized, row-operand}
-use Rattle.table.proofs.Carrying.{turned-operand}
+use Rattle.gf2.proofs.Operands.{turned-operand}
 use Rattle.table.proofs.RowSums.{minus-lt, minus-at, right-sum}
 use borrow.Author.Needs.{needs}
 use Rattle.table.proofs.triples.right_product.Statement.{statement}
@@ -45,7 +45,7 @@ turn-requires c κs = search needs
 sum-of-rows-requires : tie.Need-sum-of-rows-requires
 sum-of-rows-requires c κs =
     let s = c .before .before .before .pre in
-    (s .0, omega (arith, s .0 .least), rw (factor c) (turned-operand (omega arith) _ (row-operand (s .0) _ (minus-lt _ _ _ (omega (arith, s .0 .least))))))
+    (s .0, omega (arith, s .0 .least), rw (factor c) (turned-operand _ (row-operand (s .0) _ (minus-lt _ _ _ (omega (arith, s .0 .least))) .size) _))
 
 returns : tie.Need-returns
 returns c =
