@@ -6,15 +6,14 @@ use mathlib.Core.Path.{_≡_, refl, sym, ap, _∙_}
 use mathlib.Core.List.{List, [], _∷_, _++_, append-assoc, append-nil}
 use mathlib.Core.Bool.{Bool, true, false}
 use Prim.Native.Nat.{ℕ, zero, suc, _+_, _-_, _*_, _/_, _%_, _^_, _<_, _≤_}
-use native.Mathlib.Nat.{add-zero, zero-add}
-use native.Mathlib.Numerals.{add-one}
+use native.Mathlib.Nat.{zero-add}
 use native.Mathlib.Decide.{ℕ-discrete, decLt}
 use native.Mathlib.Omega.{arith}
 use lib.ListN.{length, getD, take, drop, set, replicate, length-append, length-set, drop-of-length-le}
-use lib.Seq.{drop-cons, sets, sets-eq, take-suc, take-all, take-append-le, length-take-le, getD-set-same, getD-set-other}
+use lib.Seq.{drop-cons, sets, take-all, take-append-le, getD-set-same, getD-set-other}
 use lib.Bits.{bitXor, xor-lt}
 use lib.Pow.{pow-mono}
-use lib.Dec.{ltb, eqb}
+use lib.Dec.{eqb}
 use borrow.Author.Tests.{lt-ltb, le-ltb, le-leb, lt-leb, eq-eqb, ne-eqb, eqb-true}
 use Rattle.gf2.specs.Sums.{every}
 use Rattle.gf2.specs.Coordinates.{coord, value, tabulate, pack}
@@ -23,10 +22,8 @@ use Rattle.gf2.proofs.Sums.{every-at}
 use Rattle.gf2.proofs.Coordinates.{length-tabulate, length-pack, pack-byte, coord-pack, pack-eq, pack-ext, xor-bit}
 use Rattle.gf2.proofs.Operands.{below-in, below-out, length-from}
 use Rattle.operand.specs.declared.fault.Fault.{Fault}
-use Rattle.operand.specs.declared.fault.Fault.the-variants.{None, OutputShort, CardPlace, CardForm, CardTail}
-use Rattle.operand.specs.Faults.{isNone, when}
-use Rattle.operand.specs.Judgements.{widthFault}
-use Rattle.operand.proofs.FaultLaws.{two-first, two-second}
+use Rattle.operand.specs.declared.fault.Fault.the-variants.{None, CardPlace, CardForm, CardTail}
+use Rattle.operand.specs.Faults.{isNone}
 use Rattle.operand.proofs.CallLaws.{zero-bytes}
 use Rattle.card.specs.declared.CardAnswer.{CardAnswer}
 use Rattle.card.specs.Numbers.{Read, refused, got, readNumber}
@@ -36,6 +33,7 @@ use Rattle.card.specs.Calls.{readCall, readTable, readAnswer, readInto}
 use Rattle.card.specs.Steps.{carriedPlaces, endOf, RowsRead}
 use Rattle.card.proofs.Numbers.{no-value}
 use Rattle.card.proofs.Places.{place-here, place-there}
+use Rattle.card.proofs.Stores.{sets-append, sets-front}
 use Rattle.card.proofs.Trips.{head-parts, rows-table}
 
 after-nil : (x : Read (List ℕ)) → x ≡ after [] x
@@ -198,21 +196,6 @@ pub carried-refused : (m : ℕ) (x : Read (List ℕ)) {f : Fault} → carriedPla
 carried-refused m (refused f) e = cc
 carried-refused m (got ps s) e = no-value (sym e)
 
--- bytes that are stored at a place
-
-pub sets-append : (l : List ℕ) (at : ℕ) (x y : List ℕ) → sets l at (x ++ y) ≡ sets (sets l at x) (at + length x) y
-sets-append l at [] y = rw add-zero
-sets-append l at (v ∷ x) y =
-    sets-append (set l at v) (suc at) x y ∙ (let e : suc at + length x ≡ at + length (v ∷ x) = omega arith in ap (λ k. sets (sets (set l at v) (suc at) x) k y) e)
-
-pub sets-front : (l x : List ℕ) → length x ≤ length l → sets l 0 x ≡ x ++ drop (length x) l
-sets-front l x h = sets-eq x l 0 (omega arith) ∙ rw zero-add
-
-pub sets-one : (l row : List ℕ) (at b : ℕ) → b < length row → set (sets l at (take b row)) (at + b) (getD row b 0) ≡ sets l at (take (b + 1) row)
-sets-one l row at b h =
-    let e : length (take b row) ≡ b = length-take-le b row (omega arith) in
-    rw (add-one, take-suc row b 0 h, sets-append l at (take b row) (getD row b 0 ∷ []), e)
-
 -- the first W bytes of a carried row are the row
 take-tabulate : (n w : ℕ) (f : ℕ → ℕ) → w ≤ n → take w (tabulate n f) ≡ tabulate w f
 unfolding tabulate
@@ -283,20 +266,6 @@ module _ {m count from d : ℕ} {x : Read (List ℕ)} {s old new : List ℕ} (to
         ends = sym (ap endOf q);
         stores = λ t rest g. (let e : to .front ≡ t = sym (append-nil (to .front)) ∙ (cc (sym q ∙ g)) in rw (← e) (to .stored));
       }
-
--- the fault of a width and a lent table
-module _ (room m : ℕ) where
-  pub lent-width : {f : Fault} → f ≡ widthFault m → isNone (widthFault m) ≡ false → f ≡ lentFault room m
-  unfolding lentFault
-  lent-width e n = e ∙ sym (two-first (widthFault m) (when (ltb room (m * bytesFor m)) OutputShort) n)
-
-  pub lent-short : isNone (widthFault m) ≡ true → room < m * bytesFor m → OutputShort ≡ lentFault room m
-  unfolding lentFault
-  lent-short n h = sym (two-second (widthFault m) (when (ltb room (m * bytesFor m)) OutputShort) n ∙ rw (lt-ltb room (m * bytesFor m) h))
-
-  pub lent-room : isNone (widthFault m) ≡ true → m * bytesFor m ≤ room → None ≡ lentFault room m
-  unfolding lentFault
-  lent-room n h = sym (two-second (widthFault m) (when (ltb room (m * bytesFor m)) OutputShort) n ∙ rw (le-ltb room (m * bytesFor m) h))
 
 -- form and width
 module _ (room : ℕ) (s : List ℕ) where

@@ -12,14 +12,15 @@ use native.Mathlib.Omega.{arith}
 use lib.ListN.{length, take, drop, length-append}
 use lib.Seq.{take-add, take-all, take-take, take-at, drop-at, drop-drop, drop-append-add}
 use lib.Dec.{ltb, eqb}
-use borrow.Author.Tests.{le-ltb, ltb-false, eqb-true}
+use borrow.Author.Tests.{lt-ltb, le-ltb, ltb-false, eqb-true}
 use Rattle.gf2.specs.Operands.{maxWidth, bytesFor, IsOperand}
 use Rattle.gf2.specs.Tables.{row, IsTable}
 use Rattle.gf2.proofs.Operands.{from-operand, length-from}
-use Rattle.operand.specs.declared.fault.Fault.the-variants.{OutputShort, CardForm}
+use Rattle.operand.specs.declared.fault.Fault.{Fault}
+use Rattle.operand.specs.declared.fault.Fault.the-variants.{None, OutputShort, CardForm}
 use Rattle.operand.specs.Faults.{isNone, when}
 use Rattle.operand.specs.Judgements.{widthFault}
-use Rattle.operand.proofs.FaultLaws.{width-fine, two-fine, two-second}
+use Rattle.operand.proofs.FaultLaws.{width-fine, two-fine, two-first, two-second}
 use Rattle.operand.proofs.FaultFree.{IsWidth, width-none}
 use Rattle.card.specs.Numbers.{pick, number, Read, refused, got, readNumber}
 use Rattle.card.specs.Rows.{rowsCard, rowRange, after, readRow, rowOf, isPlace, readRows}
@@ -140,6 +141,20 @@ rows-table m (suc count) s t rest e =
     each : (ps w : List ℕ) → length (rowOf m ps) ≡ bytesFor m → RowsTable m count w → (d : ℕ) → d < suc count → IsOperand (bytesFor m) m (row m (rowOf m ps ++ w) d)
     each ps w size more zero l = rw (row-first m (rowOf m ps) w size) (from-operand (bytesFor m) m (isPlace ps))
     each ps w size more (suc d) l = rw (row-next m (rowOf m ps) w d size) (more .rows d (omega arith))
+
+-- the fault of a width and a lent table
+module _ (room m : ℕ) where
+  pub lent-width : {f : Fault} → f ≡ widthFault m → isNone (widthFault m) ≡ false → f ≡ lentFault room m
+  unfolding lentFault
+  lent-width e n = e ∙ sym (two-first (widthFault m) (when (ltb room (m * bytesFor m)) OutputShort) n)
+
+  pub lent-short : isNone (widthFault m) ≡ true → room < m * bytesFor m → OutputShort ≡ lentFault room m
+  unfolding lentFault
+  lent-short n h = sym (two-second (widthFault m) (when (ltb room (m * bytesFor m)) OutputShort) n ∙ rw (lt-ltb room (m * bytesFor m) h))
+
+  pub lent-room : isNone (widthFault m) ≡ true → m * bytesFor m ≤ room → None ≡ lentFault room m
+  unfolding lentFault
+  lent-room n h = sym (two-second (widthFault m) (when (ltb room (m * bytesFor m)) OutputShort) n ∙ rw (le-ltb room (m * bytesFor m) h))
 
 short-fine : (b : Bool) → isNone (when b OutputShort) ≡ true → b ≡ false
 unfolding isNone

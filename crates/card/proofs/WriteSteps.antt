@@ -30,7 +30,7 @@ use Rattle.card.specs.Cards.{card}
 use Rattle.card.specs.Calls.{writeFault, writeCall, writeCard}
 use Rattle.card.specs.Steps.{longest}
 use Rattle.card.proofs.Places.{places-zero, places-one, places-ascend, count-le}
-use Rattle.card.proofs.ReadSteps.{sets-append, sets-front}
+use Rattle.card.proofs.Stores.{sets-append, sets-front}
 
 one-byte : (n : ℕ) → n < 128 → number n ≡ n ∷ []
 unfolding number

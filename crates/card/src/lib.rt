@@ -3,6 +3,7 @@ ghost use mathlib.Core.Path.{_≡_};
 use operand::Fault;
 
 mod reading;
+mod store;
 mod writing;
 
 pub use reading::read;

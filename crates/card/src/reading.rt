@@ -1,16 +1,16 @@
 // Reading a card, in byte order. A part is read from a place in the card on; the code says its value and the place after it, or a fault.
 ghost use mathlib.Core.Path.{_≡_};
-ghost use Prim.Native.Nat.{_+_, _^_, _*_, _<_, _≤_};
-ghost use lib.ListN.{set, take, drop};
-ghost use lib.Seq.{sets};
-ghost use Rattle.gf2.specs.Operands.{maxWidth, carriedBytes};
+ghost use Prim.Native.Nat.{_^_, _<_, _≤_};
+ghost use lib.ListN.{drop};
+ghost use Rattle.gf2.specs.Operands.{maxWidth};
 ghost use Rattle.card.specs.Numbers.{readNumber};
 ghost use Rattle.card.specs.Rows.{readPlaces, readRow, readRows};
 ghost use Rattle.card.specs.Cards.{lentFault, readWidth, readHead};
 ghost use Rattle.card.specs.Calls.{readCall, readTable};
-ghost use Rattle.card.specs.Steps.{longest, told, toldRow, carriedPlaces, RowsRead};
+ghost use Rattle.card.specs.Steps.{told, toldRow, carriedPlaces, RowsRead};
 use crate::CardAnswer;
 use crate::refused;
+use crate::store;
 use operand::Fault;
 use operand::Operand;
 
@@ -117,28 +117,6 @@ fn row_at(card: &[u8], at: usize, width: usize) -> Row
     }
 }
 
-// A byte is stored only where there is room for it: so the first pass of reading, and the length of a card, are the second pass
-// with a spare byte lent in the place of the table or the output.
-pub(crate) fn put(out: &mut [u8], at: usize, byte: u8)
-    ensures { λ _. ⌜ now (out .exit) ≡ set (now (out .entry)) at byte ⌝ }
-{
-    if at < out.len() {
-        out[at] = byte;
-    }
-}
-
-// The first `size` bytes of a row, at a place of the table.
-fn put_bytes(out: &mut [u8], at: usize, row: [u8; Operand::BYTES], size: usize)
-    requires { ⌜ (at ≤ longest) × (size ≤ carriedBytes) ⌝ }
-    ensures { λ _. ⌜ now (out .exit) ≡ sets (now (out .entry)) at (take size row) ⌝ }
-{
-    let mut b = 0;
-    while b < size {
-        put(out, at + b, row[b]);
-        b += 1;
-    }
-}
-
 // Where `count` rows end; their bytes go to the front of the table.
 fn rows_at(card: &[u8], at: usize, width: usize, count: usize, table: &mut [u8]) -> Step
     requires { ⌜ (width ≤ maxWidth) × (count ≤ maxWidth) ⌝ }
@@ -157,7 +135,7 @@ fn rows_at(card: &[u8], at: usize, width: usize, count: usize, table: &mut [u8])
             }
             Step::Got(_, then) => {
                 let bytes = row.bytes;
-                put_bytes(table, from, bytes, size);
+                store::put_bytes(table, from, bytes, size);
                 next = then;
             }
         }

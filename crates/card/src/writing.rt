@@ -11,8 +11,8 @@ ghost use Rattle.card.specs.Cards.{card};
 ghost use Rattle.card.specs.Calls.{writeCall, writeCard};
 ghost use Rattle.card.specs.Steps.{longest};
 use crate::CardAnswer;
-use crate::reading;
 use crate::refused;
+use crate::store;
 use operand::Fault;
 
 fn put_number(out: &mut [u8], at: usize, n: usize) -> usize
@@ -20,11 +20,11 @@ fn put_number(out: &mut [u8], at: usize, n: usize) -> usize
     ensures { λ r. ⌜ (r ≡ at + length (number n)) × (now (out .exit) ≡ sets (now (out .entry)) at (number n)) ⌝ }
 {
     if n < 128 {
-        reading::put(out, at, n as u8);
+        store::put(out, at, n as u8);
         return at + 1;
     }
-    reading::put(out, at, (128 + n % 128) as u8);
-    reading::put(out, at + 1, (n / 128) as u8);
+    store::put(out, at, (128 + n % 128) as u8);
+    store::put(out, at + 1, (n / 128) as u8);
     at + 2
 }
 

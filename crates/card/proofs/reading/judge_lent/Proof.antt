@@ -3,7 +3,7 @@ use native.Mathlib.Omega.{arith}
 use Rattle.operand.proofs.FaultLaws.{judged, width-fine}
 use borrow.Author.Tests.{not-true, not-false}
 use Rattle.table.proofs.Shapes.{size-small}
-use Rattle.card.proofs.ReadSteps.{lent-width, lent-short, lent-room}
+use Rattle.card.proofs.Trips.{lent-width, lent-short, lent-room}
 use borrow.Author.Needs.{needs}
 use Rattle.card.proofs.reading.judge_lent.Statement.{statement}
 use Rattle.card.proofs.reading.judge_lent.Tie as tie

@@ -4,6 +4,7 @@ use lib.ListN.{drop}
 use Rattle.card.specs.Rows.{readPlaces}
 use Rattle.card.specs.Steps.{told}
 use Rattle.card.proofs.ReadSteps.{PlacesTo, places-none, places-refused, places-far, places-more, places-done}
+use native.Mathlib.Omega.{arith}
 use borrow.Author.Needs.{needs}
 use Rattle.card.proofs.reading.places_at.Statement.{statement}
 use Rattle.card.proofs.reading.places_at.Tie as tie
@@ -33,7 +34,7 @@ sub-if1 : tie.Need-sub-if1 Inv-loop μ-loop
 sub-if1 c = search needs
 
 returns-2 : tie.Need-returns-2 Inv-loop μ-loop
-returns-2 c = places-far (c .before .before .before .before .before .before .loop .inv) (c .before .before .before .before .before .loop-test .taken) (sym (c .before .before .before .before .number-at .ensures) ∙ ap (told _) (c .before .before .step .given .1)) (c .if1 .taken)
+returns-2 c = places-far (c .before .before .before .before .before .before .loop .inv) (c .before .before .before .before .before .loop-test .taken) (sym (c .before .before .before .before .number-at .ensures) ∙ ap (told _) (c .before .before .step .given .1)) (omega arith)
 
 add-place : tie.Need-add-place Inv-loop μ-loop
 add-place c = search needs
@@ -57,7 +58,7 @@ loop-less : tie.Need-loop-less Inv-loop μ-loop
 loop-less c = search needs
 
 loop-again : tie.Need-loop-again Inv-loop μ-loop
-loop-again c = rw (c .bit-value .ensures) (places-more (c .before .before .before .before .before .before .before .loop .inv) (c .before .before .before .before .before .before .before .before .before .pre) (c .before .before .before .before .before .before .loop-test .taken) (sym (c .before .before .before .before .before .number-at .ensures) ∙ ap (told _) (c .before .before .before .step .given .1)) (c .before .if1 .left))
+loop-again c = rw (c .bit-value .ensures) (places-more (c .before .before .before .before .before .before .before .loop .inv) (c .before .before .before .before .before .before .before .before .before .pre) (c .before .before .before .before .before .before .loop-test .taken) (sym (c .before .before .before .before .before .number-at .ensures) ∙ ap (told _) (c .before .before .before .step .given .1)) (omega arith))
 
 returns-3 : tie.Need-returns-3 Inv-loop μ-loop
 returns-3 c = places-done (c .before .loop .inv) (c .loop-test .left)

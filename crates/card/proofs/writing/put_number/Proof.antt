@@ -3,6 +3,7 @@ use mathlib.Core.Path.{ap, _∙_}
 use Prim.Native.Nat.{_+_, _/_}
 use lib.ListN.{set}
 use Rattle.card.proofs.WriteSteps.{put-short, put-long}
+use native.Mathlib.Omega.{arith}
 use borrow.Author.Needs.{needs}
 use Rattle.card.proofs.writing.put_number.Statement.{statement}
 use Rattle.card.proofs.writing.put_number.Tie as tie
@@ -22,7 +23,7 @@ same-length c = search needs
 returns : tie.Need-returns
 returns c =
     let a = c .before .before .before .before .before .before .args in
-    let e = put-short (a .n) (a .at) (a .out .now) (c .before .before .before .before .if1 .taken) in
+    let e = put-short (a .n) (a .at) (a .out .now) (omega arith) in
     (e .0, c .before .before .put .ensures ∙ e .1)
 
 add-put : tie.Need-add-put
@@ -52,7 +53,7 @@ same-length-2 c = search needs
 returns-2 : tie.Need-returns-2
 returns-2 c =
     let a = c .before .before .before .before .before .before .before .before .before .before .args in
-    let e = put-long (a .n) (a .at) (a .out .now) (c .before .before .before .before .before .before .before .before .if1 .left) in
+    let e = put-long (a .n) (a .at) (a .out .now) (omega arith) in
     (e .0, c .before .before .put3 .ensures ∙ ap (λ l. set l (a .at + 1) (a .n / 128)) (c .before .before .before .before .before .before .put2 .ensures) ∙ e .1)
 
 pub put-number-spec : {M : Type 1} → statement M

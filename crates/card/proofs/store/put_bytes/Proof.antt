@@ -1,14 +1,14 @@
--- `card::reading::put_bytes` meets its contract.
+-- `card::store::put_bytes` meets its contract.
 use mathlib.Core.Path.{_≡_, refl, _∙_}
 use Prim.Native.Nat.{_-_, _≤_}
 use native.Mathlib.Omega.{arith}
 use lib.ListN.{length, take}
 use lib.Seq.{sets}
 use Rattle.gf2.specs.Operands.{carriedBytes}
-use Rattle.card.proofs.ReadSteps.{sets-one}
+use Rattle.card.proofs.Stores.{sets-one}
 use borrow.Author.Needs.{needs}
-use Rattle.card.proofs.reading.put_bytes.Statement.{statement}
-use Rattle.card.proofs.reading.put_bytes.Tie as tie
+use Rattle.card.proofs.store.put_bytes.Statement.{statement}
+use Rattle.card.proofs.store.put_bytes.Tie as tie
 
 abbrev Inv-loop : tie.InvT-loop
 Inv-loop out₀ at size row b₀ out b = (b ≤ size) × (out ≡ sets out₀ at (take b row)) × (length out ≡ length out₀)

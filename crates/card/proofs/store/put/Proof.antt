@@ -1,9 +1,9 @@
--- `card::reading::put` meets its contract.
+-- `card::store::put` meets its contract.
 use mathlib.Core.Path.{sym}
 use lib.Seq.{set-out}
 use borrow.Author.Needs.{needs}
-use Rattle.card.proofs.reading.put.Statement.{statement}
-use Rattle.card.proofs.reading.put.Tie as tie
+use Rattle.card.proofs.store.put.Statement.{statement}
+use Rattle.card.proofs.store.put.Tie as tie
 
 slice-write-out : tie.Need-slice-write-out
 slice-write-out c = search needs
