@@ -1,0 +1,177 @@
+-- Laws of the counts and of the written lists: bounds, the numbers of all gates, and the answers and buffers of the calls.
+use mathlib.Core.Path.{_≡_, refl, sym, ap, ap₂, _∙_, subst, fun-ext}
+use mathlib.Core.Bool.{Bool, true, false}
+use mathlib.Core.List.{List, _++_, append-nil}
+use Prim.Native.Nat.{ℕ, zero, suc, _+_, _-_, _*_, _/_, _<_, _≤_}
+use native.Mathlib.Nat.{mul-le-mul, mul-add, mul-one, mul-pos, suc-mul}
+use native.Mathlib.Omega.{arith}
+use lib.ListN.{length, drop}
+use lib.Dec.{ltb}
+use Rattle.gf2.specs.Sums.{sum}
+use Rattle.gf2.specs.Coordinates.{coord}
+use Rattle.gf2.specs.Operands.{maxWidth}
+use Rattle.gf2.specs.Tables.{IsTable, row, onesIn}
+use Rattle.gf2.specs.Check.{Symmetric}
+use Rattle.gf2.proofs.Coordinates.{coord-lt}
+use Rattle.operand.specs.declared.fault.Fault.{Fault}
+use Rattle.operand.specs.declared.fault.Fault.the-variants.{None, OutputShort}
+use Rattle.operand.specs.Faults.{isNone, when}
+use Rattle.operand.specs.Calls.{chooseBytes}
+use Rattle.operand.proofs.FaultLaws.{none-is, two-first, two-second}
+use Rattle.table.specs.Rows.{Shaped}
+use Rattle.table.specs.declared.OnesAnswer.{OnesAnswer}
+use Rattle.table.specs.Judgements.{shapeFault, symmetryFault}
+use Rattle.table.specs.Calls.{onesCall}
+use Rattle.table.specs.Statements.{Bytes}
+use Rattle.table.proofs.Theorems.{shape, symmetry}
+use Rattle.netlist.specs.declared.CountsAnswer.{CountsAnswer}
+use Rattle.netlist.specs.declared.terms.Terms.the-variants.{Plain, Reduced, Other}
+use Rattle.netlist.specs.Gates.{Netlist, words, andGates, xorGates}
+use Rattle.netlist.specs.Lists.{folded, ands, plainTerms, plain, mixes, reducedTerms, reduced, otherTerms, sharing, common, ifNone, fullRows}
+use Rattle.netlist.specs.Counts.{commonXors, plainGates, reducedGates, sharingGates}
+use Rattle.netlist.specs.Judgements.{outputFault}
+use Rattle.netlist.specs.Calls.{answer, refusedWith, countedAs, chooseCounts, listFault, listCall, listBuffer}
+use Rattle.netlist.specs.Writing.{pairTerms, foldTerms, listOf}
+use Rattle.netlist.proofs.SumLaws.{sum-zero, sum-next}
+use Rattle.netlist.proofs.ListLaws.{Gates, ones-positive, shared-ones, plain-gates, reduced-gates, sharing-gates}
+
+-- a product with a width
+pub width-times : (m x k : ℕ) → m ≤ maxWidth → x ≤ k → m * x ≤ maxWidth * k
+width-times m x k h l = mul-le-mul {n₁ = m} {m₁ = x} {n₂ = maxWidth} {m₂ = k} h l
+
+sum-most : (n c : ℕ) (f : ℕ → ℕ) → ((i : ℕ) → f i ≤ c) → sum n f ≤ n * c
+sum-most zero c f h = rw (sum-zero f) (omega arith)
+sum-most (suc n) c f h = rw (sum-next f n) (omega (arith, sum-most n c f h, h n, suc-mul n c))
+
+pub ones-most : (m : ℕ) (table : List ℕ) → onesIn m table ≤ m * m
+unfolding onesIn
+ones-most m table = sum-most m m _ (λ d. row-ones (row m table d))
+  where
+    row-ones : (bytes : List ℕ) → sum m (coord bytes) ≤ m
+    row-ones bytes = omega (arith, sum-most m 1 (coord bytes) (λ s. omega (arith, coord-lt bytes s)), mul-one m)
+
+-- a table that has passed
+pub table-fine : (m : ℕ) (table : List ℕ) → Bytes table → isNone (symmetryFault m table) ≡ true → Shaped m table × Symmetric m table
+table-fine m table b e = symmetry m table b .0 (none-is _ e)
+
+-- answers
+pub answer-fault : {f : Fault} (a x : ℕ) {c : CountsAnswer} → c ≡ answer f a x → c .fault ≡ f
+unfolding answer
+answer-fault a x e = ap (λ (c : CountsAnswer). c .fault) e
+
+pub answer-refused : (f : Fault) (a x : ℕ) → isNone f ≡ false → answer f a x ≡ refusedWith f
+unfolding answer
+answer-refused f a x e = rw e
+
+pub answer-counted : (f : Fault) (a x : ℕ) → isNone f ≡ true → answer f a x ≡ countedAs a x
+unfolding answer
+answer-counted f a x e = rw e (ap (λ g. record { fault = g; ands = record { 0 = a }; xors = record { 0 = x } }) (none-is f e))
+
+-- the list that the writer makes
+module _ (m : ℕ) (table : List ℕ) where
+  pub list-is-plain : listOf Plain m table ≡ plain m table
+  unfolding listOf plain plainTerms foldTerms pairTerms
+  list-is-plain = ap (folded m (ands m)) (fun-ext (λ r. append-nil _))
+
+  pub list-is-reduced : listOf Reduced m table ≡ reduced m table
+  unfolding listOf reduced reducedTerms foldTerms pairTerms
+  list-is-reduced = ap (folded m (ands m ++ mixes m)) (fun-ext (λ r. append-nil _))
+
+  pub list-is-sharing : listOf Other m table ≡ sharing m table
+  unfolding listOf sharing otherTerms foldTerms pairTerms
+  list-is-sharing = refl
+
+  module _ (two : 2 ≤ m) (is : IsTable m table) (s : Symmetric m table) where
+    pub plain-number : plainGates m (onesIn m table) ≡ length (listOf Plain m table .gates)
+    plain-number =
+        let e : m + onesIn m table - 1 ≡ m + (onesIn m table - 1) = omega (arith, ones-positive m table two is s) in
+        ap (λ k. m * k) e ∙ mul-add m m (onesIn m table - 1) ∙ sym (ap (λ (l : Netlist). length (l .gates)) list-is-plain ∙ plain-gates m table two is s .all)
+
+    pub reduced-number : reducedGates m (onesIn m table) ≡ length (listOf Reduced m table .gates)
+    reduced-number =
+        let y = onesIn m table + m - 2 in
+        let e : 3 * m + onesIn m table - 2 ≡ m + (m + y) = omega (arith, ones-positive m table two is s) in
+        ap (λ k. m * k / 2) e ∙ half y ∙ sym (ap (λ (l : Netlist). length (l .gates)) list-is-reduced ∙ reduced-gates m table two is s .all)
+      where
+        half : (y : ℕ) → m * (m + (m + y)) / 2 ≡ m * m + m * y / 2
+        half y = omega (arith, mul-add m m (m + y), mul-add m m y)
+
+    pub sharing-number : 0 < fullRows m table → sharingGates m (onesIn m table) (fullRows m table) ≡ length (listOf Other m table .gates)
+    sharing-number some =
+        let q = m * fullRows m table in
+        let e : m + onesIn m table - m * fullRows m table ≡ m + (onesIn m table - m * fullRows m table) = omega (arith, shared-ones m table two is s) in
+        ap (λ k. m * k + q - 1) e
+        ∙ omega (arith, mul-add m m (onesIn m table - m * fullRows m table), mul-pos {m = m} {n = fullRows m table} (omega arith) some, ap (λ (l : Netlist). length (l .gates)) list-is-sharing, sharing-gates m table two is s .all)
+
+-- a list that is refused, and one that is delivered
+module _ (m : ℕ) (table : List ℕ) (list : Netlist) (old : List ℕ) where
+  abbrev pub Answered : CountsAnswer → List ℕ → Type 0
+  Answered r out = (r ≡ listCall m table list old) × (out ≡ listBuffer m table list old)
+
+  pub list-refused : (a x : ℕ) {c : CountsAnswer} → c ≡ answer (symmetryFault m table) a x → isNone (symmetryFault m table) ≡ false → Answered c old
+  list-refused a x e n = (
+    e ∙ answer-refused (symmetryFault m table) a x n ∙ sym (ap (λ f. answer f (andGates (list .gates)) (xorGates (list .gates))) first ∙ answer-refused (symmetryFault m table) _ _ n),
+    sym (ap (λ b. chooseBytes b (words m list ++ drop (length (words m list)) old) old) (ap isNone first ∙ n)),
+  )
+    where
+      first : listFault m table list old ≡ symmetryFault m table
+      first = unfold listFault in two-first _ _ n
+
+  pub list-delivered : {c r : CountsAnswer} {out : List ℕ} → isNone (symmetryFault m table) ≡ true → c ≡ countedAs (andGates (list .gates)) (xorGates (list .gates)) →
+      r ≡ chooseCounts (ltb (length old) (length (words m list))) (refusedWith OutputShort) c →
+      out ≡ chooseBytes (ltb (length old) (length (words m list))) old (words m list ++ drop (length (words m list)) old) → Answered r out
+  list-delivered {c} {r} {out} n e h k = (
+    h ∙ ap (chooseCounts (ltb (length old) (length (words m list))) (refusedWith OutputShort)) e ∙ one (ltb (length old) (length (words m list)))
+        ∙ sym (ap (λ f. answer f (andGates (list .gates)) (xorGates (list .gates))) second),
+    k ∙ buffer (ltb (length old) (length (words m list))) ∙ sym (ap (λ f. chooseBytes (isNone f) (words m list ++ drop (length (words m list)) old) old) second),
+  )
+    where
+      second : listFault m table list old ≡ when (ltb (length old) (length (words m list))) OutputShort
+      second = unfold listFault outputFault in two-second _ _ n
+
+      one : (b : Bool) → chooseCounts b (refusedWith OutputShort) (countedAs (andGates (list .gates)) (xorGates (list .gates))) ≡ answer (when b OutputShort) (andGates (list .gates)) (xorGates (list .gates))
+      one true = unfold answer isNone in refl
+      one false = unfold answer isNone in refl
+
+      buffer : (b : Bool) → chooseBytes b old (words m list ++ drop (length (words m list)) old) ≡ chooseBytes (isNone (when b OutputShort)) (words m list ++ drop (length (words m list)) old) old
+      buffer true = unfold isNone in refl
+      buffer false = unfold isNone in refl
+
+pub common-some : (m ones q : ℕ) → (q ≡ 0 → ⊥) → m * (ones - m * q) + m * q - 1 ≡ commonXors m ones q
+common-some m ones zero h = absurd (h refl)
+common-some m ones (suc q) h = refl
+
+-- the number of ones that the crate table gives
+pub ones-given : (m : ℕ) (table : List ℕ) (r : OnesAnswer) → Bytes table → Shaped m table → r ≡ onesCall m table → (r .ones ≡ onesIn m table) × (r .ones ≤ m * m)
+ones-given m table r b s e = (same, rw same (ones-most m table))
+  where
+    none : shapeFault m table ≡ None
+    none = shape m table b .1 s
+
+    same : r .ones ≡ onesIn m table
+    same = ap (λ (r : OnesAnswer). r .ones) e ∙ (unfold onesCall isNone in rw none)
+
+-- the answer of a call that has delivered the list l
+pub list-answer : (m : ℕ) (table : List ℕ) (list l : Netlist) (old : List ℕ) (x : ℕ) {c r : CountsAnswer} {out : List ℕ} → Gates list (m * m) x → isNone (symmetryFault m table) ≡ true →
+    c ≡ answer (symmetryFault m table) (m * m) x → l ≡ list →
+    (r ≡ chooseCounts (ltb (length old) (length (words m l))) (refusedWith OutputShort) c) × (out ≡ chooseBytes (ltb (length old) (length (words m l))) old (words m l ++ drop (length (words m l)) old)) →
+    Answered m table list old r out
+list-answer m table list l old x {c} {r} {out} g n e q h =
+    list-delivered m table list old n (e ∙ answer-counted _ _ _ n ∙ ap₂ countedAs (sym (g .ands)) (sym (g .xors))) (moved .0) (moved .1)
+  where
+    moved : (r ≡ chooseCounts (ltb (length old) (length (words m list))) (refusedWith OutputShort) c) × (out ≡ chooseBytes (ltb (length old) (length (words m list))) old (words m list ++ drop (length (words m list)) old))
+    moved = subst (λ (z : Netlist). (r ≡ chooseCounts (ltb (length old) (length (words m z))) (refusedWith OutputShort) c) × (out ≡ chooseBytes (ltb (length old) (length (words m z))) old (words m z ++ drop (length (words m z)) old))) q h
+
+-- which list the common one is
+module _ (m : ℕ) (table : List ℕ) where
+  pub common-plain : fullRows m table ≡ 0 → plain m table ≡ common m table
+  unfolding common
+  common-plain e = sym (ap (λ q. ifNone q (plain m table) (sharing m table)) e)
+
+  pub common-sharing : (fullRows m table ≡ 0 → ⊥) → sharing m table ≡ common m table
+  unfolding common
+  common-sharing h = go (fullRows m table) h
+    where
+      go : (q : ℕ) → (q ≡ 0 → ⊥) → sharing m table ≡ ifNone q (plain m table) (sharing m table)
+      go zero h = absurd (h refl)
+      go (suc q) h = refl

@@ -1,0 +1,81 @@
+-- Laws of sums of numbers: one more term, constant terms, monotony; a test as a number; sums over the pairs i < j.
+use mathlib.Core.Path.{_≡_, refl, sym, ap, ap₂, _∙_}
+use mathlib.Core.Bool.{Bool, true, false, _&&_}
+use Prim.Native.Nat.{ℕ, zero, suc, _+_, _*_, _<_, _≤_}
+use native.Mathlib.Nat.{zero-mul, one-mul, suc-mul, mul-suc}
+use native.Mathlib.Decide.{ℕ-discrete}
+use native.Mathlib.Omega.{arith}
+use lib.Dec.{ltb, eqb}
+use borrow.Author.Tests.{lt-ltb, le-ltb}
+use Rattle.gf2.specs.Sums.{sum}
+use Rattle.gf2.specs.Operands.{choose}
+use Rattle.gf2.proofs.Monoid.{nats, sum-big, big-plus}
+use Rattle.gf2.proofs.Sums.{sum-ext, sum-swap}
+
+-- a test as a number
+abbrev pub num : Bool → ℕ
+num b = choose b 1 0
+
+pub num-and : (a b : Bool) → num (a && b) ≡ num a * num b
+num-and true b = sym (one-mul (num b))
+num-and false b = sym (zero-mul (num b))
+
+pub num-bit : (x : ℕ) → x < 2 → num (eqb x 1) ≡ x
+num-bit zero h = refl
+num-bit (suc zero) h = refl
+num-bit (suc (suc x)) h = absurd (omega arith)
+
+pub sum-zero : (f : ℕ → ℕ) → sum 0 f ≡ 0
+unfolding sum
+sum-zero f = refl
+
+pub sum-next : (f : ℕ → ℕ) (n : ℕ) → sum (suc n) f ≡ sum n f + f n
+unfolding sum
+sum-next f n = refl
+
+pub sum-const : (n c : ℕ) → sum n (λ i. c) ≡ n * c
+unfolding sum
+sum-const zero c = sym (zero-mul c)
+sum-const (suc n) c = rw (sum-const n c, suc-mul)
+
+pub sum-plus : (n : ℕ) (f g : ℕ → ℕ) → sum n (λ i. f i + g i) ≡ sum n f + sum n g
+sum-plus n f g = simp sum-big (big-plus nats n f g)
+
+pub sum-mono : (f : ℕ → ℕ) (i n : ℕ) → i ≤ n → sum i f ≤ sum n f
+unfolding sum
+sum-mono f i zero h = let e : i ≡ 0 = omega arith in rw e (omega arith)
+sum-mono f i (suc n) h = elim (ℕ-discrete i (suc n)) [
+  | yes e ↦ rw e (omega arith)
+  | no ne ↦ omega (arith, sum-mono f i n (omega arith))
+]
+
+-- only the terms below j
+pub sum-cut : (m j : ℕ) (f : ℕ → ℕ) → j ≤ m → sum m (λ i. num (ltb i j) * f i) ≡ sum j f
+unfolding sum
+sum-cut zero j f h = let e : j ≡ 0 = omega arith in rw e
+sum-cut (suc m) j f h = elim (ℕ-discrete j (suc m)) [
+  | yes e ↦ rw e (ap₂ _+_ (sum-ext m _ f (λ i l. kept i (suc m) (omega arith))) (kept m (suc m) (omega arith)))
+  | no ne ↦ ap₂ _+_ (sum-cut m j f (omega arith)) (ap (λ b. num b * f m) (le-ltb m j (omega arith)) ∙ zero-mul (f m)) ∙ omega arith
+]
+  where
+    kept : (i n : ℕ) → i < n → num (ltb i n) * f i ≡ f i
+    kept i n l = ap (λ b. num b * f i) (lt-ltb i n l) ∙ one-mul (f i)
+
+-- the pairs i < j, by j and then i, or by i and then j
+pub sum-triangle : (m : ℕ) (f : ℕ → ℕ → ℕ) → sum m (λ j. sum j (λ i. f i j)) ≡ sum m (λ i. sum m (λ j. num (ltb i j) * f i j))
+sum-triangle m f = sum-ext m _ _ (λ j l. sym (sum-cut m j (λ i. f i j) (omega arith))) ∙ sum-swap m m (λ j i. num (ltb i j) * f i j)
+
+pub sum-one : (m : ℕ) → sum m (λ i. 1) ≡ m
+sum-one m = sum-const m 1 ∙ omega arith
+
+gauss : (n : ℕ) → 2 * sum n (λ k. k) + n ≡ n * n
+unfolding sum
+gauss zero = refl
+gauss (suc n) = omega (arith, gauss n, suc-mul n (suc n), mul-suc n n)
+
+-- as many pairs i < j as there are
+pub sum-below : (m : ℕ) → 2 * sum m (λ i. sum m (λ j. num (ltb i j))) + m ≡ m * m
+sum-below m = omega (arith, ap (λ k. 2 * k + m) same, gauss m)
+  where
+    same : sum m (λ i. sum m (λ j. num (ltb i j))) ≡ sum m (λ j. j)
+    same = sum-swap m m (λ i j. num (ltb i j)) ∙ sum-ext m _ _ (λ j l. sum-ext m _ _ (λ i k. omega arith) ∙ sum-cut m j (λ i. 1) (omega arith) ∙ sum-one j)

@@ -1,0 +1,69 @@
+-- `netlist::counts::counts_plain` meets its contract.
+use mathlib.Core.Path.{sym, ap, _∙_}
+use Prim.Native.Nat.{_*_}
+use native.Mathlib.Omega.{arith}
+use borrow.Author.Tests.{not-true, not-false}
+use Rattle.operand.proofs.FaultLaws.{judged}
+use Rattle.netlist.specs.Counts.{plainXors}
+use Rattle.netlist.specs.Calls.{refusedWith, countedAs}
+use Rattle.netlist.proofs.ListLaws.{ones-positive}
+use Rattle.netlist.proofs.TermLaws.{width-square}
+use Rattle.netlist.proofs.CallLaws.{table-fine, answer-refused, answer-counted}
+use borrow.Author.Needs.{needs}
+use Rattle.netlist.proofs.counts.counts_plain.Statement.{statement}
+use Rattle.netlist.proofs.counts.counts_plain.Tie as tie
+
+judge-symmetry-requires : tie.Need-judge-symmetry-requires
+judge-symmetry-requires c κs = search needs
+
+is-none-requires : tie.Need-is-none-requires
+is-none-requires c κs = search needs
+
+refused-requires : tie.Need-refused-requires
+refused-requires c κs = search needs
+
+returns : tie.Need-returns
+returns c =
+    c .refused .ensures ∙ ap refusedWith (c .before .before .before .judge-symmetry .ensures)
+    ∙ sym (answer-refused _ _ _ (judged (c .before .before .before .judge-symmetry .ensures) (c .before .before .is-none .ensures) (not-true _ (c .before .if1 .taken))))
+
+mul-counted : tie.Need-mul-counted
+mul-counted c =
+    let s = c .before .before .before .before in
+    let f = table-fine (s .args .width) (s .args .table .now) (λ b. c .before .before .before .shared-slice-known .given b .fits) (judged (c .before .before .judge-symmetry .ensures) (c .before .is-none .ensures) (not-false _ (c .if1 .left))) in
+    omega (arith, width-square (s .args .width) (s .args .width) (f .0 .greatest) (f .0 .greatest))
+
+ones-of-requires : tie.Need-ones-of-requires
+ones-of-requires c κs =
+    let s = c .before .before .before .before in
+    table-fine (s .args .width) (s .args .table .now) (λ b. c .before .before .before .shared-slice-known .given b .fits) (judged (c .before .before .judge-symmetry .ensures) (c .before .is-none .ensures) (not-false _ (c .if1 .left))) .0
+
+plain-xors-requires : tie.Need-plain-xors-requires
+plain-xors-requires c κs =
+    let s = c .before .before .before .before .before in
+    let f = table-fine (s .args .width) (s .args .table .now) (λ b. c .before .before .before .before .shared-slice-known .given b .fits) (judged (c .before .before .before .judge-symmetry .ensures) (c .before .before .is-none .ensures) (not-false _ (c .before .if1 .left))) in
+    let g = f .0 .greatest in
+    (g, omega (arith, ones-positive (s .args .width) (s .args .table .now) (f .0 .least) (f .0 .isTable) (f .1), c .ones-of .ensures .0), c .ones-of .ensures .1)
+
+counted-requires : tie.Need-counted-requires
+counted-requires c κs = search needs
+
+returns-2 : tie.Need-returns-2
+returns-2 c =
+    let a = c .before .before .before .before .before .before .before .args in
+    c .counted .ensures ∙ ap (countedAs (a .width * a .width)) (c .before .plain-xors .ensures ∙ ap (plainXors (a .width)) (c .before .before .ones-of .ensures .0))
+    ∙ sym (answer-counted _ _ _ (judged (c .before .before .before .before .before .judge-symmetry .ensures) (c .before .before .before .before .is-none .ensures) (not-false _ (c .before .before .before .if1 .left))))
+
+pub counts-plain-spec : {M : Type 1} → statement M
+counts-plain-spec =
+    tie.close
+    (tie.spec
+    judge-symmetry-requires
+    is-none-requires
+    refused-requires
+    returns
+    mul-counted
+    ones-of-requires
+    plain-xors-requires
+    counted-requires
+    returns-2)

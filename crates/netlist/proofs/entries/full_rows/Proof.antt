@@ -1,0 +1,66 @@
+-- `netlist::entries::full_rows` meets its contract. The invariant: the all-ones rows before d are counted.
+use mathlib.Core.Path.{_≡_, sym, ap, _∙_}
+use mathlib.Core.Logic.{⊎-elim}
+use Prim.Native.Nat.{ℕ, _-_, _≤_}
+use native.Mathlib.Omega.{arith}
+use native.Mathlib.Numerals.{add-one}
+use Rattle.gf2.specs.Sums.{sum}
+use Rattle.gf2.specs.Tables.{row}
+use Rattle.netlist.specs.Lists.{allOnes, fullRows}
+use Rattle.netlist.proofs.SumLaws.{num, sum-zero, sum-next}
+use borrow.Author.Needs.{needs}
+use Rattle.netlist.proofs.entries.full_rows.Statement.{statement}
+use Rattle.netlist.proofs.entries.full_rows.Tie as tie
+
+abbrev Inv-loop : tie.InvT-loop
+Inv-loop width table n₀ d₀ n d = (d ≤ width) × (n ≤ d) × (n ≡ sum d (λ d. num (allOnes width (row width table d))))
+
+abbrev μ-loop : tie.MeasureT-loop
+μ-loop width table n₀ d₀ n d = width - d
+
+loop-holds : tie.Need-loop-holds Inv-loop μ-loop
+loop-holds c = (omega arith, omega arith, sym (sum-zero _))
+
+full-row-requires : tie.Need-full-row-requires Inv-loop μ-loop
+full-row-requires c κs = search needs
+
+add-n : tie.Need-add-n Inv-loop μ-loop
+add-n c = search needs
+
+add-d : tie.Need-add-d Inv-loop μ-loop
+add-d c = search needs
+
+loop-less : tie.Need-loop-less Inv-loop μ-loop
+loop-less c = search needs
+
+loop-again : tie.Need-loop-again Inv-loop μ-loop
+loop-again c =
+    let a = c .before .before .before .before .before .args in
+    let w = c .before .before .before .loop in
+    let f : ℕ → ℕ = λ d. num (allOnes (a .width) (row (a .width) (a .table .now) d)) in
+    let e = ap (λ k. sum k f) (add-one (w .d)) ∙ sum-next f (w .d) in
+    ⊎-elim
+    (λ t. (omega arith, omega arith, omega (arith, e, t .1, ap num (sym (c .before .full-row .ensures) ∙ t .0 .taken), w .inv .2)))
+    (λ t. (omega arith, omega arith, omega (arith, e, t .1, ap num (sym (c .before .full-row .ensures) ∙ t .0 .left), w .inv .2)))
+    (c .if1 .came)
+
+returns : tie.Need-returns Inv-loop μ-loop
+unfolding fullRows
+returns c =
+    let w = c .before .loop in
+    let e : w .d ≡ c .before .before .before .args .width = omega arith in
+    (rw e at (w .inv .2), omega arith)
+
+pub full-rows-spec : {M : Type 1} → statement M
+full-rows-spec =
+    tie.close
+    (tie.spec
+    Inv-loop
+    μ-loop
+    loop-holds
+    full-row-requires
+    add-n
+    add-d
+    loop-less
+    loop-again
+    returns)

@@ -1,0 +1,86 @@
+-- `netlist::judge::are_outputs` meets its contract. The invariant: the output wires before r are there.
+use mathlib.Core.Path.{_≡_, sym, ap, _∙_}
+use mathlib.Core.Bool.{true}
+use Prim.Native.Nat.{_+_, _-_, _*_, _≤_}
+use native.Mathlib.Omega.{arith}
+use lib.ListN.{getD}
+use Rattle.gf2.specs.Sums.{every}
+use Rattle.netlist.specs.Judgements.{isOutput}
+use Rattle.netlist.proofs.RunLaws.{every-none, every-more, every-not, output-not, output-fine}
+use borrow.Author.Needs.{needs}
+use Rattle.netlist.proofs.judge.are_outputs.Statement.{statement}
+use Rattle.netlist.proofs.judge.are_outputs.Tie as tie
+
+abbrev Inv-loop : tie.InvT-loop
+Inv-loop width list g r₀ r = (r ≤ width) × (every r (isOutput width list) ≡ true)
+
+abbrev μ-loop : tie.MeasureT-loop
+μ-loop width list g r₀ r = width - r
+
+loop-holds : tie.Need-loop-holds Inv-loop μ-loop
+loop-holds c = (omega arith, every-none _)
+
+mul-if1 : tie.Need-mul-if1 Inv-loop μ-loop
+mul-if1 c = search needs
+
+add-if1 : tie.Need-add-if1 Inv-loop μ-loop
+add-if1 c = search needs
+
+mul-word : tie.Need-mul-word Inv-loop μ-loop
+mul-word c = search needs
+
+add-word : tie.Need-add-word Inv-loop μ-loop
+add-word c = search needs
+
+add-word-2 : tie.Need-add-word-2 Inv-loop μ-loop
+add-word-2 c = search needs
+
+word-requires : tie.Need-word-requires Inv-loop μ-loop
+word-requires c κs = search needs
+
+returns : tie.Need-returns Inv-loop μ-loop
+returns c =
+    let s = c .before .before .before .before .before in
+    let w = c .before .before .before .loop in
+    sym (every-not _ _ (w .r) (c .before .before .loop-test .taken) (output-not (s .args .width) (s .args .list .now) (w .r) _
+    (c .before .word .ensures .0 ∙ ap (λ g. getD (s .args .list .now) (2 + 3 * g + w .r) 0) (s .pre .2)) (omega arith)))
+
+add-r : tie.Need-add-r Inv-loop μ-loop
+add-r c = search needs
+
+loop-less : tie.Need-loop-less Inv-loop μ-loop
+loop-less c = search needs
+
+loop-again : tie.Need-loop-again Inv-loop μ-loop
+loop-again c =
+    let s = c .before .before .before .before .before in
+    let w = c .before .before .before .loop in (
+      omega arith,
+      every-more _ _ (w .inv .1) (output-fine (s .args .width) (s .args .list .now) (w .r) _
+          (c .before .word .ensures .0 ∙ ap (λ g. getD (s .args .list .now) (2 + 3 * g + w .r) 0) (s .pre .2)) (omega arith)),
+    )
+
+returns-2 : tie.Need-returns-2 Inv-loop μ-loop
+returns-2 c =
+    let w = c .before .loop in
+    let e : w .r ≡ c .before .before .before .args .width = omega arith in
+    sym (rw e at (w .inv .1))
+
+pub are-outputs-spec : {M : Type 1} → statement M
+are-outputs-spec =
+    tie.close
+    (tie.spec
+    Inv-loop
+    μ-loop
+    loop-holds
+    mul-if1
+    add-if1
+    mul-word
+    add-word
+    add-word-2
+    word-requires
+    returns
+    add-r
+    loop-less
+    loop-again
+    returns-2)

@@ -1,0 +1,85 @@
+-- `netlist::lists::put_start` meets its contract.
+use mathlib.Core.Bool.{false}
+use Prim.Native.Nat.{_*_}
+use native.Mathlib.Omega.{arith}
+use Rattle.netlist.proofs.TermLaws.{width-square}
+use Rattle.netlist.proofs.PutLaws.{put-most, pairs-length, start-plain, start-reduced, start-shared, start-other}
+use borrow.Author.Needs.{needs}
+use Rattle.netlist.proofs.lists.put_start.Statement.{statement}
+use Rattle.netlist.proofs.lists.put_start.Tie as tie
+
+put-pairs-requires : tie.Need-put-pairs-requires
+put-pairs-requires c κs =
+    let s = c .before .before .before in
+    let g = s .pre .greatest in
+    (g, omega (arith, g, width-square (s .args .width) (s .args .width) g g))
+
+enum-told : tie.Need-enum-told
+enum-told c = search needs
+
+enum-told-2 : tie.Need-enum-told-2
+enum-told-2 c = search needs
+
+put-pairs-requires-2 : tie.Need-put-pairs-requires-2
+put-pairs-requires-2 c κs =
+    let s = c .before .before .before .before .before .before .before .before .before in
+    let m = s .args .width in
+    let g = s .pre .greatest in
+    (g, omega (arith, g, width-square m m g g, put-most (m * m) (c .before .before .before .before .before .put-pairs .ensures) (pairs-length false m)))
+
+enum-told-3 : tie.Need-enum-told-3
+enum-told-3 c = search needs
+
+enum-told-4 : tie.Need-enum-told-4
+enum-told-4 c = search needs
+
+fold-terms-requires : tie.Need-fold-terms-requires
+fold-terms-requires c κs =
+    let s = c .before .before .before .before .before .before .before .before .before in
+    let m = s .args .width in
+    let g = s .pre .greatest in
+    (s .pre, omega (arith, s .pre .least), omega (arith, g, width-square m m g g, put-most (m * m) (c .before .before .before .before .before .put-pairs .ensures) (pairs-length false m)))
+
+same-length : tie.Need-same-length
+same-length c = search needs
+
+returns : tie.Need-returns
+returns c = rw (c .enum-told .given .1) (start-plain _ _ (c .before .before .before .before .put-pairs .ensures))
+
+same-length-2 : tie.Need-same-length-2
+same-length-2 c = search needs
+
+returns-2 : tie.Need-returns-2
+returns-2 c = rw (c .before .before .before .before .enum-told2 .given .1) (start-reduced _ _ (c .before .before .before .before .before .before .before .before .put-pairs .ensures) (c .before .before .put-pairs2 .ensures))
+
+same-length-3 : tie.Need-same-length-3
+same-length-3 c = search needs
+
+returns-3 : tie.Need-returns-3
+returns-3 c = rw (c .enum-told3 .given .1) (start-shared _ _ (c .before .before .before .before .put-pairs .ensures))
+
+same-length-4 : tie.Need-same-length-4
+same-length-4 c = search needs
+
+returns-4 : tie.Need-returns-4
+returns-4 c = rw (c .before .before .before .before .enum-told4 .given .1) (start-other _ _ (c .before .before .before .before .before .before .before .before .put-pairs .ensures) (c .before .before .fold-terms .ensures))
+
+pub put-start-spec : {M : Type 1} → statement M
+put-start-spec =
+    tie.close
+    (tie.spec
+    put-pairs-requires
+    enum-told
+    enum-told-2
+    put-pairs-requires-2
+    enum-told-3
+    enum-told-4
+    fold-terms-requires
+    same-length
+    returns
+    same-length-2
+    returns-2
+    same-length-3
+    returns-3
+    same-length-4
+    returns-4)

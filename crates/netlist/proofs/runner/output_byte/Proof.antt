@@ -1,0 +1,82 @@
+-- `netlist::runner::output_byte` meets its contract. The invariant: the byte has its first j bits.
+use mathlib.Core.Path.{_≡_, ap, _∙_}
+use Prim.Native.Nat.{_+_, _-_, _*_, _≤_}
+use native.Mathlib.Omega.{arith}
+use Rattle.gf2.specs.Sums.{sum}
+use Rattle.gf2.specs.Coordinates.{value}
+use Rattle.gf2.specs.Operands.{below}
+use Rattle.netlist.specs.Running.{valueOn, outputAt}
+use Rattle.netlist.proofs.RunLaws.{byte-more}
+use borrow.Author.Needs.{needs}
+use Rattle.netlist.proofs.runner.output_byte.Statement.{statement}
+use Rattle.netlist.proofs.runner.output_byte.Tie as tie
+
+abbrev Inv-loop : tie.InvT-loop
+Inv-loop width list wires b byte₀ j₀ byte j = (j ≤ 8) × (byte ≡ value j (λ j. below width (λ r. valueOn wires (outputAt list r)) (b * 8 + j)))
+
+abbrev μ-loop : tie.MeasureT-loop
+μ-loop width list wires b byte₀ j₀ byte j = 8 - j
+
+loop-holds : tie.Need-loop-holds Inv-loop μ-loop
+unfolding value sum
+loop-holds c = (omega arith, omega arith)
+
+mul-output-bit : tie.Need-mul-output-bit Inv-loop μ-loop
+mul-output-bit c = search needs
+
+add-output-bit : tie.Need-add-output-bit Inv-loop μ-loop
+add-output-bit c = search needs
+
+output-bit-requires : tie.Need-output-bit-requires Inv-loop μ-loop
+output-bit-requires c κs = let s = c .before .before .before .before in (s .pre .0, s .pre .2, s .pre .3)
+
+cast-byte : tie.Need-cast-byte Inv-loop μ-loop
+cast-byte c = search needs
+
+shl-byte : tie.Need-shl-byte Inv-loop μ-loop
+shl-byte c = search needs
+
+add-byte : tie.Need-add-byte Inv-loop μ-loop
+add-byte c =
+    let s = c .before .before .before .before .before .args in
+    let w = c .before .before .loop in
+    let b = byte-more (λ j. below (s .width) (λ r. valueOn (s .wires .now) (outputAt (s .list .now) r)) (s .b * 8 + j)) (w .j) (w .byte) (c .output-bit .result) (w .inv .1) (c .output-bit .ensures) (omega arith) in
+    omega (arith, b .0, b .2)
+
+add-j : tie.Need-add-j Inv-loop μ-loop
+add-j c = search needs
+
+loop-less : tie.Need-loop-less Inv-loop μ-loop
+loop-less c = search needs
+
+loop-again : tie.Need-loop-again Inv-loop μ-loop
+loop-again c =
+    let s = c .before .before .before .before .before .args in
+    let w = c .before .before .loop in
+    let b = byte-more (λ j. below (s .width) (λ r. valueOn (s .wires .now) (outputAt (s .list .now) r)) (s .b * 8 + j)) (w .j) (w .byte) (c .output-bit .result) (w .inv .1) (c .output-bit .ensures) (omega arith) in
+    (omega arith, ap (λ x. w .byte + x) (b .0) ∙ b .1)
+
+returns : tie.Need-returns Inv-loop μ-loop
+returns c =
+    let s = c .before .before .before .before .args in
+    let w = c .before .loop in
+    let e : w .j ≡ 8 = omega arith in
+    w .inv .1 ∙ ap (λ n. value n (λ j. below (s .width) (λ r. valueOn (s .wires .now) (outputAt (s .list .now) r)) (s .b * 8 + j))) e
+
+pub output-byte-spec : {M : Type 1} → statement M
+output-byte-spec =
+    tie.close
+    (tie.spec
+    Inv-loop
+    μ-loop
+    loop-holds
+    mul-output-bit
+    add-output-bit
+    output-bit-requires
+    cast-byte
+    shl-byte
+    add-byte
+    add-j
+    loop-less
+    loop-again
+    returns)

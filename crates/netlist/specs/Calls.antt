@@ -1,0 +1,73 @@
+-- What each call answers, for every input: its fault, its counts, and its buffers afterwards.
+use mathlib.Core.Bool.{Bool, true, false}
+use mathlib.Core.List.{List, [], _∷_, _++_}
+use Prim.Native.Nat.{ℕ}
+use lib.ListN.{length, drop}
+use Rattle.gf2.specs.Operands.{bytesFor, choose}
+use Rattle.gf2.specs.Tables.{onesIn}
+use Rattle.operand.specs.declared.Operand.{Operand}
+use Rattle.operand.specs.declared.fault.Fault.{Fault}
+use Rattle.operand.specs.declared.fault.Fault.the-variants.{None}
+use Rattle.operand.specs.Faults.{isNone, firstOf}
+use Rattle.operand.specs.Calls.{chooseBytes}
+use Rattle.table.specs.Judgements.{symmetryFault}
+use Rattle.netlist.specs.declared.CountsAnswer.{CountsAnswer}
+use Rattle.netlist.specs.Gates.{Netlist, words, andGates, xorGates}
+use Rattle.netlist.specs.Lists.{fullRows}
+use Rattle.netlist.specs.Running.{readList, wires, result}
+use Rattle.netlist.specs.Counts.{listAnds, plainXors, reducedXors, commonXors}
+use Rattle.netlist.specs.Judgements.{outputFault}
+
+-- a fault and no counts, or no fault and both counts
+unfoldable pub answer : Fault → ℕ → ℕ → CountsAnswer
+answer f ands xors =
+    record { fault = f; ands = record { 0 = choose (isNone f) ands 0 }; xors = record { 0 = choose (isNone f) xors 0 } }
+
+-- the two cases
+abbrev pub refusedWith : Fault → CountsAnswer
+refusedWith f = record { fault = f; ands = record { 0 = 0 }; xors = record { 0 = 0 } }
+
+abbrev pub countedAs : ℕ → ℕ → CountsAnswer
+countedAs ands xors = record { fault = None; ands = record { 0 = ands }; xors = record { 0 = xors } }
+
+abbrev pub chooseCounts : Bool → CountsAnswer → CountsAnswer → CountsAnswer
+chooseCounts true x y = x
+chooseCounts false x y = y
+
+-- "AND gates and XOR gates are counted apart and both counts returned. The same two counts can be had without writing the list"
+abbrev pub countsPlainCall : ℕ → List ℕ → CountsAnswer
+countsPlainCall m table = answer (symmetryFault m table) (listAnds m) (plainXors m (onesIn m table))
+
+abbrev pub countsReducedCall : ℕ → List ℕ → CountsAnswer
+countsReducedCall m table = answer (symmetryFault m table) (listAnds m) (reducedXors m (onesIn m table))
+
+abbrev pub countsCommonCall : ℕ → List ℕ → CountsAnswer
+countsCommonCall m table =
+    answer (symmetryFault m table) (listAnds m) (commonXors m (onesIn m table) (fullRows m table))
+
+-- "4 and 5 also for the .. gate lists"; 11 where the list is longer than the buffer
+unfoldable pub listFault : ℕ → List ℕ → Netlist → List ℕ → Fault
+listFault m table list old =
+    firstOf (symmetryFault m table ∷ outputFault (length old) (length (words m list)) ∷ [])
+
+-- writing a list returns "the numbers of kind 0 and of kind 1 gates among the g"
+abbrev pub listCall : ℕ → List ℕ → Netlist → List ℕ → CountsAnswer
+listCall m table list old =
+    answer (listFault m table list old) (andGates (list .gates)) (xorGates (list .gates))
+
+-- "Words after a written list .. stay"; on a fault the buffer as it was
+abbrev pub listBuffer : ℕ → List ℕ → Netlist → List ℕ → List ℕ
+listBuffer m table list old =
+    chooseBytes
+    (isNone (listFault m table list old))
+    (words m list ++ drop (length (words m list)) old)
+    old
+
+-- the runner: "coordinate r of the result is the value of the output wire for r"
+abbrev pub runResult : Fault → ℕ → List ℕ → Operand → Operand → List ℕ → List ℕ
+runResult f m list a b old =
+    chooseBytes (isNone f) (result (bytesFor m) m (readList list m) (a .bytes) (b .bytes)) old
+
+-- "afterwards byte n is wire n's value"
+abbrev pub runWires : Fault → ℕ → List ℕ → Operand → Operand → List ℕ → List ℕ
+runWires f m list a b old = chooseBytes (isNone f) (wires m (readList list m) (a .bytes) (b .bytes)) old

@@ -1,0 +1,17 @@
+-- The definitions that the contracts of this crate cite, in document 01's order.
+-- Gates: gates, words, numbers of gates by kind.
+-- Lists: the plain, the reduced and the common list of a table.
+-- Running: the values of a list's wires, and its result.
+-- Counts: the numbers of gates, without the lists.
+-- Judgements: the faults of a list that is run, and of a buffer for a written one.
+-- Calls: what each call answers, for every input.
+-- Writing: what the contracts of the writer cite.
+-- Statements: what is proved of the lists; the proofs are proofs/Theorems.antt.
+pub mod Gates
+pub mod Lists
+pub mod Running
+pub mod Counts
+pub mod Judgements
+pub mod Calls
+pub mod Writing
+pub mod Statements

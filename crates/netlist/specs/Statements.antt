@@ -1,0 +1,69 @@
+-- What is proved of the three lists of a table: the statements alone, over the definitions that the contracts cite.
+-- Computes: run on two operands, a list gives their product.
+-- Runs: a list's words are read back as the list, and the runner finds no fault in them.
+-- Counted: a list's gates by kind. ListsHold: all of this for each of the three lists, under rules 4 and 5.
+-- CommonCounts: an accepted table has at most one all-ones row, and so the common list's gates.
+use mathlib.Core.Path.{_≡_}
+use mathlib.Core.List.{List}
+use Prim.Native.Nat.{ℕ, _+_, _-_, _*_, _<_, _≤_}
+use lib.ListN.{length, getD}
+use Rattle.gf2.specs.Coordinates.{coord}
+use Rattle.gf2.specs.Operands.{maxWidth, bytesFor, carriedBytes, IsOperand, fromCoords, ones}
+use Rattle.gf2.specs.Tables.{IsTable, row, onesIn}
+use Rattle.gf2.specs.Products.{product}
+use Rattle.gf2.specs.Check.{Symmetric, Accepted}
+use Rattle.operand.specs.declared.Operand.{Operand}
+use Rattle.operand.specs.declared.fault.Fault.the-variants.{None}
+use Rattle.netlist.specs.Gates.{Netlist, words, andGates, xorGates}
+use Rattle.netlist.specs.Lists.{plain, reduced, fullRows, common}
+use Rattle.netlist.specs.Running.{valueOn, wires, result, readList}
+use Rattle.netlist.specs.Counts.{listAnds, plainXors, reducedXors, commonXors}
+use Rattle.netlist.specs.Judgements.{runFault}
+
+-- "when run, each give the plain product of a and b": for operands of W bytes or more
+pub record Computes (m : ℕ) (table : List ℕ) (list : Netlist) : Type 0 where
+  -- the output wire for r has coordinate r of the product
+  pub outputs : (a b : List ℕ) → m ≤ 8 * length a → (r : ℕ) → r < m →
+      valueOn (wires m list a b) (getD (list .outputs) r 0) ≡ coord (product m table a b) r
+  -- the result's bytes are the product's, in as many bytes as a has, and in any other number
+  pub bytes : (a b : List ℕ) → m ≤ 8 * length a → result (length a) m list a b ≡ product m table a b
+  pub resized : (n : ℕ) (a b : List ℕ) → m ≤ 8 * length a → result n m list a b ≡ fromCoords n m (coord (product m table a b))
+
+-- the runner's own definitions, on a list's words
+pub record Runs (m : ℕ) (list : Netlist) : Type 0 where
+  pub readBack : readList (words m list) m ≡ list
+  pub noFault : (a b : Operand) → m ≤ maxWidth → a .width ≡ m → b .width ≡ m →
+      IsOperand carriedBytes m (a .bytes) → IsOperand carriedBytes m (b .bytes) →
+      runFault m (words m list) a b (bytesFor m) (2 * m + length (list .gates)) ≡ None
+
+-- a list's gates by kind
+pub record Counted (list : Netlist) (ands xors : ℕ) : Type 0 where
+  pub andCount : andGates (list .gates) ≡ ands
+  pub xorCount : xorGates (list .gates) ≡ xors
+
+pub record Holds (m : ℕ) (table : List ℕ) (list : Netlist) (xors : ℕ) : Type 0 where
+  pub computes : Computes m table list
+  pub runs : Runs m list
+  pub counted : Counted list (listAnds m) xors
+  -- "2+3g+m words"
+  pub size : length (words m list) ≡ 2 + 3 * length (list .gates) + m
+
+-- Under rules 4 and 5 each list gives the product, and has the gates that are counted without it.
+pub record ListsHold (m : ℕ) (table : List ℕ) : Type 0 where
+  pub ofPlain : Holds m table (plain m table) (plainXors m (onesIn m table))
+  pub ofReduced : Holds m table (reduced m table) (reducedXors m (onesIn m table))
+  pub ofCommon : Holds m table (common m table) (commonXors m (onesIn m table) (fullRows m table))
+
+abbrev pub TheoremLists : Type 0
+TheoremLists = (m : ℕ) (table : List ℕ) → 2 ≤ m → IsTable m table → Symmetric m table → ListsHold m table
+
+-- "if common m(C-m)+m-1 where a row is all ones, else m(C-1)"
+pub record CommonCounts (m : ℕ) (table : List ℕ) : Type 0 where
+  pub fewRows : fullRows m table ≤ 1
+  pub withRow : (d : ℕ) → d < m → row m table d ≡ ones (bytesFor m) m →
+      Counted (common m table) (m * m) (m * (onesIn m table - m) + m - 1)
+  pub without : ((d : ℕ) → d < m → ¬ (row m table d ≡ ones (bytesFor m) m)) →
+      Counted (common m table) (m * m) (m * (onesIn m table - 1))
+
+abbrev pub TheoremCommon : Type 0
+TheoremCommon = (m : ℕ) (table : List ℕ) → 2 ≤ m → IsTable m table → Accepted m table → CommonCounts m table

@@ -1,0 +1,71 @@
+// The bits of a table: which coordinates a product of two basis elements has, and which rows are all ones.
+ghost use mathlib.Core.Path.{_≡_};
+ghost use Prim.Native.Nat.{_<_, _≤_};
+ghost use lib.Dec.{eqb};
+ghost use Rattle.gf2.specs.Coordinates.{coord};
+ghost use Rattle.gf2.specs.Operands.{maxWidth, minus as minusOf};
+ghost use Rattle.gf2.specs.Tables.{row};
+ghost use Rattle.table.specs.Rows.{Shaped};
+ghost use Rattle.netlist.specs.Lists.{has as hasOf, allOnes, fullRows, isShared};
+use crate::words;
+
+// i - k modulo the width.
+pub(crate) fn minus(width: usize, i: usize, k: usize) -> usize
+    requires { ⌜ (width ≤ maxWidth) × (i < width) × (k < width) ⌝ }
+    ensures { λ r. ⌜ (r ≡ minusOf width i k) × (r < width) ⌝ }
+{
+    if k <= i { i - k } else { i + (width - k) }
+}
+
+fn entry(width: usize, table: &[u8], d: usize, s: usize) -> bool
+    requires { ⌜ (Shaped width (now table)) × (d < width) × (s < width) ⌝ }
+    ensures { λ r. ⌜ r ≡ eqb (coord (row width (now (table .entry)) d) s) 1 ⌝ }
+{
+    let first = d * operand::bytes_for(width);
+    words::coordinate(table, 8 * first + s) == 1
+}
+
+// Whether the product of the basis elements i and j has coordinate r: coordinate r - i of row j - i.
+pub(crate) fn has(width: usize, table: &[u8], r: usize, i: usize, j: usize) -> bool
+    requires { ⌜ (Shaped width (now table)) × (r < width) × (i < width) × (j < width) ⌝ }
+    ensures { λ b. ⌜ b ≡ hasOf width (now (table .entry)) r i j ⌝ }
+{
+    entry(width, table, minus(width, j, i), minus(width, r, i))
+}
+
+fn full_row(width: usize, table: &[u8], d: usize) -> bool
+    requires { ⌜ (Shaped width (now table)) × (d < width) ⌝ }
+    ensures { λ r. ⌜ r ≡ allOnes width (row width (now (table .entry)) d) ⌝ }
+{
+    let mut s = 0;
+    while s < width {
+        if !entry(width, table, d, s) {
+            return false;
+        }
+        s += 1;
+    }
+    true
+}
+
+// Whether the product of the basis elements i and j is all ones: row j - i is.
+pub(crate) fn shared(width: usize, table: &[u8], i: usize, j: usize) -> bool
+    requires { ⌜ (Shaped width (now table)) × (i < width) × (j < width) ⌝ }
+    ensures { λ r. ⌜ r ≡ isShared width (now (table .entry)) i j ⌝ }
+{
+    full_row(width, table, minus(width, j, i))
+}
+
+pub(crate) fn full_rows(width: usize, table: &[u8]) -> usize
+    requires { ⌜ Shaped width (now table) ⌝ }
+    ensures { λ r. ⌜ (r ≡ fullRows width (now (table .entry))) × (r ≤ width) ⌝ }
+{
+    let mut n: usize = 0;
+    let mut d = 0;
+    while d < width {
+        if full_row(width, table, d) {
+            n += 1;
+        }
+        d += 1;
+    }
+    n
+}
