@@ -188,14 +188,14 @@ small-run-call m list a b result wires = search smalls depth 14
 
 -- the faults of a table
 module _ (m : ℕ) (t : List ℕ) where
-  greatest : isNone (shapeFault m t) ≡ true → m ≤ maxWidth
+  pub shape-greatest : isNone (shapeFault m t) ≡ true → m ≤ maxWidth
   unfolding shapeFault firstOf
-  greatest e = width-fine m (or-both _ _ e .0) .1
+  shape-greatest e = width-fine m (or-both _ _ e .0) .1
 
   pub small-symmetry : Small (symmetryFault m t)
   unfolding symmetryFault
-  small-symmetry = small-then _ (small-shape m t) (λ e. small-first _ (small-row-zero m t) (small-first _ (small-row-pair m t (greatest e)) small-none))
+  small-symmetry = small-then _ (small-shape m t) (λ e. small-first _ (small-row-zero m t) (small-first _ (small-row-pair m t (shape-greatest e)) small-none))
 
   pub small-check : Small (checkFault m t)
   unfolding checkFault symmetryFault firstOf
-  small-check = small-or small-symmetry (λ e. let w = greatest (or-both _ _ e .0) in small-or (small-triple m t w) (λ q. small-or (small-row-sum m t) (λ r. small-none)))
+  small-check = small-or small-symmetry (λ e. let w = shape-greatest (or-both _ _ e .0) in small-or (small-triple m t w) (λ q. small-or (small-row-sum m t) (λ r. small-none)))

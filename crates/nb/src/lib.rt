@@ -2,3 +2,4 @@
 mod bytes;
 mod operands;
 mod packing;
+mod tables;

@@ -15,12 +15,12 @@ trace-requires : tie.Need-trace-requires
 trace-requires c κs = search needs
 
 answer-requires : tie.Need-answer-requires
-answer-requires c κs = 
+answer-requires c κs =
     let f = trace-fault _ _ (c .before .before .read .ensures) (c .trace .ensures) in
     (rw f (small-bytes _ _), λ e. (rw (trace-works _ _ (c .before .before .read .ensures) (c .trace .ensures) (ap isNone (sym f) ∙ e)) (omega (arith, trace-small (c .before .before .before .before .args .width) (c .before .before .before .before .args .a .now))), omega arith))
 
 returns : tie.Need-returns
-returns c = 
+returns c =
     c .answer .ensures ∙ answer-same (trace-fault _ _ (c .before .before .before .read .ensures) (c .before .trace .ensures)) (λ e. (trace-works _ _ (c .before .before .before .read .ensures) (c .before .trace .ensures) e, refl))
 
 pub nb-trace-spec : {M : Type 1} → statement M
