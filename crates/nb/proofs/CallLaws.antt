@@ -172,7 +172,7 @@ productOwn m t a b = lengthFault (length t) (m * bytesFor m) ∷ rowsFault m t �
 abbrev inverseOwn : ℕ → List ℕ → List ℕ → List Fault
 inverseOwn m t a = lengthFault (length t) (m * bytesFor m) ∷ rowsFault m t ∷ highFault m a ∷ zeroBytesFault m a ∷ []
 
-first-then : (f : Fault) (fs : List Fault) → firstOf (f ∷ fs) ≡ orElse f (firstOf fs)
+pub first-then : (f : Fault) (fs : List Fault) → firstOf (f ∷ fs) ≡ orElse f (firstOf fs)
 unfolding firstOf
 first-then f fs = refl
 

@@ -20,6 +20,8 @@ use Rattle.operand.proofs.FaultLaws.{or-first, or-second, or-both, width-fine}
 use Rattle.table.specs.Judgements.{same, rowsFault, shapeFault, rowZeroFault, rowPairFault, tripleFault, rowSumFault, symmetryFault, checkFault}
 use Rattle.netlist.specs.Running.{gateCount}
 use Rattle.netlist.specs.Judgements.{wordsFault, isGate, isOutput, gatesFault}
+use Rattle.gaussian.specs.Types.{typeOf}
+use Rattle.gaussian.specs.Calls.{typeFault}
 use Rattle.nb.specs.Packing.{packed, packedFault, packedAnswer, valueLimit, Small}
 use Rattle.nb.specs.Judgements.{turnBytesFault, sumBytesFault, solveBytesFault, productBytesFault, reducedBytesFault, zeroBytesFault, inverseBytesFault, runBytesFault}
 
@@ -54,7 +56,7 @@ answer-same {f} {g} {x} {y} {u} {v} e h = ap (λ k. packedAnswer k x u) e ∙ go
     go false q = rw q
 
 -- a fault beside which nothing is returned
-bare : (f : Fault) → numberOf f .1 ≡ 0 → numberOf f .2 ≡ 0 → Small f
+pub bare : (f : Fault) → numberOf f .1 ≡ 0 → numberOf f .2 ≡ 0 → Small f
 bare f p q = record { first = omega arith; second = omega arith }
 
 small-when : (b : Bool) (f : Fault) → Small f → Small (when b f)
@@ -124,6 +126,13 @@ small-words m list =
 pub small-gates : (m : ℕ) (list : List ℕ) → Small (gatesFault m list)
 unfolding gatesFault
 small-gates m list = bare-when (not (every (gateCount list) (isGate m list) && every m (isOutput m list))) BadGate refl refl
+
+pub small-output : (given needed : ℕ) → Small (when (ltb given needed) OutputShort)
+small-output given needed = bare-when (ltb given needed) OutputShort refl refl
+
+pub small-type : (m : ℕ) → Small (typeFault m)
+unfolding typeFault
+small-type m = bare-when (eqb (typeOf m) 0) NoType refl refl
 
 -- what `search` needs for the first of several faults
 pub ruleset smalls = (small-first, small-none, small-width, small-length, small-high, small-turn, small-trace, small-zero, small-rows, small-words, small-gates)

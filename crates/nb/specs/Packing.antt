@@ -1,5 +1,6 @@
 -- How an answer is packed into one number of 64 bits.
-use mathlib.Core.Bool.{Bool}
+use mathlib.Core.Path.{_≡_}
+use mathlib.Core.Bool.{true}
 use Prim.Native.Nat.{ℕ, _+_, _*_, _^_, _<_}
 use Rattle.gf2.specs.Operands.{choose}
 use Rattle.operand.specs.declared.fault.Fault.{Fault}
@@ -25,3 +26,7 @@ valueLimit = 2 ^ 28
 pub record Small (f : Fault) : Type 0 where
   pub first : numberOf f .1 < valueLimit
   pub second : numberOf f .2 < valueLimit
+
+-- a fault that has room, or none and two values that have
+abbrev pub Packs : Fault → ℕ → ℕ → Type 0
+Packs f first second = Small f × (isNone f ≡ true → (first < valueLimit) × (second < valueLimit))

@@ -1,9 +1,7 @@
 // Answers packed into one number of 64 bits.
 ghost use mathlib.Core.Path.{_≡_};
-ghost use mathlib.Core.Bool.{true};
 ghost use Prim.Native.Nat.{_^_, _<_};
-ghost use Rattle.operand.specs.Faults.{isNone};
-ghost use Rattle.nb.specs.Packing.{packed, packedAnswer, valueLimit, Small};
+ghost use Rattle.nb.specs.Packing.{packed, packedAnswer, valueLimit, Packs};
 use operand::Fault;
 
 // What the first value and the second stand for in the packed number: 2^8 and 2^36.
@@ -27,7 +25,7 @@ fn pack(number: usize, first: usize, second: usize) -> u64
 
 // A fault, or none and the two values that the call returns.
 pub(crate) fn answer(fault: Fault, first: usize, second: usize) -> u64
-    requires { ⌜ (Small fault) × (isNone fault ≡ true → (first < valueLimit) × (second < valueLimit)) ⌝ }
+    requires { ⌜ Packs fault first second ⌝ }
     ensures { λ r. ⌜ r ≡ packedAnswer fault first second ⌝ }
 {
     if operand::is_none(fault) {

@@ -1,10 +1,8 @@
 -- `nb::tables::nb_ones` meets its contract.
 use mathlib.Core.Path.{ap, _∙_}
-use native.Mathlib.Omega.{arith}
 use Rattle.table.specs.declared.OnesAnswer.{OnesAnswer}
 use Rattle.nb.specs.Packing.{packedAnswer}
-use Rattle.nb.proofs.PackLaws.{small-shape}
-use Rattle.nb.proofs.Bounds.{ones-fault, ones-given-small}
+use Rattle.nb.proofs.Bounds.{ones-packs}
 use borrow.Author.Needs.{needs}
 use Rattle.nb.proofs.tables.nb_ones.Statement.{statement}
 use Rattle.nb.proofs.tables.nb_ones.Tie as tie
@@ -13,7 +11,7 @@ ones-requires : tie.Need-ones-requires
 ones-requires c κs = search needs
 
 answer-requires : tie.Need-answer-requires
-answer-requires c κs = (rw (ones-fault _ _ (c .ones .ensures)) (small-shape _ _), λ e. (ones-given-small _ _ (c .ones .ensures) e, omega arith))
+answer-requires c κs = ones-packs _ _ (c .ones .ensures)
 
 returns : tie.Need-returns
 returns c = c .answer .ensures ∙ ap (λ (r : OnesAnswer). packedAnswer (r .fault) (r .ones) 0) (c .before .ones .ensures)
