@@ -1,0 +1,171 @@
+-- The values that the calls return have room in their bits: ones, products made, gates by kind, types, lengths of cards.
+use mathlib.Core.Path.{_≡_, refl, sym, ap, _∙_, subst}
+use mathlib.Core.Bool.{true}
+use mathlib.Core.List.{List, [], _∷_}
+use Prim.Native.Nat.{ℕ, zero, suc, _+_, _-_, _*_, _/_, _%_, _^_, _<_, _≤_}
+use native.Mathlib.Omega.{arith}
+use lib.ListN.{length}
+use Rattle.gf2.specs.Sums.{sum}
+use Rattle.gf2.specs.Operands.{maxWidth}
+use Rattle.gf2.specs.Tables.{onesIn}
+use Rattle.gf2.specs.Check.{Symmetric}
+use Rattle.gf2.specs.Inverse.{log2, binaryOnes, productsMade}
+use Rattle.gf2.proofs.Chain.{products-made}
+use Rattle.operand.specs.declared.fault.Fault.{Fault}
+use Rattle.operand.specs.Faults.{isNone, firstOf}
+use Rattle.operand.specs.Judgements.{widthFault}
+use Rattle.operand.proofs.ByteLoops.{Bytes}
+use Rattle.operand.proofs.FaultLaws.{or-both, width-fine, none-is}
+use Rattle.table.specs.declared.OnesAnswer.{OnesAnswer}
+use Rattle.table.specs.Rows.{Shaped}
+use Rattle.table.specs.Judgements.{shapeFault, symmetryFault}
+use Rattle.table.specs.Calls.{onesCall}
+use Rattle.product.proofs.ChainSteps.{log2-le}
+use Rattle.netlist.specs.declared.CountsAnswer.{CountsAnswer}
+use Rattle.netlist.specs.Gates.{Netlist, words}
+use Rattle.netlist.specs.Lists.{plain, reduced, common, fullRows}
+use Rattle.netlist.specs.Judgements.{outputFault}
+use Rattle.netlist.specs.Counts.{plainXors, reducedXors, commonXors}
+use Rattle.netlist.specs.Calls.{answer, countsPlainCall, countsReducedCall, countsCommonCall, listFault, listCall}
+use Rattle.netlist.proofs.ListLaws.{Gates, shared-ones, plain-gates, reduced-gates, common-gates}
+use Rattle.netlist.proofs.CallLaws.{width-times, ones-most, table-fine}
+use Rattle.gaussian.specs.declared.TypeAnswer.{TypeAnswer}
+use Rattle.gaussian.specs.Calls.{answer as typed, typeCall, drawFault, drawCall}
+use Rattle.gaussian.proofs.TypeBound.{type-small}
+use Rattle.card.specs.declared.CardAnswer.{CardAnswer}
+use Rattle.card.specs.Cards.{card}
+use Rattle.card.specs.Calls.{writeFault, writeCall, readCall}
+use Rattle.card.proofs.WriteSteps.{card-le, shape-size}
+use Rattle.card.proofs.Theorems.{card-laws}
+use Rattle.nb.specs.Packing.{valueLimit, Small, Packs}
+use Rattle.nb.specs.Judgements.{inverseBytesFault}
+use Rattle.nb.proofs.PackLaws.{small-or, small-none, small-first, small-width, small-length, small-output, small-type, small-shape, small-symmetry, shape-greatest}
+use Rattle.nb.proofs.CardFaults.{small-read}
+
+sum-bits : (n : ℕ) (f : ℕ → ℕ) → sum n (λ j. f j % 2) ≤ n
+unfolding sum
+sum-bits zero f = omega arith
+sum-bits (suc n) f = omega (arith, sum-bits n f)
+
+made-small : (m : ℕ) (t a : List ℕ) → 2 ≤ m → m ≤ maxWidth → productsMade m t a < valueLimit
+unfolding binaryOnes
+made-small m t a h l =
+    omega (arith, products-made m t a h, log2-le (m - 1), sum-bits (suc (log2 (m - 1))) (λ j. (m - 1) / 2 ^ j))
+
+pub inverse-small : (m : ℕ) (t a old : List ℕ) → isNone (inverseBytesFault m t a old) ≡ true → productsMade m t a < valueLimit
+unfolding inverseBytesFault firstOf
+inverse-small m t a old n = let w = width-fine m (or-both _ _ n .0) in made-small m t a (w .0) (w .1)
+
+ones-small : (m : ℕ) (t : List ℕ) → m ≤ maxWidth → onesIn m t < valueLimit
+ones-small m t h = omega (arith, ones-most m t, width-times m m maxWidth h h)
+
+module _ (m : ℕ) (t : List ℕ) {r : OnesAnswer} (e : r ≡ onesCall m t) where
+  pub ones-packs : Packs (r .fault) (r .ones) 0
+  unfolding onesCall
+  ones-packs = subst (λ (r : OnesAnswer). Packs (r .fault) (r .ones) 0) (sym e) (small-shape m t, λ n. (rw n (ones-small m t (shape-greatest m t n)), omega arith))
+
+-- the gates of a list by kind, each from the numbers of ones and of all-ones rows of a table that keeps rules 4 and 5
+module _ (m : ℕ) (t : List ℕ) (small : Bytes t) (n : isNone (symmetryFault m t) ≡ true) where
+  shaped : Shaped m t
+  shaped = table-fine m t small n .0
+
+  ands-small : m * m < valueLimit
+  ands-small = omega (arith, width-times m m maxWidth (shaped .greatest) (shaped .greatest))
+
+  -- a width times a number up to 2·m²
+  times-small : (x : ℕ) → x ≤ 2 * (maxWidth * maxWidth) → m * x < valueLimit
+  times-small x h = omega (arith, width-times m x (2 * (maxWidth * maxWidth)) (shaped .greatest) h)
+
+  ones-few : onesIn m t ≤ maxWidth * maxWidth
+  ones-few = omega (arith, ones-most m t, width-times m m maxWidth (shaped .greatest) (shaped .greatest))
+
+  plain-small : plainXors m (onesIn m t) < valueLimit
+  plain-small = times-small (onesIn m t - 1) (omega (arith, ones-few))
+
+  reduced-small : reducedXors m (onesIn m t) < valueLimit
+  reduced-small = omega (arith, times-small (onesIn m t + m - 2) (omega (arith, ones-few, shaped .greatest)))
+
+  common-small : commonXors m (onesIn m t) (fullRows m t) < valueLimit
+  common-small = go (fullRows m t) (shared-ones m t (shaped .least) (shaped .isTable) (table-fine m t small n .1))
+    where
+      go : (q : ℕ) → m * q ≤ onesIn m t → commonXors m (onesIn m t) q < valueLimit
+      go zero h = plain-small
+      go (suc q) h =
+          let shared = m * suc q in
+          let most : m * (onesIn m t - shared) ≤ maxWidth * (maxWidth * maxWidth) = width-times m (onesIn m t - shared) (maxWidth * maxWidth) (shaped .greatest) (omega (arith, ones-few)) in
+          omega (arith, ones-few)
+
+-- both counts of an answer
+abbrev pub PacksCounts : CountsAnswer → Type 0
+PacksCounts r = Packs (r .fault) (r .ands .0) (r .xors .0)
+
+packs : {f : Fault} (a x : ℕ) {r : CountsAnswer} → r ≡ answer f a x → Small f → (isNone f ≡ true → (a < valueLimit) × (x < valueLimit)) → PacksCounts r
+unfolding answer
+packs {f} a x {r} e s h = subst PacksCounts (sym e) (s, λ n. rw n (h n))
+
+module _ (m : ℕ) (t : List ℕ) (list : Netlist) (old : List ℕ) where
+  small-list : Small (listFault m t list old)
+  unfolding listFault outputFault
+  small-list = small-first _ (small-symmetry m t) (small-first _ (small-output (length old) (length (words m list))) small-none)
+
+  judged-list : isNone (listFault m t list old) ≡ true → isNone (symmetryFault m t) ≡ true
+  unfolding listFault firstOf
+  judged-list n = or-both _ _ n .0
+
+module _ (m : ℕ) (t : List ℕ) (small : Bytes t) {r : CountsAnswer} where
+  pub plain-packs : r ≡ countsPlainCall m t → PacksCounts r
+  plain-packs e = packs _ _ e (small-symmetry m t) (λ n. (ands-small m t small n, plain-small m t small n))
+
+  pub reduced-packs : r ≡ countsReducedCall m t → PacksCounts r
+  reduced-packs e = packs _ _ e (small-symmetry m t) (λ n. (ands-small m t small n, reduced-small m t small n))
+
+  pub common-packs : r ≡ countsCommonCall m t → PacksCounts r
+  common-packs e = packs _ _ e (small-symmetry m t) (λ n. (ands-small m t small n, common-small m t small n))
+
+  module _ (old : List ℕ) where
+    -- a written list's gates, which are those that are counted
+    list-packs : (list : Netlist) (x : ℕ) → (Shaped m t → Symmetric m t → Gates list (m * m) x) → (isNone (symmetryFault m t) ≡ true → x < valueLimit) →
+        r ≡ listCall m t list old → PacksCounts r
+    list-packs list x g h e = packs _ _ e (small-list m t list old) (λ n.
+        let k = judged-list m t list old n in
+        let f = table-fine m t small k in
+        (rw (g (f .0) (f .1) .ands) (ands-small m t small k), rw (g (f .0) (f .1) .xors) (h k)))
+
+    pub plain-list-packs : r ≡ listCall m t (plain m t) old → PacksCounts r
+    plain-list-packs = list-packs (plain m t) _ (λ s y. plain-gates m t (s .least) (s .isTable) y) (plain-small m t small)
+
+    pub reduced-list-packs : r ≡ listCall m t (reduced m t) old → PacksCounts r
+    reduced-list-packs = list-packs (reduced m t) _ (λ s y. reduced-gates m t (s .least) (s .isTable) y) (reduced-small m t small)
+
+    pub common-list-packs : r ≡ listCall m t (common m t) old → PacksCounts r
+    common-list-packs = list-packs (common m t) _ (λ s y. common-gates m t (s .least) (s .isTable) y) (common-small m t small)
+
+-- types
+type-packs : (f : Fault) (m : ℕ) → Small f → (isNone f ≡ true → isNone (widthFault m) ≡ true) → {r : TypeAnswer} → r ≡ typed f m →
+    Packs (r .fault) (r .t) 0
+unfolding typed
+type-packs f m s h {r} e = subst (λ (r : TypeAnswer). Packs (r .fault) (r .t) 0) (sym e)
+    (s, λ n. let w = width-fine m (h n) in (rw n (omega (arith, type-small m (w .0) (w .1))), omega arith))
+
+module _ (m : ℕ) {r : TypeAnswer} where
+  pub type-answer-packs : r ≡ typeCall m → Packs (r .fault) (r .t) 0
+  unfolding firstOf
+  type-answer-packs = type-packs _ m (small-or (small-width m) (λ e. small-or (small-type m) (λ e. small-none))) (λ n. or-both _ _ n .0)
+
+  pub draw-packs : (size : ℕ) → r ≡ drawCall m size → Packs (r .fault) (r .t) 0
+  unfolding drawFault firstOf
+  draw-packs size = type-packs _ m (small-or (small-width m) (λ e. small-or (small-length _ _) (λ e. small-or (small-type m) (λ e. small-none)))) (λ n. or-both _ _ n .0)
+
+-- cards
+module _ (m : ℕ) (t old : List ℕ) {r : CardAnswer} where
+  pub write-packs : r ≡ writeCall m t old → Packs (r .fault) (r .value) 0
+  unfolding writeFault firstOf
+  write-packs e = subst (λ (r : CardAnswer). Packs (r .fault) (r .value) 0) (sym e) (
+    small-or (small-shape m t) (λ e. small-or (small-output (length old) (length (card m t))) (λ e. small-none)),
+    λ n. (rw n (omega (arith, card-le m t (shape-size m t (or-both _ _ n .0) .0))), omega arith),
+  )
+
+module _ (s old : List ℕ) (small : Bytes s) {r : CardAnswer} where
+  pub read-packs : r ≡ readCall s old → Packs (r .fault) (r .value) 0
+  read-packs e = subst (λ (r : CardAnswer). Packs (r .fault) (r .value) 0) (sym e)
+      (small-read s old, λ n. (omega (arith, card-laws .cards s old small (none-is _ n) .greatest), omega arith))

@@ -1,0 +1,210 @@
+-- Laws of packed answers: what is returned beside a fault has room in its bits, and equal answers.
+use mathlib.Core.Path.{_≡_, refl, sym, ap, _∙_}
+use mathlib.Core.Bool.{Bool, true, false, not, _&&_}
+use mathlib.Core.List.{List, [], _∷_}
+use Prim.Native.Nat.{ℕ, zero, suc, _+_, _-_, _*_, _^_, _<_, _≤_}
+use native.Mathlib.Omega.{arith}
+use lib.Dec.{leb, ltb, eqb}
+use lib.ListN.{length}
+use Rattle.gf2.specs.Sums.{every}
+use Rattle.gf2.specs.Operands.{maxWidth, bytesFor, isClear, zeroes, turned}
+use Rattle.gf2.specs.Quadratic.{trace}
+use Rattle.gf2.specs.Tables.{row, basis}
+use Rattle.gf2.specs.Products.{product}
+use Rattle.gf2.specs.Check.{rowSum}
+use Rattle.operand.specs.declared.fault.Fault.{Fault}
+use Rattle.operand.specs.declared.fault.Fault.the-variants.{None, Width, Length, HighBit, RowZero, RowPair, Triple, RowSum, TurnCount, InverseOfZero, TraceOne, OutputShort, CardEnds, CardNumber, CardForm, CardPlace, CardTail, NoType, BadGate}
+use Rattle.operand.specs.Faults.{numberOf, isNone, when, orElse, firstOf, firstFrom}
+use Rattle.operand.specs.Judgements.{widthFault, lengthFault, highFault, turnFault, traceFault, bytesFault}
+use Rattle.operand.proofs.FaultLaws.{or-first, or-second, or-both, width-fine}
+use Rattle.table.specs.Judgements.{same, rowsFault, shapeFault, rowZeroFault, rowPairFault, tripleFault, rowSumFault, symmetryFault, checkFault}
+use Rattle.netlist.specs.Running.{gateCount}
+use Rattle.netlist.specs.Judgements.{wordsFault, isGate, isOutput, gatesFault}
+use Rattle.gaussian.specs.Types.{typeOf}
+use Rattle.gaussian.specs.Calls.{typeFault}
+use Rattle.nb.specs.Packing.{packed, packedFault, packedAnswer, valueLimit, Small}
+use Rattle.nb.specs.Judgements.{turnBytesFault, sumBytesFault, solveBytesFault, productBytesFault, reducedBytesFault, zeroBytesFault, inverseBytesFault, runBytesFault}
+
+pub number-small : (f : Fault) → numberOf f .0 < 2 ^ 8
+number-small None = omega arith
+number-small Width = omega arith
+number-small Length = omega arith
+number-small HighBit = omega arith
+number-small RowZero = omega arith
+number-small (RowPair d) = omega arith
+number-small (Triple i j) = omega arith
+number-small RowSum = omega arith
+number-small TurnCount = omega arith
+number-small InverseOfZero = omega arith
+number-small TraceOne = omega arith
+number-small OutputShort = omega arith
+number-small CardEnds = omega arith
+number-small CardNumber = omega arith
+number-small CardForm = omega arith
+number-small CardPlace = omega arith
+number-small CardTail = omega arith
+number-small NoType = omega arith
+number-small BadGate = omega arith
+
+-- equal faults and, where these are none, equal values make equal answers
+pub answer-same : {f g : Fault} {x y u v : ℕ} → f ≡ g → (isNone g ≡ true → (x ≡ y) × (u ≡ v)) → packedAnswer f x u ≡ packedAnswer g y v
+unfolding packedAnswer
+answer-same {f} {g} {x} {y} {u} {v} e h = ap (λ k. packedAnswer k x u) e ∙ go (isNone g) refl
+  where
+    go : (b : Bool) → isNone g ≡ b → packedAnswer g x u ≡ packedAnswer g y v
+    go true q = ap (λ k. packedAnswer g k u) (h q .0) ∙ ap (packedAnswer g y) (h q .1)
+    go false q = rw q
+
+-- a fault beside which nothing is returned
+pub bare : (f : Fault) → numberOf f .1 ≡ 0 → numberOf f .2 ≡ 0 → Small f
+bare f p q = record { first = omega arith; second = omega arith }
+
+small-when : (b : Bool) (f : Fault) → Small f → Small (when b f)
+small-when true f s = s
+small-when false f s = bare None refl refl
+
+bare-when : (b : Bool) (f : Fault) → numberOf f .1 ≡ 0 → numberOf f .2 ≡ 0 → Small (when b f)
+bare-when b f p q = small-when b f (bare f p q)
+
+pub small-or : {f g : Fault} → Small f → (isNone f ≡ true → Small g) → Small (orElse f g)
+small-or {f} {g} p q = go (isNone f) refl
+  where
+    go : (b : Bool) → isNone f ≡ b → Small (orElse f g)
+    go true e = rw (or-second f g e) (q e)
+    go false e = rw (or-first f g e) p
+
+pub small-none : Small (firstOf [])
+unfolding firstOf
+small-none = bare None refl refl
+
+pub small-then : {f : Fault} (fs : List Fault) → Small f → (isNone f ≡ true → Small (firstOf fs)) → Small (firstOf (f ∷ fs))
+unfolding firstOf
+small-then fs p q = small-or p q
+
+pub small-first : {f : Fault} (fs : List Fault) → Small f → Small (firstOf fs) → Small (firstOf (f ∷ fs))
+small-first fs p q = small-then fs p (λ e. q)
+
+pub small-from : (start count : ℕ) (f : ℕ → Fault) → ((d : ℕ) → start ≤ d → d < start + count → Small (f d)) → Small (firstFrom start count f)
+unfolding firstFrom
+small-from start zero f h = bare None refl refl
+small-from start (suc count) f h =
+    small-or (h start (omega arith) (omega arith)) (λ e. small-from (start + 1) count f (λ d l k. h d (omega arith) (omega arith)))
+
+pub small-width : (m : ℕ) → Small (widthFault m)
+unfolding widthFault
+small-width m = bare-when (not (leb 2 m && leb m maxWidth)) Width refl refl
+
+pub small-length : (given laidDown : ℕ) → Small (lengthFault given laidDown)
+unfolding lengthFault
+small-length given laidDown = bare-when (not (eqb given laidDown)) Length refl refl
+
+pub small-high : (m : ℕ) (x : List ℕ) → Small (highFault m x)
+unfolding highFault
+small-high m x = bare-when (not (isClear m x)) HighBit refl refl
+
+pub small-turn : (m k : ℕ) → Small (turnFault m k)
+unfolding turnFault
+small-turn m k = bare-when (leb m k) TurnCount refl refl
+
+pub small-trace : (m : ℕ) (c : List ℕ) → Small (traceFault m c)
+unfolding traceFault
+small-trace m c = bare-when (eqb (trace m c) 1) TraceOne refl refl
+
+pub small-zero : (m : ℕ) (a : List ℕ) → Small (zeroBytesFault m a)
+unfolding zeroBytesFault
+small-zero m a = bare-when (same a (zeroes (bytesFor m) m)) InverseOfZero refl refl
+
+pub small-rows : (m : ℕ) (t : List ℕ) → Small (rowsFault m t)
+unfolding rowsFault
+small-rows m t = bare-when (not (every m (λ d. isClear m (row m t d)))) HighBit refl refl
+
+pub small-words : (m : ℕ) (list : List ℕ) → Small (wordsFault m list)
+unfolding wordsFault
+small-words m list =
+    small-first _ (bare-when (ltb (length list) 2) Length refl refl) (small-first _ (small-length _ _) (small-first _ (small-length _ _) small-none))
+
+pub small-gates : (m : ℕ) (list : List ℕ) → Small (gatesFault m list)
+unfolding gatesFault
+small-gates m list = bare-when (not (every (gateCount list) (isGate m list) && every m (isOutput m list))) BadGate refl refl
+
+pub small-output : (given needed : ℕ) → Small (when (ltb given needed) OutputShort)
+small-output given needed = bare-when (ltb given needed) OutputShort refl refl
+
+pub small-type : (m : ℕ) → Small (typeFault m)
+unfolding typeFault
+small-type m = bare-when (eqb (typeOf m) 0) NoType refl refl
+
+-- what `search` needs for the first of several faults
+pub ruleset smalls = (small-first, small-none, small-width, small-length, small-high, small-turn, small-trace, small-zero, small-rows, small-words, small-gates)
+
+pub small-bytes : (m : ℕ) (x : List ℕ) → Small (bytesFault m x)
+unfolding bytesFault
+small-bytes m x = search smalls
+
+-- the faults of a table whose width has passed
+module _ (m : ℕ) (t : List ℕ) where
+  pub small-shape : Small (shapeFault m t)
+  unfolding shapeFault
+  small-shape = search smalls
+
+  pub small-row-zero : Small (rowZeroFault m t)
+  unfolding rowZeroFault
+  small-row-zero = bare-when (not (same (row m t 0) (basis m 1))) RowZero refl refl
+
+  pub small-row-pair : m ≤ maxWidth → Small (rowPairFault m t)
+  unfolding rowPairFault
+  small-row-pair h = small-from 1 (m - 1) _ (λ d l k. small-when (not (same (row m t d) (turned m d (row m t (m - d))))) (RowPair d) (record { first = omega arith; second = omega arith }))
+
+  pub small-triple : m ≤ maxWidth → Small (tripleFault m t)
+  unfolding tripleFault
+  small-triple h = small-from 0 m _ (λ i l k. small-from 0 m _ (λ j u v. small-when (not (same (product m t (product m t (basis m 0) (basis m i)) (basis m j)) (product m t (basis m 0) (product m t (basis m i) (basis m j))))) (Triple i j) (record { first = omega arith; second = omega arith })))
+
+  pub small-row-sum : Small (rowSumFault m t)
+  unfolding rowSumFault
+  small-row-sum = bare-when (not (same (rowSum m t) (basis m 0))) RowSum refl refl
+
+-- the faults of the calls on operands of W bytes
+pub small-turn-call : (m : ℕ) (a : List ℕ) (k : ℕ) (old : List ℕ) → Small (turnBytesFault m a k old)
+unfolding turnBytesFault
+small-turn-call m a k old = search smalls depth 12
+
+pub small-sum-call : (m : ℕ) (a b old : List ℕ) → Small (sumBytesFault m a b old)
+unfolding sumBytesFault
+small-sum-call m a b old = search smalls depth 12
+
+pub small-solve-call : (m : ℕ) (c old : List ℕ) → Small (solveBytesFault m c old)
+unfolding solveBytesFault
+small-solve-call m c old = search smalls depth 12
+
+pub small-product-call : (m : ℕ) (t a b old : List ℕ) → Small (productBytesFault m t a b old)
+unfolding productBytesFault
+small-product-call m t a b old = search smalls depth 12
+
+pub small-reduced-call : (m : ℕ) (t a b old : List ℕ) → Small (reducedBytesFault m t a b old)
+unfolding reducedBytesFault
+small-reduced-call m t a b old = small-then _ (small-width m) (λ e.
+    let rules = small-first _ (small-row-zero m t) (small-first _ (small-row-pair m t (width-fine m e .1)) small-none) in
+    let bits = small-first _ (small-rows m t) (small-first _ (small-high m a) (small-first _ (small-high m b) rules)) in
+    small-first _ (small-length _ _) (small-first _ (small-length _ _) (small-first _ (small-length _ _) (small-first _ (small-length _ _) bits))))
+
+pub small-inverse-call : (m : ℕ) (t a old : List ℕ) → Small (inverseBytesFault m t a old)
+unfolding inverseBytesFault
+small-inverse-call m t a old = search smalls depth 12
+
+pub small-run-call : (m : ℕ) (list a b result wires : List ℕ) → Small (runBytesFault m list a b result wires)
+unfolding runBytesFault
+small-run-call m list a b result wires = search smalls depth 14
+
+-- the faults of a table
+module _ (m : ℕ) (t : List ℕ) where
+  pub shape-greatest : isNone (shapeFault m t) ≡ true → m ≤ maxWidth
+  unfolding shapeFault firstOf
+  shape-greatest e = width-fine m (or-both _ _ e .0) .1
+
+  pub small-symmetry : Small (symmetryFault m t)
+  unfolding symmetryFault
+  small-symmetry = small-then _ (small-shape m t) (λ e. small-first _ (small-row-zero m t) (small-first _ (small-row-pair m t (shape-greatest e)) small-none))
+
+  pub small-check : Small (checkFault m t)
+  unfolding checkFault symmetryFault firstOf
+  small-check = small-or small-symmetry (λ e. let w = shape-greatest (or-both _ _ e .0) in small-or (small-triple m t w) (λ q. small-or (small-row-sum m t) (λ r. small-none)))

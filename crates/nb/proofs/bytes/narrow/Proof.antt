@@ -1,0 +1,20 @@
+-- `nb::bytes::narrow` meets its contract.
+use mathlib.Core.Path.{sym, ap}
+use Rattle.gf2.specs.Operands.{choose}
+use Rattle.operand.proofs.Tests.{tests}
+use borrow.Author.Needs.{needs}
+use borrow.Author.Tests.{le-leb, lt-leb}
+use Rattle.nb.proofs.bytes.narrow.Statement.{statement}
+use Rattle.nb.proofs.bytes.narrow.Tie as tie
+
+cast-result : tie.Need-cast-result
+cast-result c = search needs
+
+returns : tie.Need-returns
+returns c = rw (le-leb _ _ (c .if1 .taken))
+
+returns-2 : tie.Need-returns-2
+returns-2 c = rw (lt-leb _ _ (c .if1 .left))
+
+pub narrow-spec : {M : Type 1} → statement M
+narrow-spec = tie.close (tie.spec cast-result returns returns-2)

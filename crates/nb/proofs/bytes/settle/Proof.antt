@@ -1,0 +1,23 @@
+-- `nb::bytes::settle` meets its contract.
+use mathlib.Core.Path.{sym, _∙_}
+use borrow.Author.Needs.{needs}
+use Rattle.nb.proofs.bytes.settle.Statement.{statement}
+use Rattle.nb.proofs.bytes.settle.Tie as tie
+
+is-none-requires : tie.Need-is-none-requires
+is-none-requires c κs = search needs
+
+write-requires : tie.Need-write-requires
+write-requires c κs = search needs
+
+same-length : tie.Need-same-length
+same-length c = search needs
+
+returns : tie.Need-returns
+returns c = rw (sym (c .before .before .before .before .before .is-none .ensures) ∙ c .before .before .before .before .if1 .taken) (c .before .before .write .ensures .1)
+
+returns-2 : tie.Need-returns-2
+returns-2 c = rw (sym (c .before .is-none .ensures) ∙ c .if1 .left)
+
+pub settle-spec : {M : Type 1} → statement M
+settle-spec = tie.close (tie.spec is-none-requires write-requires same-length returns returns-2)

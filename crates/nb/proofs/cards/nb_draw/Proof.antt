@@ -1,0 +1,22 @@
+-- `nb::cards::nb_draw` meets its contract.
+use mathlib.Core.Path.{ap, _∙_}
+use Rattle.nb.specs.Calls.{typeAnswer}
+use Rattle.nb.proofs.Bounds.{draw-packs}
+use borrow.Author.Needs.{needs}
+use Rattle.nb.proofs.cards.nb_draw.Statement.{statement}
+use Rattle.nb.proofs.cards.nb_draw.Tie as tie
+
+draw-requires : tie.Need-draw-requires
+draw-requires c κs = search needs
+
+answer-requires : tie.Need-answer-requires
+answer-requires c κs = draw-packs _ _ (c .before .before .draw .ensures .0)
+
+same-length : tie.Need-same-length
+same-length c = search needs
+
+returns : tie.Need-returns
+returns c = (c .answer .ensures ∙ ap typeAnswer (c .before .before .before .draw .ensures .0), c .before .before .before .draw .ensures .1)
+
+pub nb-draw-spec : {M : Type 1} → statement M
+nb-draw-spec = tie.close (tie.spec draw-requires answer-requires same-length returns)

@@ -1,0 +1,19 @@
+-- `nb::netlists::nb_counts_common` meets its contract.
+use mathlib.Core.Path.{ap, _∙_}
+use Rattle.nb.specs.Calls.{countsAnswer}
+use Rattle.nb.proofs.Bounds.{common-packs}
+use borrow.Author.Needs.{needs}
+use Rattle.nb.proofs.netlists.nb_counts_common.Statement.{statement}
+use Rattle.nb.proofs.netlists.nb_counts_common.Tie as tie
+
+counts-common-requires : tie.Need-counts-common-requires
+counts-common-requires c κs = search needs
+
+both-requires : tie.Need-both-requires
+both-requires c κs = common-packs _ _ (λ b. c .before .shared-slice-known .given b .fits) (c .counts-common .ensures)
+
+returns : tie.Need-returns
+returns c = c .both .ensures ∙ ap countsAnswer (c .before .counts-common .ensures)
+
+pub nb-counts-common-spec : {M : Type 1} → statement M
+nb-counts-common-spec = tie.close (tie.spec counts-common-requires both-requires returns)

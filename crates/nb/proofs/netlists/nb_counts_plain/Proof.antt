@@ -1,0 +1,19 @@
+-- `nb::netlists::nb_counts_plain` meets its contract.
+use mathlib.Core.Path.{ap, _∙_}
+use Rattle.nb.specs.Calls.{countsAnswer}
+use Rattle.nb.proofs.Bounds.{plain-packs}
+use borrow.Author.Needs.{needs}
+use Rattle.nb.proofs.netlists.nb_counts_plain.Statement.{statement}
+use Rattle.nb.proofs.netlists.nb_counts_plain.Tie as tie
+
+counts-plain-requires : tie.Need-counts-plain-requires
+counts-plain-requires c κs = search needs
+
+both-requires : tie.Need-both-requires
+both-requires c κs = plain-packs _ _ (λ b. c .before .shared-slice-known .given b .fits) (c .counts-plain .ensures)
+
+returns : tie.Need-returns
+returns c = c .both .ensures ∙ ap countsAnswer (c .before .counts-plain .ensures)
+
+pub nb-counts-plain-spec : {M : Type 1} → statement M
+nb-counts-plain-spec = tie.close (tie.spec counts-plain-requires both-requires returns)

@@ -1,0 +1,19 @@
+-- `nb::netlists::nb_counts_reduced` meets its contract.
+use mathlib.Core.Path.{ap, _∙_}
+use Rattle.nb.specs.Calls.{countsAnswer}
+use Rattle.nb.proofs.Bounds.{reduced-packs}
+use borrow.Author.Needs.{needs}
+use Rattle.nb.proofs.netlists.nb_counts_reduced.Statement.{statement}
+use Rattle.nb.proofs.netlists.nb_counts_reduced.Tie as tie
+
+counts-reduced-requires : tie.Need-counts-reduced-requires
+counts-reduced-requires c κs = search needs
+
+both-requires : tie.Need-both-requires
+both-requires c κs = reduced-packs _ _ (λ b. c .before .shared-slice-known .given b .fits) (c .counts-reduced .ensures)
+
+returns : tie.Need-returns
+returns c = c .both .ensures ∙ ap countsAnswer (c .before .counts-reduced .ensures)
+
+pub nb-counts-reduced-spec : {M : Type 1} → statement M
+nb-counts-reduced-spec = tie.close (tie.spec counts-reduced-requires both-requires returns)

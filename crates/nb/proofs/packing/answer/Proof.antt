@@ -1,0 +1,34 @@
+-- `nb::packing::answer` meets its contract.
+use mathlib.Core.Path.{sym, ap, _∙_}
+use native.Mathlib.Omega.{arith}
+use Rattle.operand.specs.declared.fault.FaultNumber.{FaultNumber}
+use Rattle.nb.specs.Packing.{packed, packedFault, packedAnswer}
+use Rattle.nb.proofs.PackLaws.{number-small}
+use borrow.Author.Needs.{needs}
+use Rattle.nb.proofs.packing.answer.Statement.{statement}
+use Rattle.nb.proofs.packing.answer.Tie as tie
+
+is-none-requires : tie.Need-is-none-requires
+is-none-requires c κs = search needs
+
+pack-requires : tie.Need-pack-requires
+pack-requires c κs = let v = c .before .before .pre .1 (sym (c .before .is-none .ensures) ∙ c .if1 .taken) in (omega arith, v .0, v .1)
+
+returns : tie.Need-returns
+unfolding packedAnswer packedFault
+returns c = rw (sym (c .before .before .is-none .ensures) ∙ c .before .if1 .taken) (c .pack .ensures)
+
+number-requires : tie.Need-number-requires
+number-requires c κs = search needs
+
+pack-requires-2 : tie.Need-pack-requires-2
+pack-requires-2 c κs = rw (c .number .ensures) (number-small (c .before .before .before .args .fault), c .before .before .before .pre .0 .first, c .before .before .before .pre .0 .second)
+
+returns-2 : tie.Need-returns-2
+unfolding packedAnswer packedFault
+returns-2 c = rw (sym (c .before .before .before .is-none .ensures) ∙ c .before .before .if1 .left) (c .pack2 .ensures ∙ ap (λ (n : FaultNumber). packed (n .0) (n .1) (n .2)) (c .before .number .ensures))
+
+pub answer-spec : {M : Type 1} → statement M
+answer-spec =
+    tie.close
+    (tie.spec is-none-requires pack-requires returns number-requires pack-requires-2 returns-2)

@@ -1,0 +1,20 @@
+-- `nb::tables::nb_check` meets its contract.
+use mathlib.Core.Path.{ap, _∙_}
+use native.Mathlib.Omega.{arith}
+use Rattle.nb.specs.Packing.{packedAnswer}
+use Rattle.nb.proofs.PackLaws.{small-check}
+use borrow.Author.Needs.{needs}
+use Rattle.nb.proofs.tables.nb_check.Statement.{statement}
+use Rattle.nb.proofs.tables.nb_check.Tie as tie
+
+check-requires : tie.Need-check-requires
+check-requires c κs = search needs
+
+answer-requires : tie.Need-answer-requires
+answer-requires c κs = (rw (c .check .ensures) (small-check _ _), λ e. (omega arith, omega arith))
+
+returns : tie.Need-returns
+returns c = c .answer .ensures ∙ ap (λ f. packedAnswer f 0 0) (c .before .check .ensures)
+
+pub nb-check-spec : {M : Type 1} → statement M
+nb-check-spec = tie.close (tie.spec check-requires answer-requires returns)

@@ -1,0 +1,64 @@
+-- `nb::tables::nb_inverse` meets its contract.
+use mathlib.Core.Path.{_≡_, refl, sym, ap, _∙_}
+use mathlib.Core.Bool.{true}
+use native.Mathlib.Omega.{arith}
+use Rattle.gf2.specs.Inverse.{inverse, productsMade}
+use Rattle.operand.specs.Faults.{isNone}
+use Rattle.nb.specs.Judgements.{inverseBytesFault}
+use Rattle.nb.proofs.PackLaws.{answer-same, small-inverse-call}
+use Rattle.nb.proofs.Bounds.{inverse-small}
+use Rattle.nb.proofs.CallLaws.{Done, inverse-done, inverse-count}
+use borrow.Author.Needs.{needs}
+use Rattle.nb.proofs.tables.nb_inverse.Statement.{statement}
+use Rattle.nb.proofs.tables.nb_inverse.Tie as tie
+
+-- the call, from its lengths to its result
+call : (c : tie.After-slice-known2) → let a = c .before .before .before .before .before .before .before .before .before .before .before .before .args in
+    Done (inverseBytesFault (a .width) (a .table .now) (a .a .now) (a .result .now)) (inverse (a .width) (a .table .now) (a .a .now)) (a .result .now) (c .before .before .before .before .or-else .result) (c .before .before .settle .last .1 .1 .0)
+call c = inverse-done _ _ _ _ (λ b. c .before .before .before .before .before .before .before .before .before .before .shared-slice-known2 .given b .fits) (c .before .before .before .before .before .before .before .before .judge-one .ensures) (c .before .before .before .before .before .before .before .carry .ensures) (c .before .before .before .before .or-else .ensures, c .before .before .settle .ensures) (c .before .before .before .before .before .before .inverse .ensures)
+
+-- and its number of products
+count : (c : tie.After-slice-known2) → let a = c .before .before .before .before .before .before .before .before .before .before .before .before .args in
+    isNone (inverseBytesFault (a .width) (a .table .now) (a .a .now) (a .result .now)) ≡ true → c .before .before .before .before .before .before .inverse .result .count ≡ productsMade (a .width) (a .table .now) (a .a .now)
+count c = inverse-count _ _ _ _ (λ b. c .before .before .before .before .before .before .before .before .before .before .shared-slice-known2 .given b .fits) (c .before .before .before .before .before .before .before .before .judge-one .ensures) (c .before .before .before .before .before .before .before .carry .ensures) (c .before .before .before .before .or-else .ensures, c .before .before .settle .ensures) (c .before .before .before .before .before .before .inverse .ensures)
+
+judge-one-requires : tie.Need-judge-one-requires
+judge-one-requires c κs = search needs
+
+carry-requires : tie.Need-carry-requires
+carry-requires c κs = search needs
+
+inverse-requires : tie.Need-inverse-requires
+inverse-requires c κs = search needs
+
+or-else-requires : tie.Need-or-else-requires
+or-else-requires c κs = search needs
+
+settle-requires : tie.Need-settle-requires
+settle-requires c κs = search needs
+
+answer-requires : tie.Need-answer-requires
+answer-requires c κs = 
+    let a = c .before .before .before .before .before .before .before .before .before .before .before .before .args in (
+      rw (call c .fault) (small-inverse-call (a .width) (a .table .now) (a .a .now) (a .result .now)),
+      λ e. let n = ap isNone (sym (call c .fault)) ∙ e in (rw (count c n) (inverse-small (a .width) (a .table .now) (a .a .now) (a .result .now) n), omega arith),
+    )
+
+same-length : tie.Need-same-length
+same-length c = search needs
+
+returns : tie.Need-returns
+returns c = (c .answer .ensures ∙ answer-same (call (c .before) .fault) (λ e. (count (c .before) e, refl)), call (c .before) .bytes)
+
+pub nb-inverse-spec : {M : Type 1} → statement M
+nb-inverse-spec =
+    tie.close
+    (tie.spec
+    judge-one-requires
+    carry-requires
+    inverse-requires
+    or-else-requires
+    settle-requires
+    answer-requires
+    same-length
+    returns)

@@ -1,0 +1,32 @@
+-- How an answer is packed into one number of 64 bits.
+use mathlib.Core.Path.{_≡_}
+use mathlib.Core.Bool.{true}
+use Prim.Native.Nat.{ℕ, _+_, _*_, _^_, _<_}
+use Rattle.gf2.specs.Operands.{choose}
+use Rattle.operand.specs.declared.fault.Fault.{Fault}
+use Rattle.operand.specs.Faults.{numberOf, isNone}
+
+-- "number + 2^8 · first + 2^36 · second"
+abbrev pub packed : ℕ → ℕ → ℕ → ℕ
+packed number first second = number + 2 ^ 8 * first + 2 ^ 36 * second
+
+-- a fault's number, and what document 01 returns beside it: with 5 the least d, with 6 i and j
+unfoldable pub packedFault : Fault → ℕ
+packedFault f = packed (numberOf f .0) (numberOf f .1) (numberOf f .2)
+
+-- a fault, or "number 0 is success" and the values that the call returns
+unfoldable pub packedAnswer : Fault → ℕ → ℕ → ℕ
+packedAnswer f first second = choose (isNone f) (packed 0 first second) (packedFault f)
+
+-- a value that has room in its 28 bits
+abbrev pub valueLimit : ℕ
+valueLimit = 2 ^ 28
+
+-- what document 01 returns beside a fault has room
+pub record Small (f : Fault) : Type 0 where
+  pub first : numberOf f .1 < valueLimit
+  pub second : numberOf f .2 < valueLimit
+
+-- a fault that has room, or none and two values that have
+abbrev pub Packs : Fault → ℕ → ℕ → Type 0
+Packs f first second = Small f × (isNone f ≡ true → (first < valueLimit) × (second < valueLimit))

@@ -1,0 +1,60 @@
+// The calls on operands alone.
+ghost use mathlib.Core.Path.{_≡_};
+ghost use Rattle.nb.specs.Calls.{turnAnswer, turnResult, sumAnswer, sumResult, traceAnswer, solveAnswer, solveResult};
+use crate::bytes;
+use crate::packing;
+use operand::Operand;
+
+#[no_mangle]
+pub extern "C" fn nb_turn(width: u64, a: &[u8], k: u64, result: &mut [u8]) -> u64
+    ensures { λ r. ⌜ (r ≡ turnAnswer width (now (a .entry)) k (now (result .entry))) × (now (result .exit) ≡ turnResult width (now (a .entry)) k (now (result .entry))) ⌝ }
+{
+    let m = width as usize;
+    let sizes = bytes::judge_one(m, a.len(), result.len());
+    let turned = bytes::carry(m, a).turn(k as usize);
+    let judged = turned.fault;
+    let value = turned.value;
+    let fault = operand::or_else(sizes, judged);
+    bytes::settle(fault, value, result);
+    packing::answer(fault, 0, 0)
+}
+
+#[no_mangle]
+pub extern "C" fn nb_sum(width: u64, a: &[u8], b: &[u8], result: &mut [u8]) -> u64
+    ensures { λ r. ⌜ (r ≡ sumAnswer width (now (a .entry)) (now (b .entry)) (now (result .entry))) × (now (result .exit) ≡ sumResult width (now (a .entry)) (now (b .entry)) (now (result .entry))) ⌝ }
+{
+    let m = width as usize;
+    let sizes = bytes::judge_two(m, a.len(), b.len(), result.len());
+    let sum = bytes::carry(m, a).sum(bytes::carry(m, b));
+    let judged = sum.fault;
+    let value = sum.value;
+    let fault = operand::or_else(sizes, judged);
+    bytes::settle(fault, value, result);
+    packing::answer(fault, 0, 0)
+}
+
+#[no_mangle]
+pub extern "C" fn nb_trace(width: u64, a: &[u8]) -> u64
+    ensures { λ r. ⌜ r ≡ traceAnswer width (now (a .entry)) ⌝ }
+{
+    let m = width as usize;
+    let read = Operand::read(m, a);
+    let fault = read.fault;
+    let value = read.value;
+    let found = value.trace();
+    packing::answer(fault, found.trace, 0)
+}
+
+#[no_mangle]
+pub extern "C" fn nb_solve(width: u64, c: &[u8], result: &mut [u8]) -> u64
+    ensures { λ r. ⌜ (r ≡ solveAnswer width (now (c .entry)) (now (result .entry))) × (now (result .exit) ≡ solveResult width (now (c .entry)) (now (result .entry))) ⌝ }
+{
+    let m = width as usize;
+    let sizes = bytes::judge_one(m, c.len(), result.len());
+    let solution = bytes::carry(m, c).solve();
+    let judged = solution.fault;
+    let value = solution.value;
+    let fault = operand::or_else(sizes, judged);
+    bytes::settle(fault, value, result);
+    packing::answer(fault, 0, 0)
+}

@@ -1,0 +1,69 @@
+// The calls on a table: the check, its ones, products and inverses under it.
+ghost use mathlib.Core.Path.{_≡_};
+ghost use Rattle.nb.specs.Calls.{checkAnswer, onesAnswer, productAnswer, productResult, reducedAnswer, reducedResult, inverseAnswer, inverseResult};
+use crate::bytes;
+use crate::packing;
+
+#[no_mangle]
+pub extern "C" fn nb_check(width: u64, table: &[u8]) -> u64
+    ensures { λ r. ⌜ r ≡ checkAnswer width (now (table .entry)) ⌝ }
+{
+    packing::answer(table::check(width as usize, table), 0, 0)
+}
+
+#[no_mangle]
+pub extern "C" fn nb_ones(width: u64, table: &[u8]) -> u64
+    ensures { λ r. ⌜ r ≡ onesAnswer width (now (table .entry)) ⌝ }
+{
+    let counted = table::ones(width as usize, table);
+    let fault = counted.fault;
+    packing::answer(fault, counted.ones, 0)
+}
+
+#[no_mangle]
+pub extern "C" fn nb_product(width: u64, table: &[u8], a: &[u8], b: &[u8], result: &mut [u8]) -> u64
+    ensures { λ r. ⌜ (r ≡ productAnswer width (now (table .entry)) (now (a .entry)) (now (b .entry)) (now (result .entry))) × (now (result .exit) ≡ productResult width (now (table .entry)) (now (a .entry)) (now (b .entry)) (now (result .entry))) ⌝ }
+{
+    let m = width as usize;
+    let sizes = bytes::judge_two(m, a.len(), b.len(), result.len());
+    let product = product::product(m, table, bytes::carry(m, a), bytes::carry(m, b));
+    let judged = product.fault;
+    let value = product.value;
+    let fault = operand::or_else(sizes, judged);
+    bytes::settle(fault, value, result);
+    packing::answer(fault, 0, 0)
+}
+
+#[no_mangle]
+pub extern "C" fn nb_product_reduced(
+    width: u64,
+    table: &[u8],
+    a: &[u8],
+    b: &[u8],
+    result: &mut [u8],
+) -> u64
+    ensures { λ r. ⌜ (r ≡ reducedAnswer width (now (table .entry)) (now (a .entry)) (now (b .entry)) (now (result .entry))) × (now (result .exit) ≡ reducedResult width (now (table .entry)) (now (a .entry)) (now (b .entry)) (now (result .entry))) ⌝ }
+{
+    let m = width as usize;
+    let sizes = bytes::judge_two(m, a.len(), b.len(), result.len());
+    let product = product::product_reduced(m, table, bytes::carry(m, a), bytes::carry(m, b));
+    let judged = product.fault;
+    let value = product.value;
+    let fault = operand::or_else(sizes, judged);
+    bytes::settle(fault, value, result);
+    packing::answer(fault, 0, 0)
+}
+
+#[no_mangle]
+pub extern "C" fn nb_inverse(width: u64, table: &[u8], a: &[u8], result: &mut [u8]) -> u64
+    ensures { λ r. ⌜ (r ≡ inverseAnswer width (now (table .entry)) (now (a .entry)) (now (result .entry))) × (now (result .exit) ≡ inverseResult width (now (table .entry)) (now (a .entry)) (now (result .entry))) ⌝ }
+{
+    let m = width as usize;
+    let sizes = bytes::judge_one(m, a.len(), result.len());
+    let inverse = product::inverse(m, table, bytes::carry(m, a));
+    let judged = inverse.fault;
+    let value = inverse.value;
+    let fault = operand::or_else(sizes, judged);
+    bytes::settle(fault, value, result);
+    packing::answer(fault, inverse.count, 0)
+}
