@@ -1,0 +1,77 @@
+// What the report program prints for the bytes of its input.
+ghost use mathlib.Core.Path.{_≡_};
+ghost use mathlib.Core.List.{[]};
+ghost use Rattle.io.specs.Counts.{Counts};
+ghost use Rattle.table.specs.Rows.{Shaped};
+ghost use Rattle.report.specs.Text.{textOf, appended};
+ghost use Rattle.report.specs.Report.{refusal, countsLine, acceptance, tableReport, report as printed};
+use crate::text::Text;
+use netlist::CountsAnswer;
+use operand::Fault;
+use operand::Operand;
+
+// No card is longer; a longer input is refused.
+pub(crate) const INPUT_LIMIT: usize = 65536;
+
+// The bytes of a table of the greatest width.
+const LENT: usize = Operand::MAX_WIDTH * Operand::BYTES;
+
+fn refused(text: Text, fault: Fault) -> Text
+    ensures { λ r. ⌜ r ≡ appended text (refusal fault) ⌝ }
+{
+    let number = operand::number(fault);
+    text.append_line(b"refused", number.0)
+}
+
+fn counts(text: Text, word: &[u8], counts: CountsAnswer) -> Text
+    ensures { λ r. ⌜ r ≡ appended text (countsLine (now (word .entry)) counts) ⌝ }
+{
+    let ands = counts.ands;
+    let xors = counts.xors;
+    text.append_pair(word, ands.0, xors.0)
+}
+
+fn accepted(text: Text, width: usize, table: &[u8]) -> Text
+    ensures { λ r. ⌜ r ≡ appended text (acceptance width (now (table .entry))) ⌝ }
+{
+    let verdict = text.append(b"accepted\n");
+    let plain = counts(verdict, b"plain", netlist::counts_plain(width, table));
+    let reduced = counts(plain, b"reduced", netlist::counts_reduced(width, table));
+    counts(reduced, b"common", netlist::counts_common(width, table))
+}
+
+// The report of a table that was read.
+fn table_report(width: usize, table: &[u8]) -> Text
+    requires { ⌜ Shaped width (now table) ⌝ }
+    ensures { λ r. ⌜ r ≡ appended (textOf []) (tableReport width (now (table .entry))) ⌝ }
+{
+    let ones = table::ones(width, table);
+    let head = Text::empty()
+        .append_line(b"width", width)
+        .append_line(b"ones", ones.ones);
+    let fault = table::check(width, table);
+    if operand::is_none(fault) {
+        accepted(head, width, table)
+    } else {
+        refused(head, fault)
+    }
+}
+
+pub(crate) fn report(card: &[u8]) -> Text
+    ensures text { λ r. ⌜ r ≡ textOf (printed (now (card .entry))) ⌝ }
+    ensures fits { λ r. ⌜ Counts (r .length) (r .bytes) ⌝ }
+{
+    if INPUT_LIMIT < card.len() {
+        return refused(Text::empty(), Fault::Length);
+    }
+    let mut table = [0u8; LENT];
+    let answer = card::read(card, &mut table);
+    let fault = answer.fault;
+    if operand::is_none(fault) {
+        let width = answer.value;
+        let size = width * operand::bytes_for(width);
+        table_report(width, &table[..size])
+    } else {
+        refused(Text::empty(), fault)
+    }
+}
