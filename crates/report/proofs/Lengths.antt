@@ -28,7 +28,8 @@ use Rattle.netlist.specs.Calls.{answer, countsPlainCall, countsReducedCall, cou
 use Rattle.netlist.proofs.CallLaws.{width-times, ones-most}
 use Rattle.netlist.proofs.ListLaws.{shared-ones}
 use Rattle.report.specs.declared.text.Text.{Text}
-use Rattle.report.specs.Text.{ascii, decimal, spaced, line, room, textOf, appended}
+use Rattle.report.specs.Text.{ascii, decimal, spaced, line, room, textOf}
+use Rattle.report.specs.Steps.{appended}
 use Rattle.report.specs.Report.{inputLimit, lent, refusal, countsLine, acceptance, tableReport, readReport, report}
 use Rattle.report.proofs.Texts.{appended-text}
 use Rattle.report.proofs.Decimals.{decimal-length}

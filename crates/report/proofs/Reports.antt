@@ -25,7 +25,8 @@ use Rattle.card.proofs.Trips.{CardRead, card-written}
 use Rattle.card.proofs.Theorems.{found}
 use Rattle.netlist.specs.Calls.{countsPlainCall, countsReducedCall, countsCommonCall}
 use Rattle.report.specs.declared.text.Text.{Text}
-use Rattle.report.specs.Text.{ascii, spaced, line, textOf, appended}
+use Rattle.report.specs.Text.{ascii, spaced, line, textOf}
+use Rattle.report.specs.Steps.{appended, front, InFront}
 use Rattle.report.specs.Report.{inputLimit, lent, refusal, countsLine, acceptance, tableReport, readReport, report}
 use Rattle.report.proofs.Texts.{appended-more}
 
@@ -64,12 +65,10 @@ short-report : (s : List ℕ) → length s ≤ inputLimit → report s ≡ readR
 unfolding report
 short-report s h = rw (le-ltb inputLimit (length s) h)
 
--- what the code knows of a card that it has read: the table in the front of the lent one
-pub record TableRead (s : List ℕ) (m size : ℕ) (new : List ℕ) : Type 0 where
-  pub within : size ≤ length new
-  pub most : size ≤ lent
-  pub shaped : Shaped m (take size new)
-  pub reported : tableReport m (take size new) ≡ report s
+-- what the code knows of a card that it has read
+pub record TableRead (s : List ℕ) (m : ℕ) (new : List ℕ) : Type 0 where
+  pub inFront : InFront m new
+  pub reported : tableReport m (front m new) ≡ report s
 
 -- the lent table before the call
 abbrev old : List ℕ
@@ -94,21 +93,21 @@ module _ (s : List ℕ) (short : length s ≤ inputLimit) where
           let none : isNone None ≡ true = unfold isNone in refl in
           absurd (true≢false (sym none ∙ ap isNone (sym (ap (λ (a : CardAnswer). a .fault) (found-answer (got t rest) q)) ∙ sym e) ∙ n))
 
-  table-of : (t : Table) (rest : List ℕ) → Bytes s → readCard lent s ≡ got t rest → {m size : ℕ} {new : List ℕ} →
-      m ≡ t .width → size ≡ m * bytesFor m → new ≡ inFront (t .bytes) old → TableRead s m size new
-  table-of t rest small q {m} {size} {new} w z n =
+  table-of : (t : Table) (rest : List ℕ) → Bytes s → readCard lent s ≡ got t rest → {m : ℕ} {new : List ℕ} → m ≡ t .width → new ≡ inFront (t .bytes) old → TableRead s m new
+  table-of t rest small q {m} {new} w n =
       let r = card-written lent s t rest small q in
-      let e : size ≡ length (t .bytes) = z ∙ ap (λ k. k * bytesFor k) w ∙ sym (r .isTable .size) in
-      let b : take size new ≡ t .bytes = ap₂ take e n ∙ take-at (t .bytes) _ _ refl in
+      let e : m * bytesFor m ≡ length (t .bytes) = ap (λ k. k * bytesFor k) w ∙ sym (r .isTable .size) in
+      let b : front m new ≡ t .bytes = ap₂ take e n ∙ take-at (t .bytes) _ _ refl in
       record {
-        within = rw (e, n) (omega (arith, length-append (t .bytes) (drop (length (t .bytes)) old)));
-        most = rw (e, r .isTable .size) (r .lent .fits);
-        shaped = rw (b, w) (record { least = r .lent .least; greatest = r .lent .greatest; isTable = r .isTable });
+        inFront = record {
+          within = rw (e, n) (omega (arith, length-append (t .bytes) (drop (length (t .bytes)) old)));
+          shaped = rw (b, w) (record { least = r .lent .least; greatest = r .lent .greatest; isTable = r .isTable });
+        };
         reported = ap₂ tableReport w b ∙ sym (found-report (got t rest) q);
       }
 
-  pub table-read : {a : CardAnswer} {size : ℕ} {new : List ℕ} → Bytes s → a ≡ readCall s old → new ≡ readTable s old → isNone (a .fault) ≡ true → size ≡ a .value * bytesFor (a .value) → TableRead s (a .value) size new
-  table-read {a} {size} {new} small e n none z =
-      let none-call : readAnswer (readCard lent s) .fault ≡ None = sym (ap (λ (a : CardAnswer). a .fault) (found-answer (readCard lent s) refl)) ∙ sym (ap (λ (a : CardAnswer). a .fault) e) ∙ none-is (a .fault) none in
-      let (t, rest, q) = found lent s none-call in
-      table-of t rest small q (ap (λ (a : CardAnswer). a .value) (e ∙ found-answer (got t rest) q)) z (n ∙ ap (λ k. readInto (readCard k s) old) room ∙ ap (λ x. readInto x old) q)
+  pub table-read : {a : CardAnswer} {new : List ℕ} → Bytes s → a ≡ readCall s old → new ≡ readTable s old → isNone (a .fault) ≡ true → TableRead s (a .value) new
+  table-read {a} {new} small e n none =
+      let call = e ∙ found-answer (readCard lent s) refl in
+      let (t, rest, q) = found lent s (sym (ap (λ (a : CardAnswer). a .fault) call) ∙ none-is (a .fault) none) in
+      table-of t rest small q (ap (λ (a : CardAnswer). a .value) (e ∙ found-answer (got t rest) q)) (n ∙ ap (λ k. readInto (readCard k s) old) room ∙ ap (λ x. readInto x old) q)

@@ -11,7 +11,8 @@ use borrow.Author.Tests.{lt-ltb}
 use Rattle.gf2.specs.Operands.{choose}
 use Rattle.report.specs.declared.text.Text.{Text}
 use Rattle.io.specs.Digits.{digits, Fewest}
-use Rattle.report.specs.Text.{ascii, decimal, spaced, line, room, textOf, pushed, appended}
+use Rattle.report.specs.Text.{ascii, decimal, spaced, line, room, textOf}
+use Rattle.report.specs.Steps.{pushed, appended}
 use Rattle.report.proofs.Decimals.{count-is}
 
 pub appended-none : (t : Text) → appended t [] ≡ t

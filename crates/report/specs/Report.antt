@@ -54,3 +54,13 @@ readReport (got t rest) = tableReport (t .width) (t .bytes)
 -- what is printed for the bytes s of standard input
 unfoldable pub report : List ℕ → List ℕ
 report s = pick (ltb inputLimit (length s)) (refusal Length) (readReport (readCard lent s))
+
+-- the fault of the input s, none where its table is accepted
+-- It is never 3, as reading a card makes no bit at m or above; never 7, as rules 4 to 6 imply rule 7; never 11, as the lent table
+-- has room for the greatest width. Statements says so.
+abbrev pub readVerdict : Read Table → Fault
+readVerdict (refused f) = f
+readVerdict (got t rest) = checkFault (t .width) (t .bytes)
+
+unfoldable pub verdict : List ℕ → Fault
+verdict s = pick (ltb inputLimit (length s)) Length (readVerdict (readCard lent s))

@@ -1,14 +1,13 @@
--- Text as bytes: words, decimal numbers, lines; and the value that the code makes of them.
+-- Text as bytes: words, decimal numbers, lines; and the value that holds it.
 use mathlib.Core.List.{List, [], _∷_, _++_}
 use Prim.Native.Nat.{ℕ, zero, suc, _+_, _-_, _^_}
 use Prim.Native.Char.{code}
 use Prim.Native.String.{String}
 use Prim.Native.String.{[] as []ˢ, _∷_ as _∷ˢ_}
-use lib.ListN.{length, set, replicate}
+use lib.ListN.{length, replicate}
 use lib.Dec.{ltb}
 use Rattle.io.specs.Digits.{digits}
 use Rattle.gf2.specs.Operands.{choose}
-use Rattle.card.specs.Numbers.{pick}
 use Rattle.report.specs.declared.text.Text.{Text}
 
 -- the bytes of a text in ASCII
@@ -45,13 +44,3 @@ room = 128
 -- bytes as a text: 0 after them
 abbrev pub textOf : List ℕ → Text
 textOf l = record { bytes = l ++ replicate (room - length l) 0; length = length l }
-
--- a byte more, where there is room
-unfoldable pub pushed : Text → ℕ → Text
-pushed t b =
-    pick (ltb (t .length) room) (record { bytes = set (t .bytes) (t .length) b; length = t .length + 1 }) t
-
--- some bytes more
-unfoldable pub appended : Text → List ℕ → Text
-appended t [] = t
-appended t (b ∷ l) = appended (pushed t b) l

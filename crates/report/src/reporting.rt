@@ -3,7 +3,8 @@ ghost use mathlib.Core.Path.{_≡_};
 ghost use mathlib.Core.List.{[]};
 ghost use Rattle.io.specs.Counts.{Counts};
 ghost use Rattle.table.specs.Rows.{Shaped};
-ghost use Rattle.report.specs.Text.{textOf, appended};
+ghost use Rattle.report.specs.Text.{textOf};
+ghost use Rattle.report.specs.Steps.{appended, front, InFront};
 ghost use Rattle.report.specs.Report.{refusal, countsLine, acceptance, tableReport, report as printed};
 use crate::text::Text;
 use netlist::CountsAnswer;
@@ -57,6 +58,15 @@ fn table_report(width: usize, table: &[u8]) -> Text
     }
 }
 
+// The report of the table in front of the lent bytes.
+fn front_report(width: usize, lent: &[u8]) -> Text
+    requires { ⌜ InFront width (now lent) ⌝ }
+    ensures { λ r. ⌜ r ≡ appended (textOf []) (tableReport width (front width (now (lent .entry)))) ⌝ }
+{
+    let size = width * operand::bytes_for(width);
+    table_report(width, &lent[..size])
+}
+
 pub(crate) fn report(card: &[u8]) -> Text
     ensures text { λ r. ⌜ r ≡ textOf (printed (now (card .entry))) ⌝ }
     ensures fits { λ r. ⌜ Counts (r .length) (r .bytes) ⌝ }
@@ -64,13 +74,11 @@ pub(crate) fn report(card: &[u8]) -> Text
     if INPUT_LIMIT < card.len() {
         return refused(Text::empty(), Fault::Length);
     }
-    let mut table = [0u8; LENT];
-    let answer = card::read(card, &mut table);
+    let mut lent = [0u8; LENT];
+    let answer = card::read(card, &mut lent);
     let fault = answer.fault;
     if operand::is_none(fault) {
-        let width = answer.value;
-        let size = width * operand::bytes_for(width);
-        table_report(width, &table[..size])
+        front_report(answer.value, &lent)
     } else {
         refused(Text::empty(), fault)
     }

@@ -1,7 +1,8 @@
 // The text of a report: bytes in an array, with lines put after one another.
 ghost use mathlib.Core.Path.{_≡_};
 ghost use mathlib.Core.List.{[], _∷_};
-ghost use Rattle.report.specs.Text.{textOf, pushed, appended, spaced, line};
+ghost use Rattle.report.specs.Text.{textOf, spaced, line};
+ghost use Rattle.report.specs.Steps.{pushed, appended};
 
 // The first `length` bytes are the text; those after it are 0.
 pub(crate) struct Text {

@@ -1,6 +1,7 @@
 -- `report::reporting::accepted` meets its contract.
 use mathlib.Core.Path.{ap₂, _∙_}
-use Rattle.report.specs.Text.{ascii, appended}
+use Rattle.report.specs.Text.{ascii}
+use Rattle.report.specs.Steps.{appended}
 use Rattle.report.specs.Report.{countsLine}
 use Rattle.report.proofs.Reports.{accepted-put}
 use borrow.Author.Needs.{needs}

@@ -1,7 +1,8 @@
 -- `report::reporting::refused` meets its contract.
 use mathlib.Core.Path.{ap, _∙_}
 use mathlib.Core.List.{[], _∷_}
-use Rattle.report.specs.Text.{ascii, appended, line}
+use Rattle.report.specs.Text.{ascii, line}
+use Rattle.report.specs.Steps.{appended}
 use Rattle.report.specs.Report.{refusal}
 use borrow.Author.Needs.{needs}
 use Rattle.report.proofs.reporting.refused.Statement.{statement}

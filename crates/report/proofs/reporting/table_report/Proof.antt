@@ -3,7 +3,8 @@ use mathlib.Core.Path.{_≡_, ap, ap₂, _∙_}
 use mathlib.Core.List.{[], _∷_}
 use Rattle.operand.proofs.FaultLaws.{judged}
 use Rattle.netlist.proofs.CallLaws.{ones-given}
-use Rattle.report.specs.Text.{ascii, line, appended}
+use Rattle.report.specs.Text.{ascii, line}
+use Rattle.report.specs.Steps.{appended}
 use Rattle.report.specs.Report.{refusal, acceptance}
 use Rattle.report.proofs.Reports.{table-accepted, table-refused}
 use borrow.Author.Needs.{needs}

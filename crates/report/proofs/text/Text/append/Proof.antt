@@ -4,7 +4,7 @@ use Prim.Native.Nat.{_+_, _-_, _≤_}
 use native.Mathlib.Omega.{arith}
 use lib.ListN.{length, drop, drop-of-length-le}
 use borrow.Author.Needs.{needs}
-use Rattle.report.specs.Text.{appended}
+use Rattle.report.specs.Steps.{appended}
 use Rattle.report.proofs.Texts.{appended-none, appended-step}
 use Rattle.report.proofs.text.Text.append.Statement.{statement}
 use Rattle.report.proofs.text.Text.append.Tie as tie

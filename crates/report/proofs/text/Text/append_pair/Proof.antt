@@ -1,7 +1,8 @@
 -- `report::text::Text::append_pair` meets its contract.
 use mathlib.Core.Path.{ap, _∙_}
 use mathlib.Core.List.{[], _∷_}
-use Rattle.report.specs.Text.{pushed, appended, spaced}
+use Rattle.report.specs.Text.{spaced}
+use Rattle.report.specs.Steps.{pushed, appended}
 use Rattle.report.proofs.Texts.{number-more, line-put}
 use borrow.Author.Needs.{needs}
 use Rattle.report.proofs.text.Text.append_pair.Statement.{statement}

@@ -1,7 +1,8 @@
 -- `report::text::Text::push` meets its contract.
 use borrow.Author.Tests.{le-ltb, lt-ltb}
 use borrow.Author.Needs.{needs}
-use Rattle.report.specs.Text.{room, pushed}
+use Rattle.report.specs.Text.{room}
+use Rattle.report.specs.Steps.{pushed}
 use Rattle.report.proofs.text.Text.push.Statement.{statement}
 use Rattle.report.proofs.text.Text.push.Tie as tie
 
