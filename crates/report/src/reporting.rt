@@ -35,10 +35,13 @@ fn counts(text: Text, word: &[u8], counts: CountsAnswer) -> Text
 fn accepted(text: Text, width: usize, table: &[u8]) -> Text
     ensures { λ r. ⌜ r ≡ appended text (acceptance width (now (table .entry))) ⌝ }
 {
+    let plain = netlist::counts_plain(width, table);
+    let reduced = netlist::counts_reduced(width, table);
+    let common = netlist::counts_common(width, table);
     let verdict = text.append(b"accepted\n");
-    let plain = counts(verdict, b"plain", netlist::counts_plain(width, table));
-    let reduced = counts(plain, b"reduced", netlist::counts_reduced(width, table));
-    counts(reduced, b"common", netlist::counts_common(width, table))
+    let first = counts(verdict, b"plain", plain);
+    let second = counts(first, b"reduced", reduced);
+    counts(second, b"common", common)
 }
 
 // The report of a table that was read.
@@ -47,9 +50,9 @@ fn table_report(width: usize, table: &[u8]) -> Text
     ensures { λ r. ⌜ r ≡ appended (textOf []) (tableReport width (now (table .entry))) ⌝ }
 {
     let ones = table::ones(width, table);
-    let head = Text::empty()
-        .append_line(b"width", width)
-        .append_line(b"ones", ones.ones);
+    let start = Text::empty();
+    let first = start.append_line(b"width", width);
+    let head = first.append_line(b"ones", ones.ones);
     let fault = table::check(width, table);
     if operand::is_none(fault) {
         accepted(head, width, table)
