@@ -1,8 +1,8 @@
 -- The length of a report: each of its numbers has nine digits at most, so that 128 bytes are enough.
-use mathlib.Core.Path.{_≡_, refl, sym, ap, _∙_}
+use mathlib.Core.Path.{_≡_, refl, ap, _∙_}
 use mathlib.Core.Bool.{Bool, true, false}
-use mathlib.Core.List.{List, [], _∷_, _++_}
-use Prim.Native.Nat.{ℕ, zero, suc, _+_, _-_, _*_, _/_, _<_, _≤_}
+use mathlib.Core.List.{List, [], _∷_}
+use Prim.Native.Nat.{ℕ, zero, suc, _+_, _-_, _*_, _<_, _≤_}
 use native.Mathlib.Nat.{mul-le-mul}
 use native.Mathlib.Omega.{arith}
 use lib.ListN.{length, replicate, length-append}
@@ -22,13 +22,13 @@ use Rattle.card.specs.Numbers.{pick, Read, refused, got}
 use Rattle.card.specs.Cards.{Table, readCard}
 use Rattle.card.specs.Statements.{Bytes}
 use Rattle.card.proofs.Trips.{card-written}
-use Rattle.netlist.specs.Lists.{ifNone, fullRows}
+use Rattle.netlist.specs.Lists.{fullRows}
 use Rattle.netlist.specs.Counts.{plainXors, reducedXors, commonXors}
-use Rattle.netlist.specs.Calls.{answer, countsPlainCall, countsReducedCall, countsCommonCall}
+use Rattle.netlist.specs.Calls.{answer}
 use Rattle.netlist.proofs.CallLaws.{width-times, ones-most}
 use Rattle.netlist.proofs.ListLaws.{shared-ones}
 use Rattle.report.specs.declared.text.Text.{Text}
-use Rattle.report.specs.Text.{ascii, decimal, spaced, line, room, textOf}
+use Rattle.report.specs.Text.{ascii, spaced, line, room, textOf}
 use Rattle.report.specs.Steps.{appended}
 use Rattle.report.specs.Report.{inputLimit, lent, refusal, countsLine, acceptance, tableReport, readReport, report}
 use Rattle.report.proofs.Texts.{appended-text}

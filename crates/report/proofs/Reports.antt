@@ -1,12 +1,11 @@
 -- Laws of the report: which of its parts the code puts one after the other, and what it has read of a card.
 use mathlib.Core.Path.{_≡_, refl, sym, ap, ap₂, _∙_}
-use mathlib.Core.Bool.{Bool, true, false, true≢false}
+use mathlib.Core.Bool.{true, false, true≢false}
 use mathlib.Core.List.{List, [], _∷_, _++_}
 use Prim.Native.Nat.{ℕ, _*_, _<_, _≤_}
 use native.Mathlib.Omega.{arith}
 use lib.ListN.{length, take, drop, replicate, length-append, length-replicate}
 use lib.Seq.{take-at}
-use lib.Dec.{ltb}
 use borrow.Author.Tests.{lt-ltb, le-ltb}
 use Rattle.gf2.specs.Operands.{bytesFor}
 use Rattle.gf2.specs.Tables.{onesIn}
@@ -14,14 +13,13 @@ use Rattle.operand.specs.declared.fault.Fault.{Fault}
 use Rattle.operand.specs.declared.fault.Fault.the-variants.{None, Length}
 use Rattle.operand.specs.Faults.{isNone}
 use Rattle.operand.proofs.FaultLaws.{none-is}
-use Rattle.table.specs.Rows.{Shaped}
 use Rattle.table.specs.Judgements.{checkFault}
 use Rattle.card.specs.declared.CardAnswer.{CardAnswer}
-use Rattle.card.specs.Numbers.{pick, Read, refused, got}
+use Rattle.card.specs.Numbers.{Read, refused, got}
 use Rattle.card.specs.Cards.{Table, readCard}
 use Rattle.card.specs.Calls.{inFront, readAnswer, readInto, readCall, readTable}
 use Rattle.card.specs.Statements.{Bytes}
-use Rattle.card.proofs.Trips.{CardRead, card-written}
+use Rattle.card.proofs.Trips.{card-written}
 use Rattle.card.proofs.Theorems.{found}
 use Rattle.netlist.specs.Calls.{countsPlainCall, countsReducedCall, countsCommonCall}
 use Rattle.report.specs.declared.text.Text.{Text}

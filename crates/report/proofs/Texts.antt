@@ -5,10 +5,8 @@ use Prim.Native.Nat.{ℕ, zero, suc, _+_, _-_, _<_, _≤_}
 use native.Mathlib.Omega.{arith}
 use native.Mathlib.Numerals.{add-one}
 use lib.ListN.{length, getD, drop, set, replicate, length-append}
-use lib.Seq.{drop-cons, set-append-seam, append-snoc}
-use lib.Dec.{ltb}
+use lib.Seq.{drop-cons, set-append-seam}
 use borrow.Author.Tests.{lt-ltb}
-use Rattle.gf2.specs.Operands.{choose}
 use Rattle.report.specs.declared.text.Text.{Text}
 use Rattle.io.specs.Digits.{digits, Fewest}
 use Rattle.report.specs.Text.{ascii, decimal, spaced, line, room, textOf}

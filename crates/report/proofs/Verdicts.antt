@@ -15,7 +15,7 @@ use Rattle.operand.specs.Faults.{numberOf, isNone, when, orElse, firstOf, first
 use Rattle.operand.specs.Judgements.{widthFault}
 use Rattle.operand.proofs.FaultLaws.{none-is, or-first, or-second, width-fine}
 use Rattle.table.specs.Rows.{Shaped, mirrors, associates}
-use Rattle.table.specs.Judgements.{same, shapeFault, rowZeroFault, rowPairFault, tripleFault, rowSumFault, symmetryFault, checkFault}
+use Rattle.table.specs.Judgements.{same, shapeFault, rowZeroFault, rowPairFault, tripleFault, symmetryFault, checkFault}
 use Rattle.table.proofs.Searches.{three-first, three-second, three-third}
 use Rattle.table.proofs.Rules.{mirrorFault, mirror-search, pairFault, rowFault, triple-search}
 use Rattle.table.proofs.Theorems.{shape, row-sums}
@@ -23,7 +23,7 @@ use Rattle.card.specs.Numbers.{pick, Read, refused, got}
 use Rattle.card.specs.Cards.{Table, lentFault, readCard}
 use Rattle.card.specs.Statements.{Bytes}
 use Rattle.card.proofs.Trips.{lent-width, lent-room, card-written}
-use Rattle.card.proofs.Refusals.{Apart, card-refusals}
+use Rattle.card.proofs.Refusals.{card-refusals}
 use Rattle.report.specs.Text.{ascii, line}
 use Rattle.report.specs.Report.{inputLimit, lent, refusal, tableReport, readReport, report, readVerdict, verdict}
 use Rattle.report.specs.Statements.{Not}

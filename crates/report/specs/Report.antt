@@ -55,12 +55,13 @@ readReport (got t rest) = tableReport (t .width) (t .bytes)
 unfoldable pub report : List ℕ → List ℕ
 report s = pick (ltb inputLimit (length s)) (refusal Length) (readReport (readCard lent s))
 
--- the fault of the input s, none where its table is accepted
--- It is never 3, as reading a card makes no bit at m or above; never 7, as rules 4 to 6 imply rule 7; never 11, as the lent table
--- has room for the greatest width. Statements says so.
+-- the fault that is reported: the card's, or the check's
 abbrev pub readVerdict : Read Table → Fault
 readVerdict (refused f) = f
 readVerdict (got t rest) = checkFault (t .width) (t .bytes)
 
+-- the fault of the input s, none where its table is accepted
+-- It is never 3, as reading a card makes no bit at m or above; never 7, as rules 4 to 6 imply rule 7; never 11, as the lent table
+-- has room for the greatest width. `ReportLaws` of Statements states it.
 unfoldable pub verdict : List ℕ → Fault
 verdict s = pick (ltb inputLimit (length s)) Length (readVerdict (readCard lent s))

@@ -1,5 +1,5 @@
 -- `report::reporting::front_report` meets its contract.
-use mathlib.Core.Path.{_≡_, sym, ap, _∙_}
+use mathlib.Core.Path.{sym, ap, _∙_}
 use mathlib.Core.List.{[]}
 use Prim.Native.Nat.{_*_}
 use native.Mathlib.Omega.{arith}

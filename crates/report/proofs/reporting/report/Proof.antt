@@ -1,5 +1,5 @@
 -- `report::reporting::report` meets its contract.
-use mathlib.Core.Path.{_≡_, sym, ap, _∙_}
+use mathlib.Core.Path.{sym, ap, _∙_}
 use Rattle.operand.specs.declared.fault.Fault.the-variants.{Length}
 use Rattle.card.specs.declared.CardAnswer.{CardAnswer}
 use Rattle.report.specs.Report.{refusal}

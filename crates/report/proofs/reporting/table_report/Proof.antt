@@ -1,5 +1,5 @@
 -- `report::reporting::table_report` meets its contract.
-use mathlib.Core.Path.{_≡_, ap, ap₂, _∙_}
+use mathlib.Core.Path.{ap, ap₂, _∙_}
 use mathlib.Core.List.{[], _∷_}
 use Rattle.operand.proofs.FaultLaws.{judged}
 use Rattle.netlist.proofs.CallLaws.{ones-given}
