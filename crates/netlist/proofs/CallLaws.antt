@@ -25,15 +25,17 @@ use Rattle.table.specs.Calls.{onesCall}
 use Rattle.table.specs.Statements.{Bytes}
 use Rattle.table.proofs.Theorems.{shape, symmetry}
 use Rattle.netlist.specs.declared.CountsAnswer.{CountsAnswer}
+use Rattle.netlist.specs.declared.counts.Method.{Method}
+use Rattle.netlist.specs.declared.counts.Method.the-variants.{Plain as ByPlain, Reduced as ByReduced, Common as ByCommon}
 use Rattle.netlist.specs.declared.terms.Terms.the-variants.{Plain, Reduced, Other}
 use Rattle.netlist.specs.Gates.{Netlist, words, andGates, xorGates}
 use Rattle.netlist.specs.Lists.{folded, ands, plainTerms, plain, mixes, reducedTerms, reduced, otherTerms, sharing, common, ifNone, fullRows}
 use Rattle.netlist.specs.Counts.{commonXors, plainGates, reducedGates, sharingGates}
 use Rattle.netlist.specs.Judgements.{outputFault}
 use Rattle.netlist.specs.Calls.{answer, refusedWith, countedAs, chooseCounts, listFault, listCall, listBuffer}
-use Rattle.netlist.specs.Writing.{pairTerms, foldTerms, listOf}
+use Rattle.netlist.specs.Writing.{pairTerms, foldTerms, listOf, listBy, termsBy, xorsBy}
 use Rattle.netlist.proofs.SumLaws.{sum-zero, sum-next}
-use Rattle.netlist.proofs.ListLaws.{Gates, ones-positive, shared-ones, plain-gates, reduced-gates, sharing-gates}
+use Rattle.netlist.proofs.ListLaws.{Gates, ones-positive, shared-ones, plain-gates, reduced-gates, sharing-gates, common-gates}
 
 -- a product with a width
 pub width-times : (m x k : ℕ) → m ≤ maxWidth → x ≤ k → m * x ≤ maxWidth * k
@@ -137,9 +139,16 @@ module _ (m : ℕ) (table : List ℕ) (list : Netlist) (old : List ℕ) where
       buffer true = unfold isNone in refl
       buffer false = unfold isNone in refl
 
+-- the first where there is none, else the second
+pub if-none : {A : Type 0} (q : ℕ) (x y : A) → q ≡ 0 → x ≡ ifNone q x y
+if-none q x y e = sym (ap (λ q. ifNone q x y) e)
+
+pub if-some : {A : Type 0} (q : ℕ) (x y : A) → (q ≡ 0 → ⊥) → y ≡ ifNone q x y
+if-some zero x y h = absurd (h refl)
+if-some (suc q) x y h = refl
+
 pub common-some : (m ones q : ℕ) → (q ≡ 0 → ⊥) → m * (ones - m * q) + m * q - 1 ≡ commonXors m ones q
-common-some m ones zero h = absurd (h refl)
-common-some m ones (suc q) h = refl
+common-some m ones q h = if-some q (m * (ones - 1)) (m * (ones - m * q) + m * q - 1) h
 
 -- the number of ones that the crate table gives
 pub ones-given : (m : ℕ) (table : List ℕ) (r : OnesAnswer) → Bytes table → Shaped m table → r ≡ onesCall m table → (r .ones ≡ onesIn m table) × (r .ones ≤ m * m)
@@ -162,16 +171,18 @@ list-answer m table list l old x {c} {r} {out} g n e q h =
     moved : (r ≡ chooseCounts (ltb (length old) (length (words m list))) (refusedWith OutputShort) c) × (out ≡ chooseBytes (ltb (length old) (length (words m list))) old (words m list ++ drop (length (words m list)) old))
     moved = subst (λ (z : Netlist). (r ≡ chooseCounts (ltb (length old) (length (words m z))) (refusedWith OutputShort) c) × (out ≡ chooseBytes (ltb (length old) (length (words m z))) old (words m z ++ drop (length (words m z)) old))) q h
 
--- which list the common one is
+-- the list, the terms and the gates of each method
 module _ (m : ℕ) (table : List ℕ) where
-  pub common-plain : fullRows m table ≡ 0 → plain m table ≡ common m table
-  unfolding common
-  common-plain e = sym (ap (λ q. ifNone q (plain m table) (sharing m table)) e)
-
-  pub common-sharing : (fullRows m table ≡ 0 → ⊥) → sharing m table ≡ common m table
-  unfolding common
-  common-sharing h = go (fullRows m table) h
+  pub list-by : (method : Method) → listOf (termsBy method m table) m table ≡ listBy method m table
+  list-by ByPlain = list-is-plain m table
+  list-by ByReduced = list-is-reduced m table
+  list-by ByCommon = unfold common in go (fullRows m table)
     where
-      go : (q : ℕ) → (q ≡ 0 → ⊥) → sharing m table ≡ ifNone q (plain m table) (sharing m table)
-      go zero h = absurd (h refl)
-      go (suc q) h = refl
+      go : (q : ℕ) → listOf (ifNone q Plain Other) m table ≡ ifNone q (plain m table) (sharing m table)
+      go zero = list-is-plain m table
+      go (suc q) = list-is-sharing m table
+
+  pub gates-by : 2 ≤ m → IsTable m table → Symmetric m table → (method : Method) → Gates (listBy method m table) (m * m) (xorsBy method m table)
+  gates-by two is s ByPlain = plain-gates m table two is s
+  gates-by two is s ByReduced = reduced-gates m table two is s
+  gates-by two is s ByCommon = common-gates m table two is s

@@ -9,13 +9,16 @@ use lib.Dec.{ltb, eqb}
 use lib.Seq.{sets}
 use Rattle.gf2.specs.Coordinates.{coord}
 use Rattle.gf2.specs.Operands.{choose, minus}
-use Rattle.gf2.specs.Tables.{row}
+use Rattle.gf2.specs.Tables.{row, onesIn}
 use Rattle.operand.specs.Calls.{chooseBytes}
 use Rattle.netlist.specs.declared.fold.Fold.{Fold}
+use Rattle.netlist.specs.declared.counts.Method.{Method}
+use Rattle.netlist.specs.declared.counts.Method.the-variants.{Plain as ByPlain, Reduced as ByReduced, Common as ByCommon}
 use Rattle.netlist.specs.declared.terms.Terms.{Terms}
 use Rattle.netlist.specs.declared.terms.Terms.the-variants.{Plain, Reduced, Shared, Other}
 use Rattle.netlist.specs.Gates.{Gate, AND, XOR, Netlist, gateWords}
-use Rattle.netlist.specs.Lists.{each, only, pairs, gateWire, andWire, ands, fold, folded, has, mixes, mixWire, allOnes, isShared, sharedTerms, sharedWire}
+use Rattle.netlist.specs.Lists.{each, only, pairs, gateWire, andWire, ands, fold, folded, has, mixes, mixWire, allOnes, isShared, sharedTerms, sharedWire, plain, reduced, fullRows, ifNone, common}
+use Rattle.netlist.specs.Counts.{plainXors, reducedXors, commonXors}
 
 -- a fold without terms, whose first gate is gate n
 abbrev pub fresh : ℕ → Fold
@@ -137,3 +140,19 @@ pub record Started (t : Terms) (m : ℕ) (table : List ℕ) (f : Fold) (old out 
 
 unfoldable pub listOf : Terms → ℕ → List ℕ → Netlist
 listOf t m table = folded m (startGates t m table) (foldTerms t m table (sharedWire m table))
+
+-- the list of each method: its terms, its XORs counted without it
+abbrev pub listBy : Method → ℕ → List ℕ → Netlist
+listBy ByPlain m table = plain m table
+listBy ByReduced m table = reduced m table
+listBy ByCommon m table = common m table
+
+abbrev pub termsBy : Method → ℕ → List ℕ → Terms
+termsBy ByPlain m table = Plain
+termsBy ByReduced m table = Reduced
+termsBy ByCommon m table = ifNone (fullRows m table) Plain Other
+
+abbrev pub xorsBy : Method → ℕ → List ℕ → ℕ
+xorsBy ByPlain m table = plainXors m (onesIn m table)
+xorsBy ByReduced m table = reducedXors m (onesIn m table)
+xorsBy ByCommon m table = commonXors m (onesIn m table) (fullRows m table)

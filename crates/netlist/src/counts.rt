@@ -4,15 +4,25 @@ ghost use mathlib.Core.Path.{_≡_};
 ghost use Prim.Native.Nat.{_+_, _*_, _<_, _≤_};
 ghost use Rattle.gf2.specs.Operands.{maxWidth};
 ghost use Rattle.gf2.specs.Tables.{onesIn};
+ghost use Rattle.gf2.specs.Check.{Symmetric};
 ghost use Rattle.table.specs.Rows.{Shaped};
+ghost use Rattle.table.specs.Judgements.{symmetryFault};
 ghost use Rattle.netlist.specs.Gates.{wordLimit};
-ghost use Rattle.netlist.specs.Counts.{plainXors, reducedXors, commonXors, plainGates, reducedGates, sharingGates};
-ghost use Rattle.netlist.specs.Calls.{refusedWith, countedAs, countsPlainCall, countsReducedCall, countsCommonCall};
+ghost use Rattle.netlist.specs.Counts.{listAnds, plainXors, reducedXors, commonXors, plainGates, reducedGates, sharingGates};
+ghost use Rattle.netlist.specs.Calls.{answer, refusedWith, countedAs, countsPlainCall, countsReducedCall, countsCommonCall};
+ghost use Rattle.netlist.specs.Writing.{xorsBy};
 use crate::AndCount;
 use crate::CountsAnswer;
 use crate::XorCount;
 use crate::entries;
 use operand::Fault;
+
+// The three lists of a table.
+pub enum Method {
+    Plain,
+    Reduced,
+    Common,
+}
 
 pub(crate) fn refused(fault: Fault) -> CountsAnswer
     ensures { λ r. ⌜ r ≡ refusedWith fault ⌝ }
@@ -90,36 +100,43 @@ pub(crate) fn sharing_gates(width: usize, ones: usize, full: usize) -> usize
     width * (width + ones - shared) + shared - 1
 }
 
-pub fn counts_plain(width: usize, table: &[u8]) -> CountsAnswer
-    ensures { λ r. ⌜ r ≡ countsPlainCall width (now (table .entry)) ⌝ }
+// The XORs of a table that has passed.
+fn xors_by(width: usize, table: &[u8], method: Method) -> usize
+    requires { ⌜ (Shaped width (now table)) × Symmetric width (now table) ⌝ }
+    ensures { λ r. ⌜ r ≡ xorsBy method width (now (table .entry)) ⌝ }
+{
+    let ones = ones_of(width, table);
+    match method {
+        Method::Plain => plain_xors(width, ones),
+        Method::Reduced => reduced_xors(width, ones),
+        Method::Common => common_xors(width, ones, entries::full_rows(width, table)),
+    }
+}
+
+pub(crate) fn counts_by(width: usize, table: &[u8], method: Method) -> CountsAnswer
+    ensures { λ r. ⌜ r ≡ answer (symmetryFault width (now (table .entry))) (listAnds width) (xorsBy method width (now (table .entry))) ⌝ }
 {
     let fault = table::judge_symmetry(width, table);
     if !operand::is_none(fault) {
         return refused(fault);
     }
-    counted(width * width, plain_xors(width, ones_of(width, table)))
+    counted(width * width, xors_by(width, table, method))
+}
+
+pub fn counts_plain(width: usize, table: &[u8]) -> CountsAnswer
+    ensures { λ r. ⌜ r ≡ countsPlainCall width (now (table .entry)) ⌝ }
+{
+    counts_by(width, table, Method::Plain)
 }
 
 pub fn counts_reduced(width: usize, table: &[u8]) -> CountsAnswer
     ensures { λ r. ⌜ r ≡ countsReducedCall width (now (table .entry)) ⌝ }
 {
-    let fault = table::judge_symmetry(width, table);
-    if !operand::is_none(fault) {
-        return refused(fault);
-    }
-    counted(width * width, reduced_xors(width, ones_of(width, table)))
+    counts_by(width, table, Method::Reduced)
 }
 
 pub fn counts_common(width: usize, table: &[u8]) -> CountsAnswer
     ensures { λ r. ⌜ r ≡ countsCommonCall width (now (table .entry)) ⌝ }
 {
-    let fault = table::judge_symmetry(width, table);
-    if !operand::is_none(fault) {
-        return refused(fault);
-    }
-    let ones = ones_of(width, table);
-    counted(
-        width * width,
-        common_xors(width, ones, entries::full_rows(width, table)),
-    )
+    counts_by(width, table, Method::Common)
 }

@@ -7,15 +7,17 @@ ghost use lib.Seq.{sets};
 ghost use lib.Dec.{ltb};
 ghost use Rattle.gf2.specs.Sums.{sum};
 ghost use Rattle.gf2.specs.Operands.{maxWidth};
+ghost use Rattle.gf2.specs.Check.{Symmetric};
 ghost use Rattle.operand.specs.declared.fault.Fault.the-variants.{OutputShort};
 ghost use Rattle.operand.specs.Calls.{chooseBytes};
 ghost use Rattle.table.specs.Rows.{Shaped};
 ghost use Rattle.netlist.specs.Gates.{wordLimit, gateWords, words as wordsOf};
 ghost use Rattle.netlist.specs.Lists.{folds, ends, gateWire, plain, reduced, common};
 ghost use Rattle.netlist.specs.Calls.{refusedWith, chooseCounts, listCall, listBuffer};
-ghost use Rattle.netlist.specs.Writing.{Successors, Put, foldTerms, pairGate, rowGates, pairGates, Started, listOf};
+ghost use Rattle.netlist.specs.Writing.{Successors, Put, foldTerms, pairGate, rowGates, pairGates, Started, listOf, termsBy, listBy};
 use crate::CountsAnswer;
 use crate::counts;
+use crate::counts::Method;
 use crate::entries;
 use crate::fold;
 use crate::fold::Fold;
@@ -171,56 +173,66 @@ fn deliver(
     counts
 }
 
-pub fn list_plain(width: usize, table: &[u8], out: &mut [u32]) -> CountsAnswer
-    ensures { λ r. ⌜ (r ≡ listCall width (now (table .entry)) (plain width (now (table .entry))) (now (out .entry))) × (now (out .exit) ≡ listBuffer width (now (table .entry)) (plain width (now (table .entry))) (now (out .entry))) ⌝ }
+fn terms_by(width: usize, table: &[u8], method: Method) -> Terms
+    requires { ⌜ Shaped width (now table) ⌝ }
+    ensures { λ r. ⌜ r ≡ termsBy method width (now (table .entry)) ⌝ }
 {
-    let counts = counts::counts_plain(width, table);
+    match method {
+        Method::Plain => Terms::Plain,
+        Method::Reduced => Terms::Reduced,
+        Method::Common => if entries::full_rows(width, table) == 0 {
+            Terms::Plain
+        } else {
+            Terms::Other
+        },
+    }
+}
+
+// The number of all gates.
+fn gates_by(width: usize, table: &[u8], method: Method) -> usize
+    requires { ⌜ (Shaped width (now table)) × Symmetric width (now table) ⌝ }
+    ensures { λ g. ⌜ (g ≡ length (listOf (termsBy method width (now (table .entry))) width (now (table .entry)) .gates)) × (3 * g + 1000 < wordLimit) ⌝ }
+{
+    let ones = counts::ones_of(width, table);
+    let full = entries::full_rows(width, table);
+    match method {
+        Method::Plain => counts::plain_gates(width, ones),
+        Method::Reduced => counts::reduced_gates(width, ones),
+        Method::Common => if full == 0 {
+            counts::plain_gates(width, ones)
+        } else {
+            counts::sharing_gates(width, ones, full)
+        },
+    }
+}
+
+fn list_by(width: usize, table: &[u8], out: &mut [u32], method: Method) -> CountsAnswer
+    ensures { λ r. ⌜ (r ≡ listCall width (now (table .entry)) (listBy method width (now (table .entry))) (now (out .entry))) × (now (out .exit) ≡ listBuffer width (now (table .entry)) (listBy method width (now (table .entry))) (now (out .entry))) ⌝ }
+{
+    let counts = counts::counts_by(width, table, method);
     let fault = counts.fault;
     if !operand::is_none(fault) {
         return counts;
     }
-    let g = counts::plain_gates(width, counts::ones_of(width, table));
-    deliver(out, width, table, Terms::Plain, g, counts)
+    let terms = terms_by(width, table, method);
+    let g = gates_by(width, table, method);
+    deliver(out, width, table, terms, g, counts)
+}
+
+pub fn list_plain(width: usize, table: &[u8], out: &mut [u32]) -> CountsAnswer
+    ensures { λ r. ⌜ (r ≡ listCall width (now (table .entry)) (plain width (now (table .entry))) (now (out .entry))) × (now (out .exit) ≡ listBuffer width (now (table .entry)) (plain width (now (table .entry))) (now (out .entry))) ⌝ }
+{
+    list_by(width, table, out, Method::Plain)
 }
 
 pub fn list_reduced(width: usize, table: &[u8], out: &mut [u32]) -> CountsAnswer
     ensures { λ r. ⌜ (r ≡ listCall width (now (table .entry)) (reduced width (now (table .entry))) (now (out .entry))) × (now (out .exit) ≡ listBuffer width (now (table .entry)) (reduced width (now (table .entry))) (now (out .entry))) ⌝ }
 {
-    let counts = counts::counts_reduced(width, table);
-    let fault = counts.fault;
-    if !operand::is_none(fault) {
-        return counts;
-    }
-    let g = counts::reduced_gates(width, counts::ones_of(width, table));
-    deliver(out, width, table, Terms::Reduced, g, counts)
+    list_by(width, table, out, Method::Reduced)
 }
 
 pub fn list_common(width: usize, table: &[u8], out: &mut [u32]) -> CountsAnswer
     ensures { λ r. ⌜ (r ≡ listCall width (now (table .entry)) (common width (now (table .entry))) (now (out .entry))) × (now (out .exit) ≡ listBuffer width (now (table .entry)) (common width (now (table .entry))) (now (out .entry))) ⌝ }
 {
-    let counts = counts::counts_common(width, table);
-    let fault = counts.fault;
-    if !operand::is_none(fault) {
-        return counts;
-    }
-    let ones = counts::ones_of(width, table);
-    let full = entries::full_rows(width, table);
-    if full == 0 {
-        return deliver(
-            out,
-            width,
-            table,
-            Terms::Plain,
-            counts::plain_gates(width, ones),
-            counts,
-        );
-    }
-    deliver(
-        out,
-        width,
-        table,
-        Terms::Other,
-        counts::sharing_gates(width, ones, full),
-        counts,
-    )
+    list_by(width, table, out, Method::Common)
 }

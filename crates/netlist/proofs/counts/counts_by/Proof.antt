@@ -1,16 +1,15 @@
--- `netlist::counts::counts_reduced` meets its contract.
+-- `netlist::counts::counts_by` meets its contract.
 use mathlib.Core.Path.{sym, ap, _∙_}
 use Prim.Native.Nat.{_*_}
 use native.Mathlib.Omega.{arith}
 use borrow.Author.Tests.{not-true, not-false}
 use Rattle.operand.proofs.FaultLaws.{judged}
-use Rattle.netlist.specs.Counts.{reducedXors}
 use Rattle.netlist.specs.Calls.{refusedWith, countedAs}
 use Rattle.netlist.proofs.TermLaws.{width-square}
 use Rattle.netlist.proofs.CallLaws.{table-fine, answer-refused, answer-counted}
 use borrow.Author.Needs.{needs}
-use Rattle.netlist.proofs.counts.counts_reduced.Statement.{statement}
-use Rattle.netlist.proofs.counts.counts_reduced.Tie as tie
+use Rattle.netlist.proofs.counts.counts_by.Statement.{statement}
+use Rattle.netlist.proofs.counts.counts_by.Tie as tie
 
 judge-symmetry-requires : tie.Need-judge-symmetry-requires
 judge-symmetry-requires c κs = search needs
@@ -32,29 +31,22 @@ mul-counted c =
     let f = table-fine (s .args .width) (s .args .table .now) (λ b. c .before .before .before .shared-slice-known .given b .fits) (judged (c .before .before .judge-symmetry .ensures) (c .before .is-none .ensures) (not-false _ (c .if1 .left))) in
     omega (arith, width-square (s .args .width) (s .args .width) (f .0 .greatest) (f .0 .greatest))
 
-ones-of-requires : tie.Need-ones-of-requires
-ones-of-requires c κs =
+xors-by-requires : tie.Need-xors-by-requires
+xors-by-requires c κs =
     let s = c .before .before .before .before in
-    table-fine (s .args .width) (s .args .table .now) (λ b. c .before .before .before .shared-slice-known .given b .fits) (judged (c .before .before .judge-symmetry .ensures) (c .before .is-none .ensures) (not-false _ (c .if1 .left))) .0
-
-reduced-xors-requires : tie.Need-reduced-xors-requires
-reduced-xors-requires c κs =
-    let s = c .before .before .before .before .before in
-    let f = table-fine (s .args .width) (s .args .table .now) (λ b. c .before .before .before .before .shared-slice-known .given b .fits) (judged (c .before .before .before .judge-symmetry .ensures) (c .before .before .is-none .ensures) (not-false _ (c .before .if1 .left))) in
-    let g = f .0 .greatest in
-    (f .0 .least, g, c .ones-of .ensures .1)
+    table-fine (s .args .width) (s .args .table .now) (λ b. c .before .before .before .shared-slice-known .given b .fits) (judged (c .before .before .judge-symmetry .ensures) (c .before .is-none .ensures) (not-false _ (c .if1 .left)))
 
 counted-requires : tie.Need-counted-requires
 counted-requires c κs = search needs
 
 returns-2 : tie.Need-returns-2
 returns-2 c =
-    let a = c .before .before .before .before .before .before .before .args in
-    c .counted .ensures ∙ ap (countedAs (a .width * a .width)) (c .before .reduced-xors .ensures ∙ ap (reducedXors (a .width)) (c .before .before .ones-of .ensures .0))
-    ∙ sym (answer-counted _ _ _ (judged (c .before .before .before .before .before .judge-symmetry .ensures) (c .before .before .before .before .is-none .ensures) (not-false _ (c .before .before .before .if1 .left))))
+    let a = c .before .before .before .before .before .before .args in
+    c .counted .ensures ∙ ap (countedAs (a .width * a .width)) (c .before .xors-by .ensures)
+    ∙ sym (answer-counted _ _ _ (judged (c .before .before .before .before .judge-symmetry .ensures) (c .before .before .before .is-none .ensures) (not-false _ (c .before .before .if1 .left))))
 
-pub counts-reduced-spec : {M : Type 1} → statement M
-counts-reduced-spec =
+pub counts-by-spec : {M : Type 1} → statement M
+counts-by-spec =
     tie.close
     (tie.spec
     judge-symmetry-requires
@@ -62,7 +54,6 @@ counts-reduced-spec =
     refused-requires
     returns
     mul-counted
-    ones-of-requires
-    reduced-xors-requires
+    xors-by-requires
     counted-requires
     returns-2)
