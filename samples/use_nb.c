@@ -8,9 +8,9 @@
  *
  *     width 5, ones 9
  *     accepted
- *     03 * 1d = 05
- *     inverse of 03 = 07, 3 products
- *     03 * 07 = 1f
+ *     03 * 1d = 0e
+ *     inverse of 03 = 16, 2 products
+ *     03 * 16 = 1f
  *     a damaged table: fault 5, rows 1 and 4 differ
  */
 #include "nb.h"

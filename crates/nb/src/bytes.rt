@@ -1,6 +1,5 @@
 // W bytes and carried operands: the lengths of a call, an operand as it is carried, a result written.
 ghost use mathlib.Core.Path.{_≡_};
-ghost use lib.ListN.{length};
 ghost use Rattle.operand.specs.Faults.{isNone, orElse, firstOf};
 ghost use Rattle.operand.specs.Calls.{chooseBytes, writeCall};
 ghost use Rattle.nb.specs.Inner.{oneSizes, twoSizes, narrowed, carriedAs};

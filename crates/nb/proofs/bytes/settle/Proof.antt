@@ -17,7 +17,7 @@ same-length : tie.Need-same-length
 same-length c = search needs
 
 returns : tie.Need-returns
-returns c = 
+returns c =
     let n = sym (c .before .before .before .before .before .is-none .ensures) ∙ c .before .before .before .before .if1 .taken in
     (c .before .before .before .before .before .before .or-else .ensures, rw n (c .before .before .write .ensures .1))
 

@@ -21,12 +21,12 @@ is-none-requires : tie.Need-is-none-requires
 is-none-requires c κs = search needs
 
 answer-requires : tie.Need-answer-requires
-answer-requires c κs = 
+answer-requires c κs =
     let a = c .before .before .before .before .before .before .before .before .args in
     (rw (run-refused (a .width) (a .list .now) (a .a .now) (a .b .now) (a .result .now) (a .wires .now) (c .before .before .judge-two .ensures) (sym (c .before .is-none .ensures) ∙ not-true _ (c .if1 .taken))) (small-run-call _ _ _ _ _ _), λ e. (omega arith, omega arith))
 
 returns : tie.Need-returns
-returns c = 
+returns c =
     let a = c .before .before .before .before .before .before .before .before .before .args in
     let n = sym (c .before .before .is-none .ensures) ∙ not-true _ (c .before .if1 .taken) in
     let e = c .before .before .before .judge-two .ensures in (
@@ -45,7 +45,7 @@ run-requires : tie.Need-run-requires
 run-requires c κs = search needs
 
 answer-requires-2 : tie.Need-answer-requires-2
-answer-requires-2 c κs = 
+answer-requires-2 c κs =
     (rw (judging (c .before .before .before .before)) (small-run-call _ _ _ _ _ _), λ e. (omega arith, omega arith))
 
 same-length : tie.Need-same-length
@@ -55,7 +55,7 @@ same-length-2 : tie.Need-same-length-2
 same-length-2 c = search needs
 
 returns-2 : tie.Need-returns-2
-returns-2 c = 
+returns-2 c =
     let s = c .before .before .before .before .before in
     let a = c .before .before .before .before .before .before .before .before .before .before .before .before .before .before .before .before .before .before .args in
     let n = sym (s .before .before .before .before .before .before .is-none .ensures) ∙ not-false _ (s .before .before .before .before .before .if1 .left) in (

@@ -35,7 +35,7 @@ settle-requires : tie.Need-settle-requires
 settle-requires c κs = search needs
 
 answer-requires : tie.Need-answer-requires
-answer-requires c κs = 
+answer-requires c κs =
     let a = c .before .before .before .before .before .before .before .before .before .before .before .args in (
       rw (call c .fault) (small-inverse-call (a .width) (a .table .now) (a .a .now) (a .result .now)),
       λ e. let n = ap isNone (sym (call c .fault)) ∙ e in (rw (count c n) (inverse-small (a .width) (a .table .now) (a .a .now) (a .result .now) n), omega arith),
