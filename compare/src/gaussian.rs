@@ -47,14 +47,18 @@ fn power(u: usize, e: usize, p: usize) -> usize {
 pub fn rows(m: usize, t: usize) -> Vec<Bits> {
     let p = t * m + 1;
     let k: Vec<_> = (1..p).filter(|&u| power(u, t, p) == 1).collect();
-    let class = |x: usize| (0..m).find(|&s| k.iter().any(|&w| power(2, s, p) * w % p == x)).unwrap();
+    let mut class = vec![m; p];
+    for s in 0..m {
+        for &w in &k {
+            class[power(2, s, p) * w % p] = s;
+        }
+    }
     let row = |d: usize| {
         let mut row = vec![false; m];
         for &w in &k {
             let x = (1 + power(2, d, p) * w) % p;
             if x != 0 {
-                let s = class(x);
-                row[s] = !row[s];
+                row[class[x]] = !row[class[x]];
             } else if t % 2 == 1 {
                 row.iter_mut().for_each(|b| *b = !*b);
             }

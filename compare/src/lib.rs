@@ -5,12 +5,18 @@
 //! - `gates`: the three gate lists, their counts and the runner
 //! - `gaussian`: types, drawn tables, and the product by IEEE 1363's own way
 //! - `card`: reading and writing cards, and the report of a card
+//! - `inputs`: inputs for the comparison, from one seed
+//! - `proved`: the calls of the proved library, linked from target/staticlib/libnb.a
+//! - `same`: the Rattle source without its contracts, compiled as Rust, for the benchmark
 
 pub mod bits;
 pub mod card;
 pub mod field;
 pub mod gates;
 pub mod gaussian;
+pub mod inputs;
+pub mod proved;
+pub mod same;
 
 /// A fault of document 01: its number and the values returned beside it.
 #[derive(Clone, Copy, Debug, PartialEq, Eq)]

@@ -5,6 +5,7 @@
 -- Stores: bytes that are stored at a place of a lent buffer.
 -- ReadSteps: the steps of the code that reads.
 -- WriteSteps: the steps of the code that writes.
+-- Refusals: which faults a refused card can have.
 -- Theorems: the proofs of the statements in specs/Statements.antt.
 pub mod Numbers
 pub mod Places
@@ -12,4 +13,5 @@ pub mod Trips
 pub mod Stores
 pub mod ReadSteps
 pub mod WriteSteps
+pub mod Refusals
 pub mod Theorems

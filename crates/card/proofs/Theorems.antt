@@ -1,93 +1,45 @@
 -- The proofs of the statements in specs/Statements.antt.
 -- A refusal has a number. A card without fault has a table, and the calls answer as the statements say.
 use mathlib.Core.Path.{_≡_, refl, sym, ap, ap₂, _∙_}
-use mathlib.Core.List.{List, [], _∷_}
-use mathlib.Core.Bool.{Bool, true, false, true≢false}
-use Prim.Native.Nat.{ℕ, zero, suc, _+_, _-_, _*_, _≤_}
+use mathlib.Core.List.{List, []}
+use mathlib.Core.Bool.{true, false, true≢false}
+use Prim.Native.Nat.{ℕ, _*_, _≤_}
 use lib.ListN.{length, take}
 use lib.Seq.{take-at}
-use lib.Dec.{ltb, leb, eqb}
 use borrow.Author.Tests.{le-ltb}
 use Rattle.gf2.specs.Operands.{maxWidth, bytesFor}
-use Rattle.gf2.specs.Tables.{IsTable}
-use Rattle.operand.specs.declared.fault.Fault.the-variants.{None, CardNumber, CardPlace, CardForm}
+use Rattle.gf2.specs.Coordinates.{coord}
+use Rattle.gf2.specs.Tables.{row, IsTable}
+use Rattle.operand.specs.declared.fault.Fault.{Fault}
+use Rattle.operand.specs.declared.fault.Fault.the-variants.{None}
 use Rattle.operand.specs.Faults.{isNone, orElse, firstOf}
 use Rattle.table.specs.Rows.{Shaped}
 use Rattle.table.specs.Judgements.{shapeFault}
 use Rattle.table.proofs.Shapes.{shape-fine}
-use Rattle.card.specs.Numbers.{pick, Read, refused, got, andThen, secondGroup, readNumber}
-use Rattle.card.specs.Rows.{after, readPlaces, readRow, rowOf, readRows}
-use Rattle.card.specs.Cards.{card, lentFault, readWidth, readHead, Table, ended, readCard}
+use Rattle.card.specs.Numbers.{number, Read, refused, got}
+use Rattle.card.specs.Rows.{places, steps, rowCard, rowsCard}
+use Rattle.card.specs.Cards.{card, Table, readCard}
 use Rattle.card.specs.Calls.{inFront, readAnswer, readInto, readCall, writeFault, writeCall, writeCard}
-use Rattle.card.specs.Statements.{Bytes, TableTrip, widthRead, tableRead, CardTrip, CardLaws}
+use Rattle.card.specs.Statements.{Bytes, TableTrip, widthRead, tableRead, CardTrip, CardLaws, CarriedCards}
 use Rattle.card.proofs.Numbers.{read-written, written-read}
 use Rattle.card.proofs.Trips.{rows-read, rows-written, card-read, CardRead, card-written}
+use Rattle.card.proofs.Refusals.{card-refusals}
 
--- a refusal without a number
-abbrev blank : {A : Type 0} → Read A → Bool
-blank (refused f) = isNone f
-blank (got a rest) = false
-
-then-blank : {A B : Type 0} (x : Read A) (next : A → List ℕ → Read B) → blank x ≡ false → ((a : A) (s : List ℕ) → blank (next a s) ≡ false) → blank (andThen x next) ≡ false
-then-blank (refused f) next b h = b
-then-blank (got a s) next b h = h a s
-
-pick-blank : {A : Type 0} (t : Bool) (x y : Read A) → blank x ≡ false → blank y ≡ false → blank (pick t x y) ≡ false
-pick-blank true x y hx hy = hx
-pick-blank false x y hx hy = hy
-
-after-blank : (x : List ℕ) (y : Read (List ℕ)) → blank y ≡ false → blank (after x y) ≡ false
-after-blank x (refused f) h = h
-after-blank x (got y s) h = h
-
-second-blank : (low : ℕ) (s : List ℕ) → blank (secondGroup low s) ≡ false
-unfolding secondGroup isNone
-second-blank low [] = refl
-second-blank low (g ∷ s) = pick-blank (eqb g 0) (refused CardNumber) _ refl (pick-blank (ltb g 128) (got (low + g * 128) s) (refused CardNumber) refl refl)
-
-number-blank : (s : List ℕ) → blank (readNumber s) ≡ false
-unfolding readNumber isNone
-number-blank [] = refl
-number-blank (g ∷ s) = pick-blank (ltb g 128) (got g s) _ refl (second-blank (g - 128) s)
-
-places-blank : (m free count : ℕ) (s : List ℕ) → blank (readPlaces m free count s) ≡ false
-unfolding readPlaces isNone
-places-blank m free zero s = refl
-places-blank m free (suc count) s = then-blank (readNumber s) _ (number-blank s) (λ k r.
-    pick-blank (ltb (free + k) m) _ (refused CardPlace) (after-blank _ (readPlaces m (free + k + 1) count r) (places-blank m (free + k + 1) count r)) refl)
-
-row-blank : (m : ℕ) (s : List ℕ) → blank (readRow m s) ≡ false
-unfolding readRow isNone
-row-blank m s = then-blank (readNumber s) _ (number-blank s) (λ k r. pick-blank (leb k m) _ (refused CardPlace) (places-blank m 0 k r) refl)
-
-rows-blank : (m count : ℕ) (s : List ℕ) → blank (readRows m count s) ≡ false
-unfolding readRows
-rows-blank m zero s = refl
-rows-blank m (suc count) s = then-blank (readRow m s) _ (row-blank m s) (λ ps r. after-blank (rowOf m ps) (readRows m count r) (rows-blank m count r))
-
-width-blank : (room : ℕ) (s : List ℕ) → blank (readWidth room s) ≡ false
-unfolding readWidth
-width-blank room s = then-blank (readNumber s) _ (number-blank s) (λ m r. go m r (isNone (lentFault room m)) refl)
-  where
-    go : (m : ℕ) (r : List ℕ) (b : Bool) → isNone (lentFault room m) ≡ b → blank (pick (isNone (lentFault room m)) (got m r) (refused (lentFault room m))) ≡ false
-    go m r true e = rw e
-    go m r false e = rw e e
-
-ended-blank : (m : ℕ) (x : Read (List ℕ)) → blank x ≡ false → blank (ended m x) ≡ false
+-- a refusal has a number
+card-blank : (room : ℕ) (s : List ℕ) (f : Fault) → readCard room s ≡ refused f → isNone f ≡ false
 unfolding isNone
-ended-blank m (refused f) h = h
-ended-blank m (got t []) h = refl
-ended-blank m (got t (b ∷ s)) h = refl
-
-card-blank : (room : ℕ) (s : List ℕ) → blank (readCard room s) ≡ false
-unfolding readCard readHead isNone
-card-blank room s = then-blank (readHead room s) _ (then-blank (readNumber s) _ (number-blank s) (λ f r. pick-blank (eqb f 1) (readWidth room r) (refused CardForm) (width-blank room r) refl)) (λ m r. ended-blank m (readRows m m r) (rows-blank m m r))
+card-blank room s f e =
+    card-refusals isNone room (record { ends = refl; number = refl; form = refl; place = refl; tail = refl; lent = λ m h. h }) s f e
 
 -- an answer without fault rests on a table
-found : (x : Read Table) → blank x ≡ false → readAnswer x .fault ≡ None → (t : Table) × (rest : List ℕ) × (x ≡ got t rest)
-unfolding isNone
-found (refused f) b e = absurd (true≢false (sym (ap isNone e) ∙ b))
-found (got t rest) b e = (t, rest, refl)
+pub found : (room : ℕ) (s : List ℕ) → readAnswer (readCard room s) .fault ≡ None → (t : Table) × (rest : List ℕ) × (readCard room s ≡ got t rest)
+found room s e = go (readCard room s) refl e
+  where
+    go : (x : Read Table) → readCard room s ≡ x → readAnswer x .fault ≡ None → (t : Table) × (rest : List ℕ) × (readCard room s ≡ got t rest)
+    go (refused f) q e =
+        let none : isNone f ≡ true = unfold isNone in ap isNone e in
+        absurd (true≢false (sym none ∙ card-blank room s f q))
+    go (got t rest) q e = (t, rest, q)
 
 -- what is written where the table has a shape and the output room
 module _ (m : ℕ) (table out : List ℕ) (shape : shapeFault m table ≡ None) (fits : length (card m table) ≤ length out) where
@@ -132,7 +84,7 @@ cards-of s old t rest small q =
 
 cards : (s old : List ℕ) → Bytes s → readCall s old .fault ≡ None → CardTrip s (widthRead s old) (tableRead s old)
 cards s old small e =
-    let (t, rest, q) = found (readCard (length old) s) (card-blank (length old) s) e in
+    let (t, rest, q) = found (length old) s e in
     cards-of s old t rest small q
 
 tables : (m : ℕ) (table : List ℕ) → 2 ≤ m → m ≤ maxWidth → IsTable m table → TableTrip m table
@@ -159,3 +111,7 @@ card-laws = record {
   tables = tables;
   cards = cards;
 }
+
+pub carried-cards : CarriedCards
+unfolding card number rowsCard rowCard places steps row coord
+carried-cards = record { width2 = refl; width3 = refl; width4 = refl; width5 = refl }

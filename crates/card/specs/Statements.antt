@@ -1,13 +1,14 @@
 -- What is proved of cards beside the contracts of the calls: the statements alone, over the definitions that the contracts cite.
 -- Numbers, rows and cards: what is written is read as it was, and what is read is written as it was.
--- A table has exactly one card.
+-- A table has exactly one card. The cards of the four carried tables, byte by byte.
 use mathlib.Core.Path.{_≡_}
-use mathlib.Core.List.{List, _++_}
+use mathlib.Core.List.{List, [], _∷_, _++_}
 use Prim.Native.Nat.{ℕ, _+_, _*_, _<_, _≤_}
 use lib.ListN.{length, getD, take}
 use Rattle.gf2.specs.Operands.{maxWidth, bytesFor, IsOperand}
 use Rattle.gf2.specs.Tables.{row, IsTable}
 use Rattle.operand.specs.declared.fault.Fault.the-variants.{None}
+use Rattle.table.specs.Carried.{carried2, carried3, carried4, carried5}
 use Rattle.card.specs.Numbers.{number, numberLimit, got, readNumber}
 use Rattle.card.specs.Rows.{rowsCard, rowRange, readRows}
 use Rattle.card.specs.Cards.{card}
@@ -60,3 +61,10 @@ pub record CardLaws : Type 0 where
   pub rows : (m : ℕ) → m ≤ maxWidth → RowTrips m
   pub tables : (m : ℕ) (table : List ℕ) → 2 ≤ m → m ≤ maxWidth → IsTable m table → TableTrip m table
   pub cards : (s old : List ℕ) → Bytes s → readCall s old .fault ≡ None → CardTrip s (widthRead s old) (tableRead s old)
+
+-- "Four tables are carried in the program itself", "written and compared by the cards": 01 02 01 01 02 00 00 is document 01's own
+pub record CarriedCards : Type 0 where
+  pub width2 : card 2 carried2 ≡ 0x01 ∷ 0x02 ∷ 0x01 ∷ 0x01 ∷ 0x02 ∷ 0x00 ∷ 0x00 ∷ []
+  pub width3 : card 3 carried3 ≡ 0x01 ∷ 0x03 ∷ 0x01 ∷ 0x01 ∷ 0x02 ∷ 0x00 ∷ 0x01 ∷ 0x02 ∷ 0x01 ∷ 0x00 ∷ []
+  pub width4 : card 4 carried4 ≡ 0x01 ∷ 0x04 ∷ 0x01 ∷ 0x01 ∷ 0x01 ∷ 0x03 ∷ 0x04 ∷ 0x00 ∷ 0x00 ∷ 0x00 ∷ 0x00 ∷ 0x01 ∷ 0x02 ∷ []
+  pub width5 : card 5 carried5 ≡ 0x01 ∷ 0x05 ∷ 0x01 ∷ 0x01 ∷ 0x02 ∷ 0x00 ∷ 0x02 ∷ 0x02 ∷ 0x03 ∷ 0x00 ∷ 0x02 ∷ 0x01 ∷ 0x00 ∷ 0x02 ∷ 0x02 ∷ 0x01 ∷ []

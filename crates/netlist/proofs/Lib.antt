@@ -8,6 +8,7 @@
 -- StoreLaws: stores of several elements in a row.
 -- RunLaws: the runner's tests and loops. JudgeLaws: its faults.
 -- TermLaws: the bits of a table in its bytes, and the wires of pairs.
+-- SuccessorLaws: the next pair that is folded.
 -- WriteLaws: a fold term by term. PutLaws: the writer's loops, and a whole list.
 -- CallLaws: the answers and buffers of counts and written lists.
 pub mod SumLaws
@@ -20,6 +21,7 @@ pub mod StoreLaws
 pub mod RunLaws
 pub mod JudgeLaws
 pub mod TermLaws
+pub mod SuccessorLaws
 pub mod WriteLaws
 pub mod PutLaws
 pub mod CallLaws

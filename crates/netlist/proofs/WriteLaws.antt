@@ -1,10 +1,11 @@
 -- Laws of the writer: a fold term by term, and what has been stored; the words of several lists of gates after one another.
 use mathlib.Core.Path.{_≡_, refl, sym, ap, ap₂, _∙_}
 use mathlib.Core.Bool.{Bool, true, false}
-use mathlib.Core.List.{List, [], _∷_, _++_}
-use Prim.Native.Nat.{ℕ, zero, suc, _+_, _-_, _*_, _≤_}
+use mathlib.Core.List.{List, [], _∷_, _++_, append-nil}
+use Prim.Native.Nat.{ℕ, zero, suc, _+_, _-_, _*_, _<_, _≤_}
 use native.Mathlib.Nat.{add-zero, suc-mul}
 use native.Mathlib.Numerals.{add-one}
+use native.Mathlib.Decide.{decLt}
 use native.Mathlib.Omega.{arith}
 use lib.ListN.{length, length-append}
 use lib.Seq.{sets}
@@ -14,7 +15,8 @@ use Rattle.netlist.specs.Gates.{Gate, gateWords}
 use Rattle.netlist.specs.Lists.{each, only, pairs, onto, lastWire, fold, end}
 use Rattle.netlist.specs.declared.terms.Terms.{Terms}
 use Rattle.netlist.specs.declared.terms.Terms.the-variants.{Plain, Reduced, Shared, Other}
-use Rattle.netlist.specs.Writing.{fresh, pushed, stored, pushedAll, storedAll, Pushed, picks, pairWire, firstTerms, rowTerms, pairTerms}
+use Rattle.netlist.specs.Writing.{fresh, pushed, stored, pushedAll, storedAll, Pushed, picks, firstPair, Successor, pairWire, firstTerms, rowTerms, pairTerms}
+use Rattle.netlist.proofs.SuccessorLaws.{picks-first}
 use Rattle.netlist.proofs.StoreLaws.{sets-append}
 use Rattle.netlist.proofs.WordLaws.{length-words, words-append}
 
@@ -115,10 +117,6 @@ pub push-only : {m : ℕ} {f g : Fold} {old out : List ℕ} {b : Bool} {w v : �
 unfolding only
 push-only e h p = rw (e, ← h) p
 
-pub push-skip : {m : ℕ} {f : Fold} {old : List ℕ} {b : Bool} (w : ℕ) → b ≡ false → Pushed m f old (only b w) f old
-unfolding only
-push-skip {m} {f} {old} w e = rw e (push-none m f old)
-
 module _ (t : Terms) (m : ℕ) (table : List ℕ) (r : ℕ) where
   pub row-none : (i : ℕ) → rowTerms t m table r i 0 ≡ []
   unfolding rowTerms each
@@ -128,6 +126,19 @@ module _ (t : Terms) (m : ℕ) (table : List ℕ) (r : ℕ) where
   unfolding rowTerms each
   row-more i j = rw add-one
 
+  -- pairs that are not picked leave nothing
+  pub row-skip : (i j n : ℕ) → j ≤ n → ((k : ℕ) → j ≤ k → k < n → picks t m table r i k ≡ false) → rowTerms t m table r i n ≡ rowTerms t m table r i j
+  unfolding only
+  row-skip i j zero h f = let e : 0 ≡ j = omega arith in ap (rowTerms t m table r i) e
+  row-skip i j (suc n) h f = elim (decLt n j) [
+    | yes l ↦ let e : suc n ≡ j = omega arith in ap (rowTerms t m table r i) e
+    | no l ↦ sym (ap (rowTerms t m table r i) (add-one n)) ∙ row-more i n ∙ ap (λ b. rowTerms t m table r i n ++ only b (pairWire t m i n)) (f n (omega arith) (omega arith))
+        ∙ append-nil _ ∙ row-skip i j n (omega arith) (λ k g lk. f k g (omega arith))
+  ]
+
+  pub row-first : (i : ℕ) → rowTerms t m table r i (firstPair t i) ≡ []
+  row-first i = row-skip i 0 (firstPair t i) (omega arith) (λ k h l. picks-first t m table r i k l) ∙ row-none i
+
   only-most : (b : Bool) (w : ℕ) → length (only b w) ≤ 1
   unfolding only
   only-most true w = omega arith
@@ -136,6 +147,10 @@ module _ (t : Terms) (m : ℕ) (table : List ℕ) (r : ℕ) where
   pub row-most : (i j : ℕ) → length (rowTerms t m table r i j) ≤ j
   row-most i zero = rw (row-none i) (omega arith)
   row-most i (suc j) = rw (sym (ap (rowTerms t m table r i) (add-one j)) ∙ row-more i j, length-append) (omega (arith, row-most i j, only-most (picks t m table r i j) (pairWire t m i j)))
+
+  -- the next pair that is picked: what is pushed before it, and with it
+  pub push-next : (i : ℕ) {f g : Fold} {old out : List ℕ} {j n : ℕ} → Successor (picks t m table r i) m j n → Pushed m f old (rowTerms t m table r i j) g out → Pushed m f old (rowTerms t m table r i n) g out
+  push-next i {j = j} {n} s p = rw (row-skip i j n (s .least) (s .none)) p
 
   -- the rows before i
   unfoldable pub rowsTo : ℕ → List ℕ

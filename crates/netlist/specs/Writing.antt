@@ -1,18 +1,21 @@
 -- What the contracts of the writer cite: where a fold stands and what it has stored, and the terms that each list folds.
+-- Successor, Successors: the scratch from which the next term is read.
 use mathlib.Core.Path.{_≡_}
 use mathlib.Core.Bool.{Bool, true, false, not, _&&_}
 use mathlib.Core.List.{List, [], _∷_, _++_}
-use Prim.Native.Nat.{ℕ, _+_, _*_}
-use lib.ListN.{length}
-use lib.Dec.{ltb}
+use Prim.Native.Nat.{ℕ, _+_, _*_, _<_, _≤_}
+use lib.ListN.{length, getD}
+use lib.Dec.{ltb, eqb}
 use lib.Seq.{sets}
+use Rattle.gf2.specs.Coordinates.{coord}
 use Rattle.gf2.specs.Operands.{choose, minus}
+use Rattle.gf2.specs.Tables.{row}
 use Rattle.operand.specs.Calls.{chooseBytes}
 use Rattle.netlist.specs.declared.fold.Fold.{Fold}
 use Rattle.netlist.specs.declared.terms.Terms.{Terms}
 use Rattle.netlist.specs.declared.terms.Terms.the-variants.{Plain, Reduced, Shared, Other}
 use Rattle.netlist.specs.Gates.{Gate, AND, XOR, Netlist, gateWords}
-use Rattle.netlist.specs.Lists.{each, only, pairs, gateWire, andWire, ands, fold, folded, has, mixes, mixWire, isShared, sharedTerms, sharedWire}
+use Rattle.netlist.specs.Lists.{each, only, pairs, gateWire, andWire, ands, fold, folded, has, mixes, mixWire, allOnes, isShared, sharedTerms, sharedWire}
 
 -- a fold without terms, whose first gate is gate n
 abbrev pub fresh : ℕ → Fold
@@ -46,6 +49,32 @@ picks Plain m table r i j = has m table r i j
 picks Reduced m table r i j = ltb i j && has m table r i j
 picks Shared m table r i j = isShared m table i j
 picks Other m table r i j = has m table r i j && not (isShared m table i j)
+
+-- the same of row d and coordinate s of the table: those of the pair i, j and r are j - i and r - i
+abbrev pub picksRow : Terms → ℕ → List ℕ → ℕ → ℕ → Bool
+picksRow Plain m table s d = eqb (coord (row m table d) s) 1
+picksRow Reduced m table s d = eqb (coord (row m table d) s) 1
+picksRow Shared m table s d = allOnes m (row m table d)
+picksRow Other m table s d = eqb (coord (row m table d) s) 1 && not (allOnes m (row m table d))
+
+-- before this j no pair i, j is picked
+abbrev pub firstPair : Terms → ℕ → ℕ
+firstPair Plain i = 0
+firstPair Reduced i = i + 1
+firstPair Shared i = 0
+firstPair Other i = 0
+
+-- n is the least number from d on that passes the test, or m if none below m does
+pub record Successor (test : ℕ → Bool) (m d n : ℕ) : Type 0 where
+  pub least : d ≤ n
+  pub most : n ≤ m
+  pub none : (k : ℕ) → d ≤ k → k < n → test k ≡ false
+  pub found : n < m → test n ≡ true
+
+-- row by row the successors at each coordinate, of the rows from `first` on
+pub record Successors (t : Terms) (m : ℕ) (table : List ℕ) (first : ℕ) (entries : List ℕ) : Type 0 where
+  pub room : m * m ≤ length entries
+  pub entry : (d s : ℕ) → first ≤ d → d < m → s < m → Successor (picksRow t m table s) m d (getD entries (d * m + s) 0)
 
 abbrev pub pairWire : Terms → ℕ → ℕ → ℕ → ℕ
 pairWire Plain m i j = andWire m i j

@@ -1,4 +1,4 @@
-// The bits of a table: which coordinates a product of two basis elements has, and which rows are all ones.
+// The bits of a table: which coordinates a row has, and which rows are all ones.
 ghost use mathlib.Core.Path.{_≡_};
 ghost use Prim.Native.Nat.{_<_, _≤_};
 ghost use lib.Dec.{eqb};
@@ -6,7 +6,7 @@ ghost use Rattle.gf2.specs.Coordinates.{coord};
 ghost use Rattle.gf2.specs.Operands.{maxWidth, minus as minusOf};
 ghost use Rattle.gf2.specs.Tables.{row};
 ghost use Rattle.table.specs.Rows.{Shaped};
-ghost use Rattle.netlist.specs.Lists.{has as hasOf, allOnes, fullRows, isShared};
+ghost use Rattle.netlist.specs.Lists.{allOnes, fullRows};
 use crate::words;
 
 // i - k modulo the width.
@@ -17,7 +17,7 @@ pub(crate) fn minus(width: usize, i: usize, k: usize) -> usize
     if k <= i { i - k } else { i + (width - k) }
 }
 
-fn entry(width: usize, table: &[u8], d: usize, s: usize) -> bool
+pub(crate) fn entry(width: usize, table: &[u8], d: usize, s: usize) -> bool
     requires { ⌜ (Shaped width (now table)) × (d < width) × (s < width) ⌝ }
     ensures { λ r. ⌜ r ≡ eqb (coord (row width (now (table .entry)) d) s) 1 ⌝ }
 {
@@ -25,15 +25,7 @@ fn entry(width: usize, table: &[u8], d: usize, s: usize) -> bool
     words::coordinate(table, 8 * first + s) == 1
 }
 
-// Whether the product of the basis elements i and j has coordinate r: coordinate r - i of row j - i.
-pub(crate) fn has(width: usize, table: &[u8], r: usize, i: usize, j: usize) -> bool
-    requires { ⌜ (Shaped width (now table)) × (r < width) × (i < width) × (j < width) ⌝ }
-    ensures { λ b. ⌜ b ≡ hasOf width (now (table .entry)) r i j ⌝ }
-{
-    entry(width, table, minus(width, j, i), minus(width, r, i))
-}
-
-fn full_row(width: usize, table: &[u8], d: usize) -> bool
+pub(crate) fn full_row(width: usize, table: &[u8], d: usize) -> bool
     requires { ⌜ (Shaped width (now table)) × (d < width) ⌝ }
     ensures { λ r. ⌜ r ≡ allOnes width (row width (now (table .entry)) d) ⌝ }
 {
@@ -45,14 +37,6 @@ fn full_row(width: usize, table: &[u8], d: usize) -> bool
         s += 1;
     }
     true
-}
-
-// Whether the product of the basis elements i and j is all ones: row j - i is.
-pub(crate) fn shared(width: usize, table: &[u8], i: usize, j: usize) -> bool
-    requires { ⌜ (Shaped width (now table)) × (i < width) × (j < width) ⌝ }
-    ensures { λ r. ⌜ r ≡ isShared width (now (table .entry)) i j ⌝ }
-{
-    full_row(width, table, minus(width, j, i))
 }
 
 pub(crate) fn full_rows(width: usize, table: &[u8]) -> usize

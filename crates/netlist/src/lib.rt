@@ -7,6 +7,7 @@ mod fold;
 mod judge;
 mod lists;
 mod runner;
+mod successors;
 mod terms;
 mod words;
 

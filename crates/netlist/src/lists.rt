@@ -13,12 +13,13 @@ ghost use Rattle.table.specs.Rows.{Shaped};
 ghost use Rattle.netlist.specs.Gates.{wordLimit, gateWords, words as wordsOf};
 ghost use Rattle.netlist.specs.Lists.{folds, ends, gateWire, plain, reduced, common};
 ghost use Rattle.netlist.specs.Calls.{refusedWith, chooseCounts, listCall, listBuffer};
-ghost use Rattle.netlist.specs.Writing.{Put, foldTerms, pairGate, rowGates, pairGates, Started, listOf};
+ghost use Rattle.netlist.specs.Writing.{Successors, Put, foldTerms, pairGate, rowGates, pairGates, Started, listOf};
 use crate::CountsAnswer;
 use crate::counts;
 use crate::entries;
 use crate::fold;
 use crate::fold::Fold;
+use crate::successors;
 use crate::terms;
 use crate::terms::Terms;
 use operand::Fault;
@@ -74,17 +75,18 @@ fn put_folds(
     width: usize,
     table: &[u8],
     terms: Terms,
+    successors: &[u16],
     shared: u32,
     n: usize,
     q: usize,
 )
-    requires { ⌜ (Shaped width (now table)) × (2 + 3 * (n + sum width (λ r. length (foldTerms terms width (now table) shared r) - 1)) ≤ q) × (q + width < wordLimit) ⌝ }
+    requires { ⌜ (Shaped width (now table)) × (Successors terms width (now table) 0 (now successors)) × (2 + 3 * (n + sum width (λ r. length (foldTerms terms width (now table) shared r) - 1)) ≤ q) × (q + width < wordLimit) ⌝ }
     ensures { λ _. ⌜ now (out .exit) ≡ sets (sets (now (out .entry)) (2 + 3 * n) (gateWords (folds width (gateWire width n) (foldTerms terms width (now (table .entry)) shared)))) q (ends width (gateWire width n) (foldTerms terms width (now (table .entry)) shared)) ⌝ }
 {
     let mut k = n;
     let mut r = 0;
     while r < width {
-        let f = terms::fold_terms(out, width, table, terms, shared, r, k);
+        let f = terms::fold_terms(out, width, table, terms, successors, shared, r, k);
         fold::put(out, q + r, f.running);
         k = f.gates;
         r += 1;
@@ -92,8 +94,8 @@ fn put_folds(
 }
 
 // The gates before the folds: the running wire is that of the shared pairs, where they are folded.
-fn put_start(out: &mut [u32], width: usize, table: &[u8], terms: Terms) -> Fold
-    requires { ⌜ Shaped width (now table) ⌝ }
+fn put_start(out: &mut [u32], width: usize, table: &[u8], terms: Terms, scratch: &mut [u16]) -> Fold
+    requires { ⌜ (Shaped width (now table)) × (maxWidth * maxWidth ≤ length (now scratch)) ⌝ }
     ensures { λ f. ⌜ Started terms width (now (table .entry)) f (now (out .entry)) (now (out .exit)) ⌝ }
 {
     let n = put_pairs(out, width, false, 0);
@@ -113,8 +115,39 @@ fn put_start(out: &mut [u32], width: usize, table: &[u8], terms: Terms) -> Fold
             }
         }
         Terms::Shared => none,
-        Terms::Other => terms::fold_terms(out, width, table, Terms::Shared, 0, 0, n),
+        Terms::Other => {
+            successors::fill(scratch, width, table, Terms::Shared);
+            terms::fold_terms(out, width, table, Terms::Shared, scratch, 0, 0, n)
+        }
     }
+}
+
+// All words of a list of g gates, in a buffer that has room for them.
+fn put_list(
+    out: &mut [u32],
+    width: usize,
+    table: &[u8],
+    terms: Terms,
+    g: usize,
+    scratch: &mut [u16],
+)
+    requires { ⌜ (Shaped width (now table)) × (maxWidth * maxWidth ≤ length (now scratch)) × (g ≡ length (listOf terms width (now table) .gates)) × (3 * g + 1000 < wordLimit) × (2 + 3 * g + width ≤ length (now out)) ⌝ }
+    ensures { λ _. ⌜ now (out .exit) ≡ wordsOf width (listOf terms width (now (table .entry))) ++ drop (length (wordsOf width (listOf terms width (now (table .entry))))) (now (out .entry)) ⌝ }
+{
+    fold::put(out, 0, width as u32);
+    fold::put(out, 1, g as u32);
+    let f = put_start(out, width, table, terms, scratch);
+    successors::fill(scratch, width, table, terms);
+    put_folds(
+        out,
+        width,
+        table,
+        terms,
+        scratch,
+        f.running,
+        f.gates,
+        2 + 3 * g,
+    );
 }
 
 // The list in the buffer and its counts, or 11 where the buffer is shorter.
@@ -133,10 +166,8 @@ fn deliver(
     if out.len() < q + width {
         return counts::refused(Fault::OutputShort);
     }
-    fold::put(out, 0, width as u32);
-    fold::put(out, 1, g as u32);
-    let f = put_start(out, width, table, terms);
-    put_folds(out, width, table, terms, f.running, f.gates, q);
+    let mut scratch = [0u16; successors::ENTRIES];
+    put_list(out, width, table, terms, g, &mut scratch);
     counts
 }
 

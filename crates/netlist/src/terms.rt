@@ -5,11 +5,12 @@ ghost use Prim.Native.Nat.{_+_, _*_, _<_, _≤_};
 ghost use Rattle.gf2.specs.Operands.{maxWidth};
 ghost use Rattle.table.specs.Rows.{Shaped};
 ghost use Rattle.netlist.specs.Gates.{wordLimit};
-ghost use Rattle.netlist.specs.Lists.{only, andWire, mixWire};
-ghost use Rattle.netlist.specs.Writing.{Pushed, fresh, pushedAll, picks, pairWire, firstTerms, lastTerms, rowTerms, pairTerms, foldTerms};
+ghost use Rattle.netlist.specs.Lists.{andWire, mixWire};
+ghost use Rattle.netlist.specs.Writing.{Successors, Pushed, fresh, pushedAll, picks, pairWire, firstTerms, lastTerms, rowTerms, pairTerms, foldTerms};
 use crate::entries;
 use crate::fold;
 use crate::fold::Fold;
+use crate::successors;
 
 // The pairs having r; those with i below j; those that are all ones; the others having r.
 pub enum Terms {
@@ -17,26 +18,6 @@ pub enum Terms {
     Reduced,
     Shared,
     Other,
-}
-
-fn picked(width: usize, table: &[u8], terms: Terms, r: usize, i: usize, j: usize) -> bool
-    requires { ⌜ (Shaped width (now table)) × (r < width) × (i < width) × (j < width) ⌝ }
-    ensures { λ b. ⌜ b ≡ picks terms width (now (table .entry)) r i j ⌝ }
-{
-    match terms {
-        Terms::Plain => entries::has(width, table, r, i, j),
-        Terms::Reduced => if i < j {
-            entries::has(width, table, r, i, j)
-        } else {
-            false
-        },
-        Terms::Shared => entries::shared(width, table, i, j),
-        Terms::Other => if entries::has(width, table, r, i, j) {
-            !entries::shared(width, table, i, j)
-        } else {
-            false
-        },
-    }
 }
 
 pub(crate) fn and_wire(width: usize, i: usize, j: usize) -> u32
@@ -67,59 +48,50 @@ fn pair_wire(width: usize, table: &[u8], terms: Terms, r: usize, i: usize, j: us
     }
 }
 
-// One pair more, if it is picked.
-fn push_pair(
-    out: &mut [u32],
-    width: usize,
-    table: &[u8],
-    terms: Terms,
-    r: usize,
-    i: usize,
-    j: usize,
-    f: Fold,
-) -> Fold
-    requires { ⌜ (Shaped width (now table)) × (r < width) × (i < width) × (j < width) × (2 * width + f .gates < wordLimit) ⌝ }
-    ensures { λ g. ⌜ Pushed width f (now (out .entry)) (only (picks terms width (now (table .entry)) r i j) (pairWire terms width i j)) g (now (out .exit)) ⌝ }
-{
-    if picked(width, table, terms, r, i, j) {
-        fold::push(out, width, f, pair_wire(width, table, terms, r, i, j))
-    } else {
-        f
-    }
-}
-
 // The pairs of row i.
 fn push_row(
     out: &mut [u32],
     width: usize,
     table: &[u8],
     terms: Terms,
+    successors: &[u16],
     r: usize,
     i: usize,
     f: Fold,
 ) -> Fold
-    requires { ⌜ (Shaped width (now table)) × (r < width) × (i < width) × (3 * width + f .gates < wordLimit) ⌝ }
+    requires { ⌜ (Shaped width (now table)) × (Successors terms width (now table) 0 (now successors)) × (r < width) × (i < width) × (3 * width + f .gates < wordLimit) ⌝ }
     ensures { λ g. ⌜ Pushed width f (now (out .entry)) (rowTerms terms width (now (table .entry)) r i width) g (now (out .exit)) ⌝ }
 {
     let mut g = f;
-    let mut j = 0;
+    let first = successors::first_pair(terms, i);
+    let mut j = successors::next(width, table, terms, successors, r, i, first);
     while j < width {
-        let next = push_pair(out, width, table, terms, r, i, j, g);
-        g = next;
-        j += 1;
+        let wire = pair_wire(width, table, terms, r, i, j);
+        let more = fold::push(out, width, g, wire);
+        g = more;
+        let after = successors::next(width, table, terms, successors, r, i, j + 1);
+        j = after;
     }
     g
 }
 
 // All pairs, by i and then j.
-fn push_pairs(out: &mut [u32], width: usize, table: &[u8], terms: Terms, r: usize, f: Fold) -> Fold
-    requires { ⌜ (Shaped width (now table)) × (r < width) × (3 * width + width * width + f .gates < wordLimit) ⌝ }
+fn push_pairs(
+    out: &mut [u32],
+    width: usize,
+    table: &[u8],
+    terms: Terms,
+    successors: &[u16],
+    r: usize,
+    f: Fold,
+) -> Fold
+    requires { ⌜ (Shaped width (now table)) × (Successors terms width (now table) 0 (now successors)) × (r < width) × (3 * width + width * width + f .gates < wordLimit) ⌝ }
     ensures { λ g. ⌜ Pushed width f (now (out .entry)) (pairTerms terms width (now (table .entry)) r) g (now (out .exit)) ⌝ }
 {
     let mut g = f;
     let mut i = 0;
     while i < width {
-        let next = push_row(out, width, table, terms, r, i, g);
+        let next = push_row(out, width, table, terms, successors, r, i, g);
         g = next;
         i += 1;
     }
@@ -170,14 +142,15 @@ pub(crate) fn fold_terms(
     width: usize,
     table: &[u8],
     terms: Terms,
+    successors: &[u16],
     shared: u32,
     r: usize,
     n: usize,
 ) -> Fold
-    requires { ⌜ (Shaped width (now table)) × (r < width) × (3 * width + width * width + n + 1 < wordLimit) ⌝ }
+    requires { ⌜ (Shaped width (now table)) × (Successors terms width (now table) 0 (now successors)) × (r < width) × (3 * width + width * width + n + 1 < wordLimit) ⌝ }
     ensures { λ g. ⌜ Pushed width (fresh n) (now (out .entry)) (foldTerms terms width (now (table .entry)) shared r) g (now (out .exit)) ⌝ }
 {
     let first = first_term(width, terms, r, n);
-    let all = push_pairs(out, width, table, terms, r, first);
+    let all = push_pairs(out, width, table, terms, successors, r, first);
     last_term(out, width, terms, shared, all)
 }

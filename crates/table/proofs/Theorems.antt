@@ -1,5 +1,5 @@
 -- The proofs of Statements.
--- shape, symmetry, acceptance, fields, carried-pass.
+-- shape, symmetry, acceptance, fields, row-sums, carried-pass.
 use mathlib.Core.Path.{_≡_, refl, sym, _∙_}
 use mathlib.Core.Logic.{_↔_}
 use mathlib.Core.Bool.{true, false, not}
@@ -15,7 +15,7 @@ use Rattle.gf2.specs.Operands.{maxWidth}
 use Rattle.gf2.specs.Tables.{IsTable}
 use Rattle.gf2.specs.Check.{Rule4, Rule5, Rule6, Rule7, Accepted}
 use Rattle.gf2.proofs.Sums.{every-at}
-use Rattle.gf2.proofs.Theorems.{theoremA}
+use Rattle.gf2.proofs.Theorems.{theoremA, theoremC}
 use Rattle.gf2.proofs.CarriedTables.{carried}
 use Rattle.operand.specs.declared.fault.Fault.{Fault}
 use Rattle.operand.specs.declared.fault.Fault.the-variants.{None, RowZero, RowPair, Triple, RowSum}
@@ -23,7 +23,7 @@ use Rattle.operand.specs.Faults.{isNone, when}
 use Rattle.table.specs.Carried.{carried2, carried3, carried4, carried5}
 use Rattle.table.specs.Rows.{mirrors, leftProduct, rightProduct, associates}
 use Rattle.table.specs.Judgements.{same, rowZeroFault, rowPairFault, tripleFault, rowSumFault, symmetryFault, checkFault}
-use Rattle.table.specs.Statements.{Bytes, Shape, Symmetry, Acceptance, Fields, CarriedPass}
+use Rattle.table.specs.Statements.{Bytes, Shape, Symmetry, Acceptance, Fields, RowSums, CarriedPass}
 use Rattle.table.proofs.Searches.{same-correct, when-passes, when-none, three-none, first-none}
 use Rattle.table.proofs.Shapes.{shape-fine}
 use Rattle.table.proofs.Rules.{mirrorFault, mirror-search, pairFault, rowFault, triple-search}
@@ -84,6 +84,11 @@ fields m t small = (
       (h .0, f .0, f .1),
   λ h. acceptance m t small .1 (h .0, theoremA m t (h .0 .least) (h .0 .isTable) .1 (h .1, h .2)),
 )
+
+pub row-sums : RowSums
+row-sums m t small e six =
+    let s = symmetry m t small .0 e in
+    rule7 m t .1 (theoremC m t (s .0 .least) (s .0 .isTable) (s .1) (rule6 m t .0 six))
 
 bytes-of : (l : List ℕ) → every (length l) (λ b. ltb (getD l b 0) 256) ≡ true → Bytes l
 bytes-of l e b = elim (decLt b (length l)) [

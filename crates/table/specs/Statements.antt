@@ -1,6 +1,7 @@
 -- What is proved of the faults of a table: the statements alone. A table is any list of bytes.
 -- Shape, Symmetry, Acceptance: 1 to 3, 1 to 5 and 1 to 7 give no fault just where the rules hold.
 -- Fields: the check gives no fault just where the operands form a field whose square is the turn by one.
+-- RowSums: 7 is never given.
 -- CarriedPass: the four carried tables are accepted.
 use mathlib.Core.Path.{_≡_}
 use mathlib.Core.Logic.{_↔_}
@@ -12,7 +13,7 @@ use Rattle.gf2.specs.Field.{Field, Squares}
 use Rattle.operand.specs.declared.fault.Fault.the-variants.{None}
 use Rattle.table.specs.Carried.{carried2, carried3, carried4, carried5}
 use Rattle.table.specs.Rows.{Shaped}
-use Rattle.table.specs.Judgements.{shapeFault, symmetryFault, checkFault}
+use Rattle.table.specs.Judgements.{shapeFault, symmetryFault, tripleFault, rowSumFault, checkFault}
 
 -- every element is a byte
 abbrev pub Bytes : List ℕ → Type 0
@@ -33,6 +34,10 @@ Acceptance = (m : ℕ) (table : List ℕ) → Bytes table → (checkFault m tabl
 -- "Under a table the operands form a field if, for all a, b and c and with its plain product: .."
 abbrev pub Fields : Type 0
 Fields = (m : ℕ) (table : List ℕ) → Bytes table → (checkFault m table ≡ None) ↔ (Shaped m table × Field m table × Squares m table)
+
+-- rules 4 to 6 imply rule 7: where the check gives none of 1 to 6, it doesn't give 7
+abbrev pub RowSums : Type 0
+RowSums = (m : ℕ) (table : List ℕ) → Bytes table → symmetryFault m table ≡ None → tripleFault m table ≡ None → rowSumFault m table ≡ None
 
 -- "Four tables are carried in the program itself"
 pub record CarriedPass : Type 0 where

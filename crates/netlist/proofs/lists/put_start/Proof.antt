@@ -10,8 +10,8 @@ use Rattle.netlist.proofs.lists.put_start.Tie as tie
 
 put-pairs-requires : tie.Need-put-pairs-requires
 put-pairs-requires c κs =
-    let s = c .before .before .before in
-    let g = s .pre .greatest in
+    let s = c .before .before .before .before in
+    let g = s .pre .0 .greatest in
     (g, omega (arith, g, width-square (s .args .width) (s .args .width) g g))
 
 enum-told : tie.Need-enum-told
@@ -22,9 +22,9 @@ enum-told-2 c = search needs
 
 put-pairs-requires-2 : tie.Need-put-pairs-requires-2
 put-pairs-requires-2 c κs =
-    let s = c .before .before .before .before .before .before .before .before .before in
+    let s = c .before .before .before .before .before .before .before .before .before .before in
     let m = s .args .width in
-    let g = s .pre .greatest in
+    let g = s .pre .0 .greatest in
     (g, omega (arith, g, width-square m m g g, put-most (m * m) (c .before .before .before .before .before .put-pairs .ensures) (pairs-length false m)))
 
 enum-told-3 : tie.Need-enum-told-3
@@ -33,12 +33,15 @@ enum-told-3 c = search needs
 enum-told-4 : tie.Need-enum-told-4
 enum-told-4 c = search needs
 
+fill-requires : tie.Need-fill-requires
+fill-requires c κs = c .before .before .before .before .before .before .before .before .before .before .pre
+
 fold-terms-requires : tie.Need-fold-terms-requires
 fold-terms-requires c κs =
-    let s = c .before .before .before .before .before .before .before .before .before in
+    let s = c .before .before .before .before .before .before .before .before .before .before .before .before .before .before .before in
     let m = s .args .width in
-    let g = s .pre .greatest in
-    (s .pre, omega (arith, s .pre .least), omega (arith, g, width-square m m g g, put-most (m * m) (c .before .before .before .before .before .put-pairs .ensures) (pairs-length false m)))
+    let g = s .pre .0 .greatest in
+    (s .pre .0, c .before .before .before .before .fill .ensures, omega (arith, s .pre .0 .least), omega (arith, g, width-square m m g g, put-most (m * m) (c .before .before .before .before .before .before .before .before .before .before .put-pairs .ensures) (pairs-length false m)))
 
 same-length : tie.Need-same-length
 same-length c = search needs
@@ -61,8 +64,11 @@ returns-3 c = rw (c .enum-told3 .given .1) (start-shared _ _ (c .before .before 
 same-length-4 : tie.Need-same-length-4
 same-length-4 c = search needs
 
+same-length-5 : tie.Need-same-length-5
+same-length-5 c = search needs
+
 returns-4 : tie.Need-returns-4
-returns-4 c = rw (c .before .before .before .before .enum-told4 .given .1) (start-other _ _ (c .before .before .before .before .before .before .before .before .put-pairs .ensures) (c .before .before .fold-terms .ensures))
+returns-4 c = rw (c .before .before .before .before .before .before .before .before .before .enum-told4 .given .1) (start-other _ _ (c .before .before .before .before .before .before .before .before .before .before .before .before .before .put-pairs .ensures) (c .before .before .fold-terms .ensures))
 
 pub put-start-spec : {M : Type 1} → statement M
 put-start-spec =
@@ -74,6 +80,7 @@ put-start-spec =
     put-pairs-requires-2
     enum-told-3
     enum-told-4
+    fill-requires
     fold-terms-requires
     same-length
     returns
@@ -82,4 +89,5 @@ put-start-spec =
     same-length-3
     returns-3
     same-length-4
+    same-length-5
     returns-4)

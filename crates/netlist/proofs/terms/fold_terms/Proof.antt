@@ -11,14 +11,14 @@ first-term-requires c κs = search needs
 
 push-pairs-requires : tie.Need-push-pairs-requires
 push-pairs-requires c κs =
-    let s = c .before .before .before .before in
-    (s .pre .0, s .pre .1, omega (arith, s .pre .2, start-gates (s .args .terms) (s .args .width) (s .args .r) (s .args .n) (c .before .first-term .ensures)))
+    let s = c .before .before .before .before .before in
+    (s .pre .0, s .pre .1, s .pre .2, omega (arith, s .pre .3, start-gates (s .args .terms) (s .args .width) (s .args .r) (s .args .n) (c .before .first-term .ensures)))
 
 last-term-requires : tie.Need-last-term-requires
 last-term-requires c κs =
-    let s = c .before .before .before .before .before .before .before .before in
+    let s = c .before .before .before .before .before .before .before .before .before in
     let a = s .args in
-    (s .pre .0 .greatest, omega (arith, s .pre .2, start-gates (a .terms) (a .width) (a .r) (a .n) (c .before .before .before .before .before .first-term .ensures), push-most (c .before .before .before .push-pairs .ensures), pairs-most (a .terms) (a .width) (a .table .now) (a .r)))
+    (s .pre .0 .greatest, omega (arith, s .pre .3, start-gates (a .terms) (a .width) (a .r) (a .n) (c .before .before .before .before .before .first-term .ensures), push-most (c .before .before .before .push-pairs .ensures), pairs-most (a .terms) (a .width) (a .table .now) (a .r)))
 
 same-length : tie.Need-same-length
 same-length c = search needs
@@ -26,7 +26,7 @@ same-length c = search needs
 returns : tie.Need-returns
 unfolding foldTerms
 returns c =
-    let a = c .before .before .before .before .before .before .before .before .before .before .before .args in
+    let a = c .before .before .before .before .before .before .before .before .before .before .before .before .args in
     push-more (push-more (push-start (a .terms) (a .width) (a .r) (a .n) _ (c .before .before .before .before .before .before .before .before .first-term .ensures)) (c .before .before .before .before .before .before .push-pairs .ensures)) (c .before .before .last-term .ensures)
 
 pub fold-terms-spec : {M : Type 1} → statement M

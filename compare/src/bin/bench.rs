@@ -1,0 +1,157 @@
+//! The benchmark: the proved library beside the same source compiled by rustc, on the same inputs in one run.
+//!
+//!     rt staticlib nb && cargo run --release --offline --manifest-path compare/Cargo.toml --bin bench
+//!
+//! Prints a table in Markdown, the ratio proved / Rust last. With the argument `growth` it prints how each cost grows from
+//! width 64 to 255 instead. Every time is of a whole call, with every judgement in it; lent buffers are not cleared before a call.
+
+use compare::inputs::{dense, Source};
+use compare::same::nb as same;
+use compare::{bits, card, field, gates, gaussian, proved};
+use std::hint::black_box;
+use std::time::Instant;
+
+/// How often a call is made so that it takes some 10 ms.
+fn runs(call: &mut impl FnMut()) -> u64 {
+    let mut runs = 1u64;
+    loop {
+        let start = Instant::now();
+        (0..runs).for_each(|_| call());
+        let taken = start.elapsed().as_micros() as u64;
+        if taken >= 5_000 {
+            return runs;
+        }
+        runs *= if taken < 500 { 8 } else { 2 };
+    }
+}
+
+/// Nanoseconds that two calls take, run in turns: of each the least of seven.
+fn times(mut ours: impl FnMut(), mut theirs: impl FnMut()) -> (f64, f64) {
+    let runs = runs(&mut ours);
+    let time = |call: &mut dyn FnMut()| {
+        let start = Instant::now();
+        (0..runs).for_each(|_| call());
+        start.elapsed().as_nanos() as f64 / runs as f64
+    };
+    let mut least = (f64::INFINITY, f64::INFINITY);
+    for _ in 0..7 {
+        least = (least.0.min(time(&mut ours)), least.1.min(time(&mut theirs)));
+    }
+    least
+}
+
+fn shown(ns: f64) -> String {
+    match ns {
+        ns if ns < 1e3 => format!("{ns:.1} ns"),
+        ns if ns < 1e6 => format!("{:.2} µs", ns / 1e3),
+        ns => format!("{:.2} ms", ns / 1e6),
+    }
+}
+
+/// The inputs of one column.
+struct Case {
+    label: String,
+    m: usize,
+    table: Vec<u8>,
+    a: Vec<u8>,
+    b: Vec<u8>,
+    c: Vec<u8>,
+}
+
+impl Case {
+    fn new(label: &str, m: usize, table: Vec<u8>) -> Case {
+        let mut source = Source::new(m as u64);
+        let mut even = source.bits(m);
+        even[0] = even.iter().skip(1).filter(|&&b| b).count() % 2 == 1;
+        Case {
+            label: label.to_string(),
+            m,
+            table,
+            a: bits::pack(&source.bits(m)),
+            b: bits::pack(&source.bits(m)),
+            c: bits::pack(&even),
+        }
+    }
+
+    fn drawn(m: usize) -> Case {
+        let mut table = vec![0; m * bits::bytes_for(m)];
+        let t = gaussian::draw(m, &mut table).unwrap();
+        Case::new(&format!("{m}, type {t}"), m, table)
+    }
+}
+
+/// Each call's name and its times, proved and Rust.
+fn measure(case: &Case) -> Vec<(&'static str, f64, f64)> {
+    let Case { m, table, a, b, c, .. } = case;
+    let (m, width) = (*m, *m as u64);
+    let mut result = vec![0; bits::bytes_for(m)];
+    let t = field::judge(m, table, &[], &[]).unwrap();
+    let list = gates::list(&t, gates::Method::Plain);
+    let mut words = vec![0u32; list.len() + 3 * m * m];
+    let mut wires = vec![0u8; 2 * m + list[1] as usize];
+    let written = card::card(&t);
+    let mut room = vec![0u8; written.len()];
+    let mut drawn = table.clone();
+    let (mut result2, mut words2, mut wires2, mut room2, mut drawn2) =
+        (result.clone(), words.clone(), wires.clone(), room.clone(), drawn.clone());
+    let mut rows = vec![];
+    macro_rules! row {
+        ($name:expr, $ours:expr, $theirs:expr) => {{
+            let (ours, theirs) = times(|| { black_box($ours).ok(); }, || { black_box($theirs); });
+            rows.push(($name, ours, theirs));
+        }};
+    }
+    row!("product", proved::product(m, table, a, b, &mut result), same::tables::nb_product(width, table, a, b, &mut result2));
+    row!("reduced product", proved::product_reduced(m, table, a, b, &mut result), same::tables::nb_product_reduced(width, table, a, b, &mut result2));
+    row!("check", proved::check(m, table), same::tables::nb_check(width, table));
+    row!("inverse", proved::inverse(m, table, a, &mut result), same::tables::nb_inverse(width, table, a, &mut result2));
+    row!("turn", proved::turn(m, a, m / 3, &mut result), same::operands::nb_turn(width, a, width / 3, &mut result2));
+    row!("sum", proved::sum(m, a, b, &mut result), same::operands::nb_sum(width, a, b, &mut result2));
+    row!("trace", proved::trace(m, a), same::operands::nb_trace(width, a));
+    row!("solve", proved::solve(m, c, &mut result), same::operands::nb_solve(width, c, &mut result2));
+    row!("plain list", proved::list_plain(m, table, &mut words), same::netlists::nb_list_plain(width, table, &mut words2));
+    row!("reduced list", proved::list_reduced(m, table, &mut words), same::netlists::nb_list_reduced(width, table, &mut words2));
+    row!("common list", proved::list_common(m, table, &mut words), same::netlists::nb_list_common(width, table, &mut words2));
+    row!("counts", proved::counts_plain(m, table), same::netlists::nb_counts_plain(width, table));
+    row!("run of the plain list", proved::run(m, &list, a, b, &mut result, &mut wires), same::netlists::nb_run(width, &list, a, b, &mut result2, &mut wires2));
+    row!("draw", proved::draw(m, &mut drawn), same::cards::nb_draw(width, &mut drawn2));
+    row!("card write", proved::card_write(m, table, &mut room), same::cards::nb_card_write(width, table, &mut room2));
+    row!("card read", proved::card_read(&written, &mut drawn), same::cards::nb_card_read(&written, &mut drawn2));
+    rows
+}
+
+fn compared(cases: &[Case]) {
+    println!("| call | width, table | proved | Rust, same source | proved / Rust |");
+    println!("|---|---|---|---|---|");
+    for case in cases {
+        for (name, ours, theirs) in measure(case) {
+            println!("| {name} | {} | {} | {} | {:.2} |", case.label, shown(ours), shown(theirs), ours / theirs);
+        }
+    }
+    let case = &cases[1];
+    let (mut result, mut result2) = (vec![0; bits::bytes_for(case.m)], vec![0; bits::bytes_for(case.m)]);
+    let (theirs, ours) = times(
+        || { field::product(case.m, &case.table, &case.a, &case.b, &mut result2).ok(); },
+        || { proved::product(case.m, &case.table, &case.a, &case.b, &mut result).ok(); },
+    );
+    println!();
+    println!("By definition (compare/src/field.rs), product at {}: {}; the proved call is {:.0} times as quick.", case.label, shown(theirs), theirs / ours);
+}
+
+fn growth() {
+    println!("width,call,nanoseconds");
+    for m in [65, 81, 97, 113, 130, 146, 163, 178, 194, 210, 226, 233, 243, 255] {
+        for (name, ours, _) in measure(&Case::drawn(m)) {
+            println!("{m},{name},{ours:.1}");
+        }
+    }
+}
+
+fn main() {
+    if std::env::args().nth(1).as_deref() == Some("growth") {
+        return growth();
+    }
+    let sparse = Case::drawn(233);
+    let dense = Case::new("233, dense", 233, dense(&mut Source::new(5), 233, &sparse.table));
+    compared(&[Case::drawn(163), sparse, Case::drawn(255), dense]);
+}

@@ -1,0 +1,2 @@
+-- Starred: the proof of the starred examples.
+pub mod Starred

@@ -1,0 +1,23 @@
+-- The starred examples hold: each is computed.
+use mathlib.Core.Path.{_≡_, refl}
+use Rattle.gf2.specs.Sums.{sum, every}
+use Rattle.gf2.specs.Coordinates.{coord, value, tabulate, pack}
+use Rattle.gf2.specs.Operands.{minus, isClear, below, fromCoords, zeroes, ones, added, turned, squared}
+use Rattle.gf2.specs.Quadratic.{trace, rootCoord, root}
+use Rattle.gf2.specs.Tables.{row, basis, pairProduct, onesIn}
+use Rattle.gf2.specs.Products.{product}
+use Rattle.gf2.specs.Check.{rowSum}
+use Rattle.gf2.specs.Inverse.{halvings, binaryOnes, doubling, adding, digits, inverse, productsMade}
+use Rattle.operand.specs.Faults.{isNone, orElse, firstOf, firstFrom}
+use Rattle.operand.specs.Judgements.{widthFault, lengthFault, highFault, traceFault}
+use Rattle.table.specs.Judgements.{same, rowsFault, shapeFault, rowZeroFault, rowPairFault, tripleFault, rowSumFault, symmetryFault, checkFault}
+use Rattle.table.specs.Calls.{onesCall}
+use Rattle.netlist.specs.Lists.{allOnes, fullRows}
+use Rattle.netlist.specs.Calls.{answer}
+use Rattle.nb.specs.Packing.{packedFault, packedAnswer}
+use Rattle.nb.specs.Judgements.{solveBytesFault, productBytesFault, zeroBytesFault, inverseBytesFault}
+use Rattle.examples.specs.Starred.{Holds, AllHold, starred}
+
+pub all-starred : AllHold starred
+unfolding Holds sum every coord value tabulate pack minus isClear below fromCoords zeroes ones added turned squared trace rootCoord root row basis pairProduct onesIn product rowSum halvings binaryOnes doubling adding digits inverse productsMade isNone orElse firstOf firstFrom widthFault lengthFault highFault traceFault same rowsFault shapeFault rowZeroFault rowPairFault tripleFault rowSumFault symmetryFault checkFault onesCall allOnes fullRows answer packedFault packedAnswer solveBytesFault productBytesFault zeroBytesFault inverseBytesFault
+all-starred = ((refl, refl), ((refl, refl), ((refl, refl), ((refl, refl), ((refl, refl), ((refl, refl), ((refl, refl), ((refl, refl), (refl, (refl, (refl, ((refl, refl, refl, refl, refl), tt))))))))))))

@@ -1,0 +1,2 @@
+-- Starred: document 01's starred examples and what they say.
+pub mod Starred

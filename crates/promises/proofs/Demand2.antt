@@ -1,0 +1,67 @@
+-- Demand 2: each field by a law of the crate that proves it.
+use mathlib.Core.Path.{_≡_, refl, sym, ap, _∙_}
+use mathlib.Core.List.{List, [], _∷_}
+use Prim.Native.Nat.{ℕ, _*_, _%_, _<_, _≤_}
+use native.Mathlib.Omega.{arith}
+use lib.ListN.{length}
+use Rattle.gf2.specs.Operands.{maxWidth, bytesFor, fromCoords}
+use Rattle.gf2.specs.Tables.{IsTable, row}
+use Rattle.gf2.specs.Products.{product, reduced}
+use Rattle.gf2.proofs.Operands.{coord-from, from-operand}
+use Rattle.operand.specs.declared.fault.Fault.{Fault}
+use Rattle.operand.specs.declared.fault.Fault.the-variants.{None}
+use Rattle.operand.specs.Calls.{chooseBytes}
+use Rattle.gaussian.specs.Types.{modulus, typeOf}
+use Rattle.gaussian.specs.Table.{rowCoord, drawn}
+use Rattle.gaussian.specs.Calls.{drawFault, drawnInto}
+use Rattle.gaussian.proofs.Theorems.{type-list, drawn-table}
+use Rattle.card.proofs.Theorems.{card-laws}
+use Rattle.nb.specs.Judgements.{productBytesFault, reducedBytesFault}
+use Rattle.nb.specs.Calls.{productResult, reducedResult}
+use Rattle.promises.specs.Causes.{Holds}
+use Rattle.promises.specs.Demand1.{Fills}
+use Rattle.promises.specs.Demand2.{bilinear, halved, HasCoords, DrawnBy, Demand2}
+use Rattle.promises.proofs.CauseTests.{wide, long}
+use Rattle.promises.proofs.Demand1.{demand1}
+
+-- the bytes of an operand that is given by its coordinates
+given : (m : ℕ) (x : List ℕ) (f : ℕ → ℕ) → length x ≡ bytesFor m → HasCoords m (fromCoords (length x) m f) (λ r. f r % 2)
+given m x f size = rw size (record { operand = from-operand (bytesFor m) m f; coords = λ r l. coord-from (bytesFor m) m f (omega arith) r l })
+
+products : (m : ℕ) (table a b old : List ℕ) → productBytesFault m table a b old ≡ None → HasCoords m (productResult m table a b old) (bilinear m table a b)
+unfolding product Holds
+products m table a b old e =
+    let call = demand1 .product m table a b old in
+    rw (call .buffer .written e) (given m a _ (long (call .exact .none .0 e .1 .0)))
+
+reducedProducts : (m : ℕ) (table a b old : List ℕ) → reducedBytesFault m table a b old ≡ None → HasCoords m (reducedResult m table a b old) (halved m table a b)
+unfolding reduced Holds
+reducedProducts m table a b old e =
+    let call = demand1 .reduced m table a b old in
+    rw (call .buffer .written e) (given m a _ (long (call .exact .none .0 e .1 .0)))
+
+drawn-by : (m : ℕ) (old : List ℕ) → drawFault m (length old) ≡ None → DrawnBy m (typeOf m) (drawnInto m old)
+unfolding Holds
+drawn-by m old e =
+    let call = demand1 .draw m old in
+    let no = call .exact .none .0 e in
+    let w = wide (no .0) in
+    let t = drawn-table m (typeOf m) in
+    rw (call .buffer .written e) (record {
+      least = type-list m (w .0) (w .1) .least (no .1 .1 .0);
+      isTable = t .isTable;
+      rows = λ d l. rw (t .rows d l) (record {
+        operand = from-operand (bytesFor m) m _;
+        coords = λ s h. coord-from (bytesFor m) m _ (omega arith) s h;
+      });
+    })
+
+pub demand2 : Demand2
+demand2 = record {
+  products = products;
+  reducedProducts = reducedProducts;
+  drawn = drawn-by;
+  undrawn = λ m l h e. let t = type-list m l h in let d = t .none .0 e in (d, t .never d);
+  readWritten = card-laws .tables;
+  writtenRead = card-laws .cards;
+}
