@@ -114,7 +114,7 @@ fn measure(case: &Case) -> Vec<(&'static str, f64, f64)> {
     row!("common list", proved::list_common(m, table, &mut words), same::netlists::nb_list_common(width, table, &mut words2));
     row!("counts", proved::counts_plain(m, table), same::netlists::nb_counts_plain(width, table));
     row!("run of the plain list", proved::run(m, &list, a, b, &mut result, &mut wires), same::netlists::nb_run(width, &list, a, b, &mut result2, &mut wires2));
-    row!("draw", proved::draw(m, &mut drawn), same::cards::nb_draw(width, &mut drawn2));
+    row!("draw", proved::draw(m, &mut drawn), same::drawing::nb_draw(width, &mut drawn2));
     row!("card write", proved::card_write(m, table, &mut room), same::cards::nb_card_write(width, table, &mut room2));
     row!("card read", proved::card_read(&written, &mut drawn), same::cards::nb_card_read(&written, &mut drawn2));
     rows

@@ -1,7 +1,7 @@
 -- The values that the calls return have room in their bits: ones, products made, gates by kind, types, lengths of cards.
-use mathlib.Core.Path.{_≡_, refl, sym, ap, _∙_, subst}
+use mathlib.Core.Path.{_≡_, sym, subst}
 use mathlib.Core.Bool.{true}
-use mathlib.Core.List.{List, [], _∷_}
+use mathlib.Core.List.{List}
 use Prim.Native.Nat.{ℕ, zero, suc, _+_, _-_, _*_, _/_, _%_, _^_, _<_, _≤_}
 use native.Mathlib.Omega.{arith}
 use lib.ListN.{length}
@@ -18,7 +18,7 @@ use Rattle.operand.proofs.ByteLoops.{Bytes}
 use Rattle.operand.proofs.FaultLaws.{or-both, width-fine, none-is}
 use Rattle.table.specs.declared.OnesAnswer.{OnesAnswer}
 use Rattle.table.specs.Rows.{Shaped}
-use Rattle.table.specs.Judgements.{shapeFault, symmetryFault}
+use Rattle.table.specs.Judgements.{symmetryFault}
 use Rattle.table.specs.Calls.{onesCall}
 use Rattle.product.proofs.ChainSteps.{log2-le}
 use Rattle.netlist.specs.declared.CountsAnswer.{CountsAnswer}

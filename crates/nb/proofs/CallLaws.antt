@@ -5,7 +5,7 @@
 use mathlib.Core.Path.{_≡_, refl, sym, ap, ap₂, _∙_}
 use mathlib.Core.Bool.{Bool, true, false}
 use mathlib.Core.List.{List, [], _∷_, _++_}
-use Prim.Native.Nat.{ℕ, _+_, _*_, _%_, _<_, _≤_}
+use Prim.Native.Nat.{ℕ, _*_, _%_, _<_, _≤_}
 use native.Mathlib.Omega.{arith}
 use lib.Dec.{eqb}
 use lib.ListN.{length}
@@ -24,8 +24,8 @@ use Rattle.operand.specs.declared.fault.Fault.the-variants.{None, InverseOfZero
 use Rattle.operand.specs.Faults.{isNone, when, orElse, firstOf}
 use Rattle.operand.specs.Judgements.{widthFault, lengthFault, highFault, turnFault, traceFault, operandFault, pairFault, bytesFault}
 use Rattle.operand.specs.Calls.{chooseBytes, answer, readCall, writeCall, turnCall, sumCall, traceCall, solveCall}
-use Rattle.operand.proofs.FaultLaws.{or-second, or-none, or-both, or-cong, or-assoc, width-fine, length-fine, high-fine, none-is}
-use Rattle.operand.proofs.FaultFree.{IsWidth, carry, width-none, length-none, high-none, operand-none}
+use Rattle.operand.proofs.FaultLaws.{or-second, or-none, or-both, or-cong, or-assoc, width-fine, length-fine, high-fine}
+use Rattle.operand.proofs.FaultFree.{IsWidth, carry, width-none, length-none, high-none}
 use Rattle.operand.proofs.CallTheorems.{call-laws}
 use Rattle.operand.proofs.ByteLoops.{Bytes}
 use Rattle.table.specs.Rows.{carriedBy}

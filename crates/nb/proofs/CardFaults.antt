@@ -1,5 +1,5 @@
 -- What is returned beside the fault of a card that is read: nothing, whatever part of the card it is found in.
-use mathlib.Core.Path.{_≡_, refl}
+use mathlib.Core.Path.{refl}
 use mathlib.Core.Bool.{Bool, true, false}
 use mathlib.Core.List.{List, [], _∷_}
 use Prim.Native.Nat.{ℕ, zero, suc, _+_, _-_, _*_}
@@ -8,7 +8,7 @@ use lib.Dec.{ltb, leb, eqb}
 use Rattle.gf2.specs.Operands.{bytesFor}
 use Rattle.operand.specs.declared.fault.Fault.{Fault}
 use Rattle.operand.specs.declared.fault.Fault.the-variants.{None, CardEnds, CardNumber, CardForm, CardPlace, CardTail}
-use Rattle.operand.specs.Faults.{isNone, firstOf}
+use Rattle.operand.specs.Faults.{isNone}
 use Rattle.card.specs.Numbers.{pick, Read, refused, got, andThen, secondGroup, readNumber}
 use Rattle.card.specs.Rows.{after, readPlaces, readRow, rowOf, readRows}
 use Rattle.card.specs.Cards.{lentFault, readWidth, readHead, Table, ended, readCard}

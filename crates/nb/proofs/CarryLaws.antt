@@ -2,11 +2,11 @@
 -- Every operation is given by coordinates, which carrying keeps: carried operands give the carried result.
 use mathlib.Core.Path.{_≡_, refl, sym, ap, ap₂, _∙_, fun-ext}
 use mathlib.Core.List.{List}
-use Prim.Native.Nat.{ℕ, zero, suc, _+_, _-_, _*_, _/_, _%_, _^_, _<_, _≤_}
+use Prim.Native.Nat.{ℕ, zero, suc, _+_, _-_, _*_, _/_, _%_, _^_, _≤_}
 use native.Mathlib.Omega.{arith}
 use lib.ListN.{length}
 use Rattle.gf2.specs.Sums.{sum}
-use Rattle.gf2.specs.Coordinates.{coord, pack}
+use Rattle.gf2.specs.Coordinates.{coord}
 use Rattle.gf2.specs.Operands.{maxWidth, bytesFor, carriedBytes, minus, IsOperand, fromCoords, isClear, added, turned}
 use Rattle.gf2.specs.Quadratic.{rootCoord, root}
 use Rattle.gf2.specs.Tables.{pairProduct}
@@ -14,7 +14,7 @@ use Rattle.gf2.specs.Products.{product, reduced}
 use Rattle.gf2.specs.Inverse.{log2, Chain, start, doubling, adding, digits, chain, inverse, productsMade}
 use Rattle.gf2.proofs.Parity.{bool-ext}
 use Rattle.gf2.proofs.Coordinates.{length-pack}
-use Rattle.gf2.proofs.Operands.{length-from, from-operand, clear-at, clear-of}
+use Rattle.gf2.proofs.Operands.{from-operand, clear-at, clear-of}
 use Rattle.operand.specs.Judgements.{highFault}
 use Rattle.operand.proofs.CallLaws.{coord-carried}
 use Rattle.table.specs.Rows.{carriedBy}

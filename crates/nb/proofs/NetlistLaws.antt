@@ -1,6 +1,6 @@
 -- The runner on operands of W bytes: its fault and its buffers.
 use mathlib.Core.Path.{_≡_, refl, sym, ap, ap₂, _∙_}
-use mathlib.Core.Bool.{Bool, true, false}
+use mathlib.Core.Bool.{true, false}
 use mathlib.Core.List.{List, [], _∷_, _++_}
 use Prim.Native.Nat.{ℕ, _+_, _*_}
 use lib.ListN.{length, getD}
@@ -13,7 +13,7 @@ use Rattle.operand.specs.Faults.{isNone, orElse, firstOf}
 use Rattle.operand.specs.Judgements.{lengthFault, highFault}
 use Rattle.operand.specs.Calls.{chooseBytes}
 use Rattle.operand.proofs.FaultLaws.{or-first, or-second}
-use Rattle.operand.proofs.FaultFree.{IsWidth, carry, width-none, length-none}
+use Rattle.operand.proofs.FaultFree.{carry, width-none, length-none}
 use Rattle.table.specs.Rows.{carriedBy}
 use Rattle.table.proofs.Searches.{none-true}
 use Rattle.netlist.specs.Gates.{Netlist}

@@ -1,8 +1,8 @@
 -- Laws of packed answers: what is returned beside a fault has room in its bits, and equal answers.
-use mathlib.Core.Path.{_≡_, refl, sym, ap, _∙_}
+use mathlib.Core.Path.{_≡_, refl, ap, _∙_}
 use mathlib.Core.Bool.{Bool, true, false, not, _&&_}
 use mathlib.Core.List.{List, [], _∷_}
-use Prim.Native.Nat.{ℕ, zero, suc, _+_, _-_, _*_, _^_, _<_, _≤_}
+use Prim.Native.Nat.{ℕ, zero, suc, _+_, _-_, _^_, _<_, _≤_}
 use native.Mathlib.Omega.{arith}
 use lib.Dec.{leb, ltb, eqb}
 use lib.ListN.{length}
@@ -22,7 +22,7 @@ use Rattle.netlist.specs.Running.{gateCount}
 use Rattle.netlist.specs.Judgements.{wordsFault, isGate, isOutput, gatesFault}
 use Rattle.gaussian.specs.Types.{typeOf}
 use Rattle.gaussian.specs.Calls.{typeFault}
-use Rattle.nb.specs.Packing.{packed, packedFault, packedAnswer, valueLimit, Small}
+use Rattle.nb.specs.Packing.{packedAnswer, Small}
 use Rattle.nb.specs.Judgements.{turnBytesFault, sumBytesFault, solveBytesFault, productBytesFault, reducedBytesFault, zeroBytesFault, inverseBytesFault, runBytesFault}
 
 pub number-small : (f : Fault) → numberOf f .0 < 2 ^ 8

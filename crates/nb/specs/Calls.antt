@@ -2,7 +2,6 @@
 -- Operands are their W bytes: turn, sum, product and inverse are document 01's, of the very bytes handed in.
 use mathlib.Core.List.{List}
 use Prim.Native.Nat.{ℕ}
-use lib.ListN.{length}
 use Rattle.gf2.specs.Operands.{bytesFor, added, turned}
 use Rattle.gf2.specs.Quadratic.{trace, root}
 use Rattle.gf2.specs.Products.{product, reduced}
@@ -19,7 +18,7 @@ use Rattle.card.specs.declared.CardAnswer.{CardAnswer}
 use Rattle.nb.specs.Packing.{packedAnswer}
 use Rattle.nb.specs.Judgements.{turnBytesFault, sumBytesFault, solveBytesFault, productBytesFault, reducedBytesFault, inverseBytesFault, runBytesFault}
 
--- nb_check: "with 5 the least d, with 6 i and j"
+-- nb_check: with 5 "number, least d", with 6 "number, i, j"
 abbrev pub checkAnswer : ℕ → List ℕ → ℕ
 checkAnswer m table = packedAnswer (checkFault m table) 0 0
 

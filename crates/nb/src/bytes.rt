@@ -1,11 +1,11 @@
 // W bytes and carried operands: the lengths of a call, an operand as it is carried, a result written.
 ghost use mathlib.Core.Path.{_≡_};
-ghost use lib.ListN.{length};
-ghost use Rattle.operand.specs.Faults.{isNone, firstOf};
+ghost use Rattle.operand.specs.Faults.{isNone, orElse, firstOf};
 ghost use Rattle.operand.specs.Calls.{chooseBytes, writeCall};
 ghost use Rattle.nb.specs.Inner.{oneSizes, twoSizes, narrowed, carriedAs};
 use operand::Fault;
 use operand::Operand;
+use operand::OperandAnswer;
 use operand::judge_length;
 use operand::judge_width;
 use operand::or_else;
@@ -46,11 +46,15 @@ pub(crate) fn carry(m: usize, s: &[u8]) -> Operand
     }
 }
 
-// The result of a call, where there is no fault.
-pub(crate) fn settle(fault: Fault, value: Operand, result: &mut [u8])
-    ensures { λ _. ⌜ now (result .exit) ≡ chooseBytes (isNone fault) (writeCall value (now (result .entry))) (now (result .entry)) ⌝ }
+// The end of a call whose lengths have the fault `sizes` and which the call below answers: the whole fault, and the result written.
+pub(crate) fn settle(sizes: Fault, answer: OperandAnswer, result: &mut [u8]) -> Fault
+    ensures { λ r. ⌜ (r ≡ orElse sizes (answer .fault)) × (now (result .exit) ≡ chooseBytes (isNone r) (writeCall (answer .value) (now (result .entry))) (now (result .entry))) ⌝ }
 {
+    let judged = answer.fault;
+    let value = answer.value;
+    let fault = or_else(sizes, judged);
     if operand::is_none(fault) {
         value.write(result);
     }
+    fault
 }

@@ -12,11 +12,7 @@ pub extern "C" fn nb_turn(width: u64, a: &[u8], k: u64, result: &mut [u8]) -> u6
     let m = width as usize;
     let sizes = bytes::judge_one(m, a.len(), result.len());
     let turned = bytes::carry(m, a).turn(k as usize);
-    let judged = turned.fault;
-    let value = turned.value;
-    let fault = operand::or_else(sizes, judged);
-    bytes::settle(fault, value, result);
-    packing::answer(fault, 0, 0)
+    packing::answer(bytes::settle(sizes, turned, result), 0, 0)
 }
 
 #[no_mangle]
@@ -26,11 +22,7 @@ pub extern "C" fn nb_sum(width: u64, a: &[u8], b: &[u8], result: &mut [u8]) -> u
     let m = width as usize;
     let sizes = bytes::judge_two(m, a.len(), b.len(), result.len());
     let sum = bytes::carry(m, a).sum(bytes::carry(m, b));
-    let judged = sum.fault;
-    let value = sum.value;
-    let fault = operand::or_else(sizes, judged);
-    bytes::settle(fault, value, result);
-    packing::answer(fault, 0, 0)
+    packing::answer(bytes::settle(sizes, sum, result), 0, 0)
 }
 
 #[no_mangle]
@@ -52,9 +44,5 @@ pub extern "C" fn nb_solve(width: u64, c: &[u8], result: &mut [u8]) -> u64
     let m = width as usize;
     let sizes = bytes::judge_one(m, c.len(), result.len());
     let solution = bytes::carry(m, c).solve();
-    let judged = solution.fault;
-    let value = solution.value;
-    let fault = operand::or_else(sizes, judged);
-    bytes::settle(fault, value, result);
-    packing::answer(fault, 0, 0)
+    packing::answer(bytes::settle(sizes, solution, result), 0, 0)
 }

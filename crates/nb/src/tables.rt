@@ -3,6 +3,7 @@ ghost use mathlib.Core.Path.{_≡_};
 ghost use Rattle.nb.specs.Calls.{checkAnswer, onesAnswer, productAnswer, productResult, reducedAnswer, reducedResult, inverseAnswer, inverseResult};
 use crate::bytes;
 use crate::packing;
+use operand::OperandAnswer;
 
 #[no_mangle]
 pub extern "C" fn nb_check(width: u64, table: &[u8]) -> u64
@@ -27,11 +28,7 @@ pub extern "C" fn nb_product(width: u64, table: &[u8], a: &[u8], b: &[u8], resul
     let m = width as usize;
     let sizes = bytes::judge_two(m, a.len(), b.len(), result.len());
     let product = product::product(m, table, bytes::carry(m, a), bytes::carry(m, b));
-    let judged = product.fault;
-    let value = product.value;
-    let fault = operand::or_else(sizes, judged);
-    bytes::settle(fault, value, result);
-    packing::answer(fault, 0, 0)
+    packing::answer(bytes::settle(sizes, product, result), 0, 0)
 }
 
 #[no_mangle]
@@ -47,11 +44,7 @@ pub extern "C" fn nb_product_reduced(
     let m = width as usize;
     let sizes = bytes::judge_two(m, a.len(), b.len(), result.len());
     let product = product::product_reduced(m, table, bytes::carry(m, a), bytes::carry(m, b));
-    let judged = product.fault;
-    let value = product.value;
-    let fault = operand::or_else(sizes, judged);
-    bytes::settle(fault, value, result);
-    packing::answer(fault, 0, 0)
+    packing::answer(bytes::settle(sizes, product, result), 0, 0)
 }
 
 #[no_mangle]
@@ -63,7 +56,9 @@ pub extern "C" fn nb_inverse(width: u64, table: &[u8], a: &[u8], result: &mut [u
     let inverse = product::inverse(m, table, bytes::carry(m, a));
     let judged = inverse.fault;
     let value = inverse.value;
-    let fault = operand::or_else(sizes, judged);
-    bytes::settle(fault, value, result);
-    packing::answer(fault, inverse.count, 0)
+    let answer = OperandAnswer {
+        fault: judged,
+        value,
+    };
+    packing::answer(bytes::settle(sizes, answer, result), inverse.count, 0)
 }

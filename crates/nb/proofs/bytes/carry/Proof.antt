@@ -1,5 +1,4 @@
 -- `nb::bytes::carry` meets its contract.
-use mathlib.Core.Path.{ap₂}
 use borrow.Author.Needs.{needs}
 use Rattle.nb.proofs.bytes.carry.Statement.{statement}
 use Rattle.nb.proofs.bytes.carry.Tie as tie

@@ -1,7 +1,4 @@
 -- `nb::bytes::narrow` meets its contract.
-use mathlib.Core.Path.{sym, ap}
-use Rattle.gf2.specs.Operands.{choose}
-use Rattle.operand.proofs.Tests.{tests}
 use borrow.Author.Needs.{needs}
 use borrow.Author.Tests.{le-leb, lt-leb}
 use Rattle.nb.proofs.bytes.narrow.Statement.{statement}

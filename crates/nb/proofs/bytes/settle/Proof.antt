@@ -4,6 +4,9 @@ use borrow.Author.Needs.{needs}
 use Rattle.nb.proofs.bytes.settle.Statement.{statement}
 use Rattle.nb.proofs.bytes.settle.Tie as tie
 
+or-else-requires : tie.Need-or-else-requires
+or-else-requires c κs = search needs
+
 is-none-requires : tie.Need-is-none-requires
 is-none-requires c κs = search needs
 
@@ -14,10 +17,14 @@ same-length : tie.Need-same-length
 same-length c = search needs
 
 returns : tie.Need-returns
-returns c = rw (sym (c .before .before .before .before .before .is-none .ensures) ∙ c .before .before .before .before .if1 .taken) (c .before .before .write .ensures .1)
+returns c =
+    let n = sym (c .before .before .before .before .before .is-none .ensures) ∙ c .before .before .before .before .if1 .taken in
+    (c .before .before .before .before .before .before .or-else .ensures, rw n (c .before .before .write .ensures .1))
 
 returns-2 : tie.Need-returns-2
-returns-2 c = rw (sym (c .before .is-none .ensures) ∙ c .if1 .left)
+returns-2 c = (c .before .before .or-else .ensures, rw (sym (c .before .is-none .ensures) ∙ c .if1 .left))
 
 pub settle-spec : {M : Type 1} → statement M
-settle-spec = tie.close (tie.spec is-none-requires write-requires same-length returns returns-2)
+settle-spec =
+    tie.close
+    (tie.spec or-else-requires is-none-requires write-requires same-length returns returns-2)

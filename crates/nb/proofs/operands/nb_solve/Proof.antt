@@ -11,9 +11,9 @@ use Rattle.nb.proofs.operands.nb_solve.Statement.{statement}
 use Rattle.nb.proofs.operands.nb_solve.Tie as tie
 
 -- the call, from its lengths to its result
-call : (c : tie.After-slice-known2) → let a = c .before .before .before .before .before .before .before .before .before .before .before .args in
-    Done (solveBytesFault (a .width) (a .c .now) (a .result .now)) (root (a .width) (a .c .now)) (a .result .now) (c .before .before .before .before .or-else .result) (c .before .before .settle .last .1 .1 .0)
-call c = solve-done _ _ _ (c .before .before .before .before .before .before .before .before .judge-one .ensures) (c .before .before .before .before .before .before .before .carry .ensures) (c .before .before .before .before .or-else .ensures, c .before .before .settle .ensures) (c .before .before .before .before .before .before .solve .ensures)
+call : (c : tie.After-slice-known2) → let a = c .before .before .before .before .before .before .before .before .before .args in
+    Done (solveBytesFault (a .width) (a .c .now) (a .result .now)) (root (a .width) (a .c .now)) (a .result .now) (c .before .before .settle .result) (c .before .before .settle .last .1 .1 .0)
+call c = solve-done _ _ _ (c .before .before .before .before .before .before .judge-one .ensures) (c .before .before .before .before .before .carry .ensures) (c .before .before .settle .ensures) (c .before .before .before .before .solve .ensures)
 
 judge-one-requires : tie.Need-judge-one-requires
 judge-one-requires c κs = search needs
@@ -23,9 +23,6 @@ carry-requires c κs = search needs
 
 solve-requires : tie.Need-solve-requires
 solve-requires c κs = search needs
-
-or-else-requires : tie.Need-or-else-requires
-or-else-requires c κs = search needs
 
 settle-requires : tie.Need-settle-requires
 settle-requires c κs = search needs
@@ -46,7 +43,6 @@ nb-solve-spec =
     judge-one-requires
     carry-requires
     solve-requires
-    or-else-requires
     settle-requires
     answer-requires
     same-length

@@ -11,9 +11,9 @@ use Rattle.nb.proofs.operands.nb_turn.Statement.{statement}
 use Rattle.nb.proofs.operands.nb_turn.Tie as tie
 
 -- the call, from its lengths to its result
-call : (c : tie.After-slice-known2) → let a = c .before .before .before .before .before .before .before .before .before .before .before .args in
-    Done (turnBytesFault (a .width) (a .a .now) (a .k) (a .result .now)) (turned (a .width) (a .k) (a .a .now)) (a .result .now) (c .before .before .before .before .or-else .result) (c .before .before .settle .last .1 .1 .0)
-call c = turn-done _ _ _ (c .before .before .before .before .before .before .before .before .judge-one .ensures) (c .before .before .before .before .before .before .before .carry .ensures) (c .before .before .before .before .or-else .ensures, c .before .before .settle .ensures) _ (c .before .before .before .before .before .before .turn .ensures)
+call : (c : tie.After-slice-known2) → let a = c .before .before .before .before .before .before .before .before .before .args in
+    Done (turnBytesFault (a .width) (a .a .now) (a .k) (a .result .now)) (turned (a .width) (a .k) (a .a .now)) (a .result .now) (c .before .before .settle .result) (c .before .before .settle .last .1 .1 .0)
+call c = turn-done _ _ _ (c .before .before .before .before .before .before .judge-one .ensures) (c .before .before .before .before .before .carry .ensures) (c .before .before .settle .ensures) _ (c .before .before .before .before .turn .ensures)
 
 judge-one-requires : tie.Need-judge-one-requires
 judge-one-requires c κs = search needs
@@ -23,9 +23,6 @@ carry-requires c κs = search needs
 
 turn-requires : tie.Need-turn-requires
 turn-requires c κs = search needs
-
-or-else-requires : tie.Need-or-else-requires
-or-else-requires c κs = search needs
 
 settle-requires : tie.Need-settle-requires
 settle-requires c κs = search needs
@@ -46,7 +43,6 @@ nb-turn-spec =
     judge-one-requires
     carry-requires
     turn-requires
-    or-else-requires
     settle-requires
     answer-requires
     same-length

@@ -13,14 +13,14 @@ use Rattle.nb.proofs.tables.nb_inverse.Statement.{statement}
 use Rattle.nb.proofs.tables.nb_inverse.Tie as tie
 
 -- the call, from its lengths to its result
-call : (c : tie.After-slice-known2) → let a = c .before .before .before .before .before .before .before .before .before .before .before .before .args in
-    Done (inverseBytesFault (a .width) (a .table .now) (a .a .now) (a .result .now)) (inverse (a .width) (a .table .now) (a .a .now)) (a .result .now) (c .before .before .before .before .or-else .result) (c .before .before .settle .last .1 .1 .0)
-call c = inverse-done _ _ _ _ (λ b. c .before .before .before .before .before .before .before .before .before .before .shared-slice-known2 .given b .fits) (c .before .before .before .before .before .before .before .before .judge-one .ensures) (c .before .before .before .before .before .before .before .carry .ensures) (c .before .before .before .before .or-else .ensures, c .before .before .settle .ensures) (c .before .before .before .before .before .before .inverse .ensures)
+call : (c : tie.After-slice-known2) → let a = c .before .before .before .before .before .before .before .before .before .before .before .args in
+    Done (inverseBytesFault (a .width) (a .table .now) (a .a .now) (a .result .now)) (inverse (a .width) (a .table .now) (a .a .now)) (a .result .now) (c .before .before .settle .result) (c .before .before .settle .last .1 .1 .0)
+call c = inverse-done _ _ _ _ (λ b. c .before .before .before .before .before .before .before .before .before .shared-slice-known2 .given b .fits) (c .before .before .before .before .before .before .before .judge-one .ensures) (c .before .before .before .before .before .before .carry .ensures) (c .before .before .settle .ensures) (c .before .before .before .before .before .inverse .ensures)
 
 -- and its number of products
-count : (c : tie.After-slice-known2) → let a = c .before .before .before .before .before .before .before .before .before .before .before .before .args in
-    isNone (inverseBytesFault (a .width) (a .table .now) (a .a .now) (a .result .now)) ≡ true → c .before .before .before .before .before .before .inverse .result .count ≡ productsMade (a .width) (a .table .now) (a .a .now)
-count c = inverse-count _ _ _ _ (λ b. c .before .before .before .before .before .before .before .before .before .before .shared-slice-known2 .given b .fits) (c .before .before .before .before .before .before .before .before .judge-one .ensures) (c .before .before .before .before .before .before .before .carry .ensures) (c .before .before .before .before .or-else .ensures, c .before .before .settle .ensures) (c .before .before .before .before .before .before .inverse .ensures)
+count : (c : tie.After-slice-known2) → let a = c .before .before .before .before .before .before .before .before .before .before .before .args in
+    isNone (inverseBytesFault (a .width) (a .table .now) (a .a .now) (a .result .now)) ≡ true → c .before .before .before .before .before .inverse .result .count ≡ productsMade (a .width) (a .table .now) (a .a .now)
+count c = inverse-count _ _ _ _ (λ b. c .before .before .before .before .before .before .before .before .before .shared-slice-known2 .given b .fits) (c .before .before .before .before .before .before .before .judge-one .ensures) (c .before .before .before .before .before .before .carry .ensures) (c .before .before .settle .ensures) (c .before .before .before .before .before .inverse .ensures)
 
 judge-one-requires : tie.Need-judge-one-requires
 judge-one-requires c κs = search needs
@@ -31,15 +31,12 @@ carry-requires c κs = search needs
 inverse-requires : tie.Need-inverse-requires
 inverse-requires c κs = search needs
 
-or-else-requires : tie.Need-or-else-requires
-or-else-requires c κs = search needs
-
 settle-requires : tie.Need-settle-requires
 settle-requires c κs = search needs
 
 answer-requires : tie.Need-answer-requires
 answer-requires c κs =
-    let a = c .before .before .before .before .before .before .before .before .before .before .before .before .args in (
+    let a = c .before .before .before .before .before .before .before .before .before .before .before .args in (
       rw (call c .fault) (small-inverse-call (a .width) (a .table .now) (a .a .now) (a .result .now)),
       λ e. let n = ap isNone (sym (call c .fault)) ∙ e in (rw (count c n) (inverse-small (a .width) (a .table .now) (a .a .now) (a .result .now) n), omega arith),
     )
@@ -57,7 +54,6 @@ nb-inverse-spec =
     judge-one-requires
     carry-requires
     inverse-requires
-    or-else-requires
     settle-requires
     answer-requires
     same-length

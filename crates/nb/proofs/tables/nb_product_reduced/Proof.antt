@@ -11,9 +11,9 @@ use Rattle.nb.proofs.tables.nb_product_reduced.Statement.{statement}
 use Rattle.nb.proofs.tables.nb_product_reduced.Tie as tie
 
 -- the call, from its lengths to its result
-call : (c : tie.After-slice-known2) → let a = c .before .before .before .before .before .before .before .before .before .before .before .before .before .before .args in
-    Done (reducedBytesFault (a .width) (a .table .now) (a .a .now) (a .b .now) (a .result .now)) (reduced (a .width) (a .table .now) (a .a .now) (a .b .now)) (a .result .now) (c .before .before .before .before .or-else .result) (c .before .before .settle .last .1 .1 .0)
-call c = reduced-done _ _ _ _ (c .before .before .before .before .before .before .before .before .before .judge-two .ensures) (c .before .before .before .before .before .before .before .before .carry .ensures) (c .before .before .before .before .before .before .before .carry2 .ensures) (c .before .before .before .before .or-else .ensures, c .before .before .settle .ensures) _ (c .before .before .before .before .before .before .product-reduced .ensures)
+call : (c : tie.After-slice-known2) → let a = c .before .before .before .before .before .before .before .before .before .before .before .before .args in
+    Done (reducedBytesFault (a .width) (a .table .now) (a .a .now) (a .b .now) (a .result .now)) (reduced (a .width) (a .table .now) (a .a .now) (a .b .now)) (a .result .now) (c .before .before .settle .result) (c .before .before .settle .last .1 .1 .0)
+call c = reduced-done _ _ _ _ (c .before .before .before .before .before .before .before .judge-two .ensures) (c .before .before .before .before .before .before .carry .ensures) (c .before .before .before .before .before .carry2 .ensures) (c .before .before .settle .ensures) _ (c .before .before .before .before .product-reduced .ensures)
 
 judge-two-requires : tie.Need-judge-two-requires
 judge-two-requires c κs = search needs
@@ -26,9 +26,6 @@ carry-requires-2 c κs = search needs
 
 product-reduced-requires : tie.Need-product-reduced-requires
 product-reduced-requires c κs = search needs
-
-or-else-requires : tie.Need-or-else-requires
-or-else-requires c κs = search needs
 
 settle-requires : tie.Need-settle-requires
 settle-requires c κs = search needs
@@ -50,7 +47,6 @@ nb-product-reduced-spec =
     carry-requires
     carry-requires-2
     product-reduced-requires
-    or-else-requires
     settle-requires
     answer-requires
     same-length

@@ -1,10 +1,10 @@
--- `nb::cards::nb_type` meets its contract.
+-- `nb::drawing::nb_type` meets its contract.
 use mathlib.Core.Path.{ap, _∙_}
 use Rattle.nb.specs.Calls.{typeAnswer}
 use Rattle.nb.proofs.Bounds.{type-answer-packs}
 use borrow.Author.Needs.{needs}
-use Rattle.nb.proofs.cards.nb_type.Statement.{statement}
-use Rattle.nb.proofs.cards.nb_type.Tie as tie
+use Rattle.nb.proofs.drawing.nb_type.Statement.{statement}
+use Rattle.nb.proofs.drawing.nb_type.Tie as tie
 
 type-of-requires : tie.Need-type-of-requires
 type-of-requires c κs = search needs

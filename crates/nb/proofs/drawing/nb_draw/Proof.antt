@@ -1,10 +1,10 @@
--- `nb::cards::nb_draw` meets its contract.
+-- `nb::drawing::nb_draw` meets its contract.
 use mathlib.Core.Path.{ap, _∙_}
 use Rattle.nb.specs.Calls.{typeAnswer}
 use Rattle.nb.proofs.Bounds.{draw-packs}
 use borrow.Author.Needs.{needs}
-use Rattle.nb.proofs.cards.nb_draw.Statement.{statement}
-use Rattle.nb.proofs.cards.nb_draw.Tie as tie
+use Rattle.nb.proofs.drawing.nb_draw.Statement.{statement}
+use Rattle.nb.proofs.drawing.nb_draw.Tie as tie
 
 draw-requires : tie.Need-draw-requires
 draw-requires c κs = search needs

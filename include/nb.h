@@ -1,0 +1,128 @@
+/* The C interface: every call of document 01 (normal basis arithmetic and gate lists for GF(2^m)) on byte buffers.
+ *
+ * Every call is proved to do what is said here, for every content and every length: the contracts stand above the functions of
+ * crates/nb/src and cite the definitions of crates/nb/specs. Build with `rt staticlib nb`; link target/staticlib/libnb.a.
+ *
+ * Sizes. m is the width, 2 to 255; W is m/8 rounded up. An operand is W bytes: coordinate i is bit i % 8 of byte i / 8, and bits
+ * at m and above are 0. A table is m rows of W bytes, m·W in all; row d holds the coordinates of β0·βd. A length is a number of
+ * elements, bytes or words of 32 bits. An operand or a result of any other length than W, and a table of any other than m·W,
+ * are refused with 2; only where "lent" is said may a buffer be longer than what is written, and what lies behind that stays.
+ *
+ * Answers. Each call returns one number: number + 2^8 · first + 2^36 · second. Number 0 is success; else it is the number of the
+ * fault in document 01's table (NB_.. below), the lowest that applies, except that a card is judged in byte order. With a fault
+ * every buffer is as it was, and first and second are 0 but for NB_ROW_PAIR (first is d) and NB_TRIPLE (first is i, second j).
+ *
+ * What the proofs take for granted of the caller: a pointer is not null, even at length 0, and points to as many elements as the
+ * length says, aligned for their type; a buffer that a call writes overlaps no other argument of that call.
+ */
+#ifndef NB_H
+#define NB_H
+
+#include <stddef.h>
+#include <stdint.h>
+
+#ifdef __cplusplus
+extern "C" {
+#endif
+
+/* The parts of an answer. */
+#define NB_NUMBER(answer) ((unsigned)((answer) & 0xff))
+#define NB_FIRST(answer) ((uint32_t)((answer) >> 8 & 0xfffffff))
+#define NB_SECOND(answer) ((uint32_t)((answer) >> 36))
+
+/* Document 01's table of faults. */
+enum nb_fault {
+    NB_DONE = 0,
+    NB_WIDTH = 1,            /* width not 2..255 */
+    NB_LENGTH = 2,           /* a length not as laid down */
+    NB_HIGH_BIT = 3,         /* bit set at m or above */
+    NB_ROW_ZERO = 4,         /* row 0 wrong */
+    NB_ROW_PAIR = 5,         /* rows d, m-d differ: least d */
+    NB_TRIPLE = 6,           /* triple differs: i, j */
+    NB_ROW_SUM = 7,          /* row sum wrong */
+    NB_TURN_COUNT = 8,       /* turn count m or more */
+    NB_INVERSE_OF_ZERO = 9,  /* inverse of zero */
+    NB_TRACE_ONE = 10,       /* trace of c is 1 */
+    NB_OUTPUT_SHORT = 11,    /* lent output shorter than needed */
+    NB_CARD_ENDS = 12,       /* card ends early */
+    NB_CARD_NUMBER = 13,     /* card number not shortest, or third group */
+    NB_CARD_FORM = 14,       /* form not 1 */
+    NB_CARD_PLACE = 15,      /* count above m, or place m or above */
+    NB_CARD_TAIL = 16,       /* bytes after the card */
+    NB_NO_TYPE = 17,         /* type 0 */
+    NB_BAD_GATE = 18         /* kind above 1, gate wire not earlier, output wire absent */
+};
+
+/* The check. Success just where the operands of the width form a field under the table whose square is the turn by one.
+ * Faults: 1; 2 table; 3 in a row; 4; 5 with d; 6 with i, j; 7 (which never comes: rules 4, 5 and 6 entail rule 7). */
+uint64_t nb_check(uint64_t width, const uint8_t *table, size_t table_len);
+
+/* first: C, the number of ones in the table. Faults: 1; 2 table; 3 in a row. */
+uint64_t nb_ones(uint64_t width, const uint8_t *table, size_t table_len);
+
+/* result: the plain product a·b under the table, which need not be accepted.
+ * Faults: 1; 2 table, a, b, result; 3 in a row, a, b. */
+uint64_t nb_product(uint64_t width, const uint8_t *table, size_t table_len, const uint8_t *a, size_t a_len,
+                    const uint8_t *b, size_t b_len, uint8_t *result, size_t result_len);
+
+/* result: the reduced product of a and b, which is the plain one under an accepted table.
+ * Faults: 1; 2 table, a, b, result; 3 in a row, a, b; 4; 5 with d. */
+uint64_t nb_product_reduced(uint64_t width, const uint8_t *table, size_t table_len, const uint8_t *a, size_t a_len,
+                            const uint8_t *b, size_t b_len, uint8_t *result, size_t result_len);
+
+/* result: a to the power 2^m - 2 by the chain of Itoh and Tsujii, the inverse of a under an accepted table.
+ * first: the number of products made. Faults: 1; 2 table, a, result; 3 in a row, a; 9. */
+uint64_t nb_inverse(uint64_t width, const uint8_t *table, size_t table_len, const uint8_t *a, size_t a_len,
+                    uint8_t *result, size_t result_len);
+
+/* result: a turned k places; k = 1 is the square. Faults: 1; 2 a, result; 3 in a; 8 where k is m or more. */
+uint64_t nb_turn(uint64_t width, const uint8_t *a, size_t a_len, uint64_t k, uint8_t *result, size_t result_len);
+
+/* result: a + b, coordinate by coordinate modulo 2. Faults: 1; 2 a, b, result; 3 in a, b. */
+uint64_t nb_sum(uint64_t width, const uint8_t *a, size_t a_len, const uint8_t *b, size_t b_len, uint8_t *result,
+                size_t result_len);
+
+/* first: the trace of a, 0 or 1. Faults: 1; 2 a; 3 in a. */
+uint64_t nb_trace(uint64_t width, const uint8_t *a, size_t a_len);
+
+/* result: the z with z² + z = c whose coordinate 0 is 0. Faults: 1; 2 c, result; 3 in c; 10 where c has trace 1. */
+uint64_t nb_solve(uint64_t width, const uint8_t *c, size_t c_len, uint8_t *result, size_t result_len);
+
+/* first: the AND gates, second: the XOR gates of the table's plain, reduced or common list.
+ * Faults: 1; 2 table; 3 in a row; 4; 5 with d. */
+uint64_t nb_counts_plain(uint64_t width, const uint8_t *table, size_t table_len);
+uint64_t nb_counts_reduced(uint64_t width, const uint8_t *table, size_t table_len);
+uint64_t nb_counts_common(uint64_t width, const uint8_t *table, size_t table_len);
+
+/* out, lent: the table's plain, reduced or common list, 2 + 3g + m words for g gates of both kinds.
+ * first: its AND gates, second: its XOR gates. Faults: 1; 2 table; 3 in a row; 4; 5 with d; 11 where out is too short. */
+uint64_t nb_list_plain(uint64_t width, const uint8_t *table, size_t table_len, uint32_t *out, size_t out_len);
+uint64_t nb_list_reduced(uint64_t width, const uint8_t *table, size_t table_len, uint32_t *out, size_t out_len);
+uint64_t nb_list_common(uint64_t width, const uint8_t *table, size_t table_len, uint32_t *out, size_t out_len);
+
+/* Runs a list on a and b. wires, of exactly 2m + g bytes: byte n is the value of wire n, 0 or 1. result: coordinate r is the value
+ * of the output wire for r. Faults: 1; 2 list (fewer than two words, first word not the width, not 2 + 3g + m words), a, b, result,
+ * wires; 3 in a, b; 18. */
+uint64_t nb_run(uint64_t width, const uint32_t *list, size_t list_len, const uint8_t *a, size_t a_len, const uint8_t *b,
+                size_t b_len, uint8_t *result, size_t result_len, uint8_t *wires, size_t wires_len);
+
+/* first: the least type T of a Gaussian normal basis of the width. Faults: 1; 17 where 8 divides the width, which has none.
+ * Not a call of document 01: nb_draw's answer without the table. */
+uint64_t nb_type(uint64_t width);
+
+/* table, of exactly m·W bytes: the table of the width's Gaussian normal basis. first: its type T.
+ * Faults: 1; 2 table; 17 where 8 divides the width. */
+uint64_t nb_draw(uint64_t width, uint8_t *table, size_t table_len);
+
+/* out, lent: the card of the table. first: its length in bytes. Faults: 1; 2 table; 3 in a row; 11 where out is too short. */
+uint64_t nb_card_write(uint64_t width, const uint8_t *table, size_t table_len, uint8_t *out, size_t out_len);
+
+/* table, lent: the table of a card, m·W bytes. first: m. The check is not run.
+ * Faults, at the byte where each arises: 12; 13; 14; 1; then 11 where the lent table is shorter than m·W; 15; 16. */
+uint64_t nb_card_read(const uint8_t *card, size_t card_len, uint8_t *table, size_t table_len);
+
+#ifdef __cplusplus
+}
+#endif
+
+#endif

@@ -1,0 +1,126 @@
+// Takes in a table from its card, checks it, multiplies and inverts under it. Build and run, from the project's root:
+//
+//     rt staticlib nb
+//     rustc --edition 2021 samples/use_nb.rs -L target/staticlib -l static=nb -o target/use_nb_rs
+//     target/use_nb_rs
+//
+// It prints what samples/use_nb.c prints.
+
+// The calls that are used here, as include/nb.h declares them: a slice passes as pointer and length.
+mod c {
+    extern "C" {
+        pub fn nb_card_read(card: *const u8, card_len: usize, table: *mut u8, table_len: usize) -> u64;
+        pub fn nb_ones(width: u64, table: *const u8, table_len: usize) -> u64;
+        pub fn nb_check(width: u64, table: *const u8, table_len: usize) -> u64;
+        pub fn nb_product(
+            width: u64,
+            table: *const u8,
+            table_len: usize,
+            a: *const u8,
+            a_len: usize,
+            b: *const u8,
+            b_len: usize,
+            result: *mut u8,
+            result_len: usize,
+        ) -> u64;
+        pub fn nb_inverse(
+            width: u64,
+            table: *const u8,
+            table_len: usize,
+            a: *const u8,
+            a_len: usize,
+            result: *mut u8,
+            result_len: usize,
+        ) -> u64;
+    }
+}
+
+// What a call answers: the values returned with success, or a fault's number and the values beside it.
+type Answer = Result<(u64, u64), (u64, u64, u64)>;
+
+fn unpacked(answer: u64) -> Answer {
+    let (number, first, second) = (answer & 0xff, answer >> 8 & 0xfff_ffff, answer >> 36);
+    if number == 0 {
+        Ok((first, second))
+    } else {
+        Err((number, first, second))
+    }
+}
+
+// Safe calls: slices are never null, and a `&mut` overlaps no other argument.
+fn card_read(card: &[u8], table: &mut [u8]) -> Answer {
+    unpacked(unsafe { c::nb_card_read(card.as_ptr(), card.len(), table.as_mut_ptr(), table.len()) })
+}
+
+fn ones(width: u64, table: &[u8]) -> Answer {
+    unpacked(unsafe { c::nb_ones(width, table.as_ptr(), table.len()) })
+}
+
+fn check(width: u64, table: &[u8]) -> Answer {
+    unpacked(unsafe { c::nb_check(width, table.as_ptr(), table.len()) })
+}
+
+fn product(width: u64, table: &[u8], a: &[u8], b: &[u8], result: &mut [u8]) -> Answer {
+    unpacked(unsafe {
+        c::nb_product(
+            width,
+            table.as_ptr(),
+            table.len(),
+            a.as_ptr(),
+            a.len(),
+            b.as_ptr(),
+            b.len(),
+            result.as_mut_ptr(),
+            result.len(),
+        )
+    })
+}
+
+fn inverse(width: u64, table: &[u8], a: &[u8], result: &mut [u8]) -> Answer {
+    unpacked(unsafe {
+        c::nb_inverse(
+            width,
+            table.as_ptr(),
+            table.len(),
+            a.as_ptr(),
+            a.len(),
+            result.as_mut_ptr(),
+            result.len(),
+        )
+    })
+}
+
+// The card of document 01's table of width 5, 02 09 18 06 14: form, width, and for each row its number of ones and their places.
+const CARD: [u8; 16] = [1, 5, 1, 1, 2, 0, 2, 2, 3, 0, 2, 1, 0, 2, 2, 1];
+
+fn run() -> Result<(), (u64, u64, u64)> {
+    let mut lent = [0u8; 255 * 32];
+    let (m, _) = card_read(&CARD, &mut lent)?;
+    let w = (m as usize).div_ceil(8);
+    let table = &mut lent[..m as usize * w];
+
+    println!("width {}, ones {}", m, ones(m, table)?.0);
+    check(m, table)?;
+    println!("accepted");
+
+    let (a, b) = ([0x03u8], [0x1du8]);
+    let (mut c, mut inverted) = ([0u8], [0u8]);
+    product(m, table, &a, &b, &mut c)?;
+    println!("{:02x} * {:02x} = {:02x}", a[0], b[0], c[0]);
+    let (products, _) = inverse(m, table, &a, &mut inverted)?;
+    println!("inverse of {:02x} = {:02x}, {} products", a[0], inverted[0], products);
+    product(m, table, &a, &inverted, &mut c)?;
+    println!("{:02x} * {:02x} = {:02x}", a[0], inverted[0], c[0]);
+
+    table[1] ^= 1;
+    if let Err((5, d, _)) = check(m, table) {
+        println!("a damaged table: fault 5, rows {} and {} differ", d, m - d);
+    }
+    Ok(())
+}
+
+fn main() {
+    if let Err((number, _, _)) = run() {
+        println!("fault {}", number);
+    }
+}
