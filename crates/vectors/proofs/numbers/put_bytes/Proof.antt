@@ -1,0 +1,74 @@
+-- `examples::numbers::put_bytes` meets its contract. The invariant: the first b bytes are stored.
+use mathlib.Core.Path.{_≡_, refl, _∙_}
+use Prim.Native.Nat.{_-_, _≤_}
+use native.Mathlib.Omega.{arith}
+use lib.ListN.{length, take}
+use lib.Seq.{sets, take-length}
+use Rattle.card.proofs.Stores.{sets-one}
+use borrow.Author.Needs.{needs}
+use Rattle.vectors.proofs.numbers.put_bytes.Statement.{statement}
+use Rattle.vectors.proofs.numbers.put_bytes.Tie as tie
+
+abbrev Inv-loop : tie.InvT-loop
+Inv-loop out₀ at bytes b₀ out b = (b ≤ length bytes) × (out ≡ sets out₀ at (take b bytes)) × (length out ≡ length out₀)
+
+abbrev μ-loop : tie.MeasureT-loop
+μ-loop out₀ at bytes b₀ out b = length bytes - b
+
+loop-holds : tie.Need-loop-holds Inv-loop μ-loop
+loop-holds c = (omega arith, refl, refl)
+
+add-put : tie.Need-add-put Inv-loop μ-loop
+add-put c = search needs
+
+shared-slice-read-put : tie.Need-shared-slice-read-put Inv-loop μ-loop
+shared-slice-read-put c = search needs
+
+cast-put : tie.Need-cast-put Inv-loop μ-loop
+cast-put c = omega (arith, c .shared-slice-known2 .given (c .before .before .before .loop .b))
+
+put-requires : tie.Need-put-requires Inv-loop μ-loop
+put-requires c κs = search needs
+
+add-b : tie.Need-add-b Inv-loop μ-loop
+add-b c = search needs
+
+loop-less : tie.Need-loop-less Inv-loop μ-loop
+loop-less c = search needs
+
+loop-again : tie.Need-loop-again Inv-loop μ-loop
+loop-again c =
+    let n = c .before .before .before .before .before .before .loop in
+    let a = c .before .before .before .before .before .before .before .before .before .args in
+    (omega arith, c .before .before .put .ensures .content ∙ rw (n .inv .1) (sets-one (a .out .now) (a .bytes .now) (a .at) (n .b) (omega arith)), c .before .before .put .kept .0 ∙ n .inv .2)
+
+add-result : tie.Need-add-result Inv-loop μ-loop
+add-result c = search needs
+
+same-length : tie.Need-same-length Inv-loop μ-loop
+same-length c = c .before .loop .inv .2
+
+returns : tie.Need-returns Inv-loop μ-loop
+returns c =
+    let n = c .before .loop in
+    let a = c .before .before .before .before .args in
+    let e : n .b ≡ length (a .bytes .now) = omega arith in
+    record { place = refl; content = n .inv .1 ∙ rw (e, take-length (a .bytes .now)) }
+
+pub put-bytes-spec : {M : Type 1} → statement M
+put-bytes-spec =
+    tie.close
+    (tie.spec
+    Inv-loop
+    μ-loop
+    loop-holds
+    add-put
+    shared-slice-read-put
+    cast-put
+    put-requires
+    add-b
+    loop-less
+    loop-again
+    add-result
+    same-length
+    returns)

@@ -1,0 +1,87 @@
+-- `examples::published::byte` meets its contract. The invariant: the byte has its first j bits.
+use mathlib.Core.Path.{_≡_, ap, _∙_}
+use mathlib.Core.List.{List}
+use Prim.Native.Nat.{ℕ, _+_, _-_, _*_, _≤_}
+use native.Mathlib.Omega.{arith}
+use Rattle.gf2.specs.Sums.{sum}
+use Rattle.gf2.specs.Coordinates.{value}
+use Rattle.gf2.specs.Operands.{below}
+use Rattle.netlist.proofs.RunLaws.{byte-more}
+use Rattle.vectors.specs.Published.{publishedCoord}
+use borrow.Author.Needs.{needs}
+use Rattle.vectors.proofs.published.byte.Statement.{statement}
+use Rattle.vectors.proofs.published.byte.Tie as tie
+
+-- the bits of byte b
+abbrev bits : ℕ → List ℕ → ℕ → ℕ → ℕ
+bits width digits b j = below width (publishedCoord width digits) (b * 8 + j)
+
+abbrev Inv-loop : tie.InvT-loop
+Inv-loop width digits b out₀ j₀ out j = (j ≤ 8) × (out ≡ value j (bits width digits b))
+
+abbrev μ-loop : tie.MeasureT-loop
+μ-loop width digits b out₀ j₀ out j = 8 - j
+
+loop-holds : tie.Need-loop-holds Inv-loop μ-loop
+unfolding value sum
+loop-holds c = (omega arith, omega arith)
+
+mul-coordinate : tie.Need-mul-coordinate Inv-loop μ-loop
+mul-coordinate c = search needs
+
+add-coordinate : tie.Need-add-coordinate Inv-loop μ-loop
+add-coordinate c = search needs
+
+coordinate-requires : tie.Need-coordinate-requires Inv-loop μ-loop
+coordinate-requires c κs = search needs
+
+cast-out : tie.Need-cast-out Inv-loop μ-loop
+cast-out c = search needs
+
+shl-out : tie.Need-shl-out Inv-loop μ-loop
+shl-out c = search needs
+
+add-out : tie.Need-add-out Inv-loop μ-loop
+add-out c =
+    let s = c .before .before .before .before .args in
+    let w = c .before .before .loop in
+    let b = byte-more (bits (s .width) (s .digits .now) (s .b)) (w .j) (w .out) (c .coordinate .result) (w .inv .1) (c .coordinate .ensures) (omega arith) in
+    omega (arith, b .0, b .2)
+
+add-j : tie.Need-add-j Inv-loop μ-loop
+add-j c = search needs
+
+loop-less : tie.Need-loop-less Inv-loop μ-loop
+loop-less c = search needs
+
+loop-again : tie.Need-loop-again Inv-loop μ-loop
+loop-again c =
+    let s = c .before .before .before .before .args in
+    let w = c .before .before .loop in
+    let b = byte-more (bits (s .width) (s .digits .now) (s .b)) (w .j) (w .out) (c .coordinate .result) (w .inv .1) (c .coordinate .ensures) (omega arith) in
+    (omega arith, ap (λ x. w .out + x) (b .0) ∙ b .1)
+
+returns : tie.Need-returns Inv-loop μ-loop
+returns c =
+    let s = c .before .before .before .args in
+    let w = c .before .loop in
+    let e : w .j ≡ 8 = omega arith in
+    w .inv .1 ∙ ap (λ n. value n (bits (s .width) (s .digits .now) (s .b))) e
+
+pub byte-spec : {M : Type 1} → statement M
+byte-spec =
+    tie.close
+    (tie.spec
+    Inv-loop
+    μ-loop
+    loop-holds
+    mul-coordinate
+    add-coordinate
+    coordinate-requires
+    cast-out
+    shl-out
+    add-out
+    add-j
+    loop-less
+    loop-again
+    returns)

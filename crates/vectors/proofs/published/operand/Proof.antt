@@ -1,0 +1,59 @@
+-- `examples::published::operand` meets its contract. The invariant: the first b bytes are made.
+use mathlib.Core.Path.{_≡_, ap, _∙_}
+use Prim.Native.Nat.{_+_, _-_, _*_}
+use native.Mathlib.Omega.{arith}
+use Rattle.gf2.specs.Coordinates.{value, pack}
+use Rattle.gf2.specs.Operands.{carriedBytes, below, fromCoords}
+use Rattle.gf2.proofs.Loops.{Filled, filled-none, filled-more, filled-all}
+use Rattle.vectors.specs.Published.{publishedCoord, published}
+use borrow.Author.Needs.{needs}
+use Rattle.vectors.proofs.published.operand.Statement.{statement}
+use Rattle.vectors.proofs.published.operand.Tie as tie
+
+abbrev Inv-loop : tie.InvT-loop
+Inv-loop width digits bytes₀ b₀ bytes b = Filled carriedBytes (λ b. value 8 (λ j. below width (publishedCoord width digits) (b * 8 + j))) bytes₀ bytes b
+
+abbrev μ-loop : tie.MeasureT-loop
+μ-loop width digits bytes₀ b₀ bytes b = carriedBytes - b
+
+loop-holds : tie.Need-loop-holds Inv-loop μ-loop
+loop-holds c = filled-none carriedBytes _ _
+
+byte-requires : tie.Need-byte-requires Inv-loop μ-loop
+byte-requires c κs = search needs
+
+array-write-bytes : tie.Need-array-write-bytes Inv-loop μ-loop
+array-write-bytes c = search needs
+
+add-b : tie.Need-add-b Inv-loop μ-loop
+add-b c = search needs
+
+loop-less : tie.Need-loop-less Inv-loop μ-loop
+loop-less c = search needs
+
+loop-again : tie.Need-loop-again Inv-loop μ-loop
+loop-again c = filled-more (c .before .before .loop .inv) (omega arith) (omega arith) (c .byte .ensures)
+
+cast-t10 : tie.Need-cast-t10 Inv-loop μ-loop
+cast-t10 c = search needs
+
+returns : tie.Need-returns Inv-loop μ-loop
+unfolding published fromCoords pack
+returns c =
+    let w = c .before .before .before .args .width in
+    ap (λ x. record { bytes = x; width = w }) (filled-all (c .before .loop .inv) (omega arith) (omega arith))
+
+pub operand-spec : {M : Type 1} → statement M
+operand-spec =
+    tie.close
+    (tie.spec
+    Inv-loop
+    μ-loop
+    loop-holds
+    byte-requires
+    array-write-bytes
+    add-b
+    loop-less
+    loop-again
+    cast-t10
+    returns)

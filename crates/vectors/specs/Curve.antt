@@ -1,0 +1,33 @@
+-- The equation y² + x·y = x³ + a·x² + b of a curve, by the calls on operands.
+use mathlib.Core.Bool.{Bool, _&&_}
+use mathlib.Core.List.{List}
+use Prim.Native.Nat.{ℕ}
+use Rattle.operand.specs.declared.Operand.{Operand}
+use Rattle.operand.specs.declared.OperandAnswer.{OperandAnswer}
+use Rattle.operand.specs.Faults.{isNone}
+use Rattle.operand.specs.Calls.{squareCall, sumCall}
+use Rattle.table.specs.Judgements.{same}
+use Rattle.product.specs.Calls.{productCall}
+
+module _ (m : ℕ) (table : List ℕ) where
+  -- y² + x·y
+  unfoldable pub leftSide : Operand → Operand → OperandAnswer
+  leftSide x y = sumCall (squareCall y .value) (productCall m table x y .value)
+
+  -- x³ + a·x²
+  abbrev pub cubeAndTerm : Operand → Operand → OperandAnswer
+  cubeAndTerm a x =
+      sumCall
+      (productCall m table (squareCall x .value) x .value)
+      (productCall m table a (squareCall x .value) .value)
+
+  -- x³ + a·x² + b
+  unfoldable pub rightSide : Operand → Operand → Operand → OperandAnswer
+  rightSide a b x = sumCall (cubeAndTerm a x .value) b
+
+  -- the sides are equal, and no call on the way gave a fault: the operand beside a fault is refused by the next call
+  unfoldable pub onCurve : Operand → Operand → Operand → Operand → Bool
+  onCurve a b x y =
+      isNone (leftSide x y .fault)
+      && (isNone (rightSide a b x .fault)
+      && same (leftSide x y .value .bytes) (rightSide a b x .value .bytes))
