@@ -15,7 +15,7 @@ use lib.Arith.{digits-lt, digits-div, digits-mod}
 use lib.ListN.{length, getD, replicate, length-append, length-replicate, getD-replicate, List·getD-append, List·getD-eq-default}
 use lib.Seq.{getD-at, getD-append-add, ext-getD}
 use lib.Bits.{bitAnd, and-shr, and-step, bitXor, xor-shr, xor-add-and, xor-lt}
-use lib.Pow.{pow-pos, pow-mono, pow-add, mod-pow-add, mod-mod-pow, field}
+use lib.Pow.{pow-pos, pow-mono, pow-add, shl-shr, shr-shr, mod-pow-add, mod-mod-pow, field}
 use Rattle.gf2.specs.Sums.{sum}
 use Rattle.gf2.specs.Coordinates.{coord, value, tabulate, pack}
 use Rattle.gf2.proofs.Sums.{sum-ext}
@@ -203,6 +203,22 @@ mod-bit x k j h =
 
 pub mod-bit-out : (x k j : ℕ) → k ≤ j → x % 2 ^ k / 2 ^ j % 2 ≡ 0
 mod-bit-out x k j h = ap (λ y. y % 2) (div-eq-of-lt (lt-of-lt-of-le (mod-lt x (pow-pos k)) (pow-mono h)))
+
+-- the bits of a number shifted up by k, of which n are kept
+pub shl-bit : (x n k j : ℕ) → k ≤ j → j < n → x * 2 ^ k % 2 ^ n / 2 ^ j % 2 ≡ x / 2 ^ (j - k) % 2
+shl-bit x n k j h l =
+    let e : j ≡ k + (j - k) = omega arith in
+    mod-bit (x * 2 ^ k) n j l ∙ ap (λ y. x * 2 ^ k / 2 ^ y % 2) e
+    ∙ ap (λ y. y % 2) (sym (shr-shr (x * 2 ^ k) k (j - k)) ∙ ap (λ y. y / 2 ^ (j - k)) (shl-shr x k))
+
+pub shl-bit-out : (x n k j : ℕ) → j < k → j < n → x * 2 ^ k % 2 ^ n / 2 ^ j % 2 ≡ 0
+shl-bit-out x n k j h l =
+    let e : k ≡ (k - suc j) + suc j = omega arith in
+    mod-bit (x * 2 ^ k) n j l ∙ ap (λ y. x * 2 ^ y / 2 ^ j % 2) e
+    ∙ ap (λ y. y / 2 ^ j % 2) even ∙ ap (λ y. y % 2) (shl-shr (x * 2 ^ (k - suc j) * 2) j) ∙ omega arith
+  where
+    even : x * 2 ^ (k - suc j + suc j) ≡ x * 2 ^ (k - suc j) * 2 * 2 ^ j
+    even = simp (pow-add, pow-succ', mul-assoc)
 
 -- the coordinates of two lists in a row
 pub coord-front : (a b : List ℕ) (i : ℕ) → i < 8 * length a → coord (a ++ b) i ≡ coord a i

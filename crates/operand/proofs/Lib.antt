@@ -2,7 +2,8 @@ pub mod Tests
 pub mod FaultLaws
 pub mod WordCoords
 pub mod ByteLoops
-pub mod TurnBytes
+pub mod WordLoops
+pub mod TurnWords
 pub mod QuadraticBytes
 pub mod CallLaws
 pub mod FaultFree

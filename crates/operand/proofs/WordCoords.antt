@@ -4,7 +4,7 @@
 use mathlib.Core.Path.{_≡_, refl, sym, ap, ap₂, _∙_}
 use mathlib.Core.List.{List}
 use Prim.Native.Nat.{ℕ, zero, suc, _+_, _-_, _*_, _/_, _%_, _^_, _<_, _≤_}
-use native.Mathlib.Nat.{add-zero, add-comm, mul-comm, mod-eq-of-lt, mod-lt, zero-div, div-eq-of-lt, lt-of-le-of-lt, lt-of-lt-of-le}
+use native.Mathlib.Nat.{add-zero, add-comm, mul-comm, mod-eq-of-lt, mod-lt, mod-mod, zero-div, div-eq-of-lt, lt-of-le-of-lt, lt-of-lt-of-le}
 use native.Mathlib.Decide.{decLt}
 use native.Mathlib.Omega.{arith}
 use lib.ListN.{length, getD}
@@ -13,7 +13,9 @@ use lib.Pow.{pow-mono, shl-exact, shr-shr, shr-le}
 use Rattle.gf2.specs.Sums.{sum}
 use Rattle.gf2.specs.Coordinates.{coord, value, tabulate, pack}
 use Rattle.gf2.proofs.Coordinates.{value-ext, value-lt, value-bit, value-eq, value-split, length-tabulate, digit-at, digit-past, packed-lt, digit-packed, packed-of, packed-eq, coord-lt, coord-past, coord-digit, pack-of, pack-ext, mod-bit}
-use Rattle.operand.specs.Words.{wordCoord, packWords}
+use Rattle.gf2.specs.Operands.{carriedBytes, below}
+use Rattle.gf2.proofs.Operands.{below-in, below-out}
+use Rattle.operand.specs.Words.{carriedWords, wordCoord, packWords}
 
 pub word-lt : (words : List ℕ) (i : ℕ) → wordCoord words i < 2
 unfolding wordCoord
@@ -136,3 +138,20 @@ bytes-of n x = pack-of n _ (wordCoord x) (λ b h. mod-lt _ (omega arith)) (λ b 
   where
     place : (b j : ℕ) → b / 8 * 64 + (8 * (b % 8) + j) ≡ b * 8 + j
     place b j = omega arith
+
+-- the words of a carried operand have its coordinates
+pub words-coord : (x : List ℕ) → length x ≡ carriedBytes → (i : ℕ) → wordCoord (packWords carriedWords (coord x)) i ≡ coord x i
+words-coord x size i = elim (decLt i (64 * carriedWords)) [
+  | yes h ↦ word-pack carriedWords (coord x) i h ∙ mod-eq-of-lt (coord-lt x i)
+  | no h ↦ word-past _ i (omega (arith, length-words carriedWords (coord x))) ∙ sym (coord-past x i (omega arith))
+]
+
+-- words made from coordinates, in bytes
+pub bytes-words : (f : ℕ → ℕ) → pack carriedBytes (wordCoord (packWords carriedWords f)) ≡ pack carriedBytes f
+bytes-words f = pack-ext carriedBytes _ f (λ i h. ap (λ y. y % 2) (word-pack carriedWords f i (omega arith)) ∙ mod-mod _ 2)
+
+pub words-below : (n m : ℕ) (f g : ℕ → ℕ) → ((i : ℕ) → i < m → f i % 2 ≡ g i % 2) → packWords n (below m f) ≡ packWords n (below m g)
+words-below n m f g e = words-ext n (below m f) (below m g) (λ i h. elim (decLt i m) [
+  | yes l ↦ ap (λ x. x % 2) (below-in m f i l) ∙ e i l ∙ ap (λ x. x % 2) (sym (below-in m g i l))
+  | no l ↦ ap (λ x. x % 2) (below-out m f i (omega arith) ∙ sym (below-out m g i (omega arith)))
+])

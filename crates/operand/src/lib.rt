@@ -30,9 +30,11 @@ pub use judge::judge_operand;
 pub use judge::judge_pair;
 pub use judge::judge_turn;
 pub use judge::judge_width;
+pub use words::low_words;
 pub use words::slice_words;
 pub use words::to_bytes;
 pub use words::to_words;
+pub use words::xored_words;
 
 // Coordinate i is bit i % 8 of byte i / 8, and bits at the width and above are 0.
 pub struct Operand {

@@ -1,10 +1,11 @@
 // A carried operand in words of 64 bits: coordinate i is bit i % 64 of word i / 64.
 // The way from bytes to words and back, by whole words where the bytes reach, and the turns by one place.
 ghost use mathlib.Core.Path.{_≡_};
-ghost use Prim.Native.Nat.{_+_, _-_, _*_, _/_, _%_, _^_, _<_, _≤_};
+ghost use Prim.Native.Nat.{ℕ, _+_, _-_, _*_, _/_, _%_, _^_, _<_, _≤_};
 ghost use lib.ListN.{length, getD};
+ghost use lib.Bits.{bitAnd};
 ghost use Rattle.gf2.specs.Coordinates.{coord, value, pack};
-ghost use Rattle.gf2.specs.Operands.{carriedBytes};
+ghost use Rattle.gf2.specs.Operands.{carriedBytes, below};
 ghost use Rattle.operand.specs.Words.{carriedWords, wordCoord, packWords};
 use crate::Operand;
 
@@ -120,6 +121,56 @@ pub fn to_bytes(x: [u64; Operand::WORDS]) -> [u8; Operand::BYTES]
         let word = x[b / 8];
         out[b] = byte_of(word, b % 8);
         b += 1;
+    }
+    out
+}
+
+// The bits of word w that stand for coordinates below m: a word and this is the word's remainder.
+fn mask(w: usize, m: usize) -> u64
+    requires { ⌜ w < carriedWords ⌝ }
+    ensures { λ r. ⌜ ((x : ℕ) → x < 2 ^ 64 → bitAnd x r ≡ x % 2 ^ (m - w * 64)) ⌝ }
+{
+    if m <= w * 64 {
+        return 0;
+    }
+    let n = m - w * 64;
+    if 64 <= n {
+        return 18446744073709551615;
+    }
+    (1u64 << n) - 1
+}
+
+// Word w with its coordinates below m, the others cleared.
+fn low_word(word: u64, w: usize, m: usize) -> u64
+    requires { ⌜ w < carriedWords ⌝ }
+    ensures { λ r. ⌜ r ≡ word % 2 ^ (m - w * 64) ⌝ }
+{
+    word & mask(w, m)
+}
+
+// The coordinates below m, the others cleared.
+pub fn low_words(x: [u64; Operand::WORDS], m: usize) -> [u64; Operand::WORDS]
+    ensures { λ r. ⌜ r ≡ packWords carriedWords (below m (wordCoord x)) ⌝ }
+{
+    let mut out = [0u64; Operand::WORDS];
+    let mut w = 0;
+    while w < Operand::WORDS {
+        let word = x[w];
+        out[w] = low_word(word, w, m);
+        w += 1;
+    }
+    out
+}
+
+// The sum of the coordinates, modulo 2.
+pub fn xored_words(x: [u64; Operand::WORDS], y: [u64; Operand::WORDS]) -> [u64; Operand::WORDS]
+    ensures { λ r. ⌜ r ≡ packWords carriedWords (λ i. wordCoord x i + wordCoord y i) ⌝ }
+{
+    let mut out = [0u64; Operand::WORDS];
+    let mut w = 0;
+    while w < Operand::WORDS {
+        out[w] = x[w] ^ y[w];
+        w += 1;
     }
     out
 }
