@@ -1,7 +1,7 @@
 -- Laws of words and their coordinates, and of the ways from bytes to words and back.
 -- Coordinates: `wordCoord` of `packWords` and back, as for bytes; both are digits of one size each.
 -- Bytes: eight bytes joined to a word.
-use mathlib.Core.Path.{_≡_, refl, sym, ap, ap₂, _∙_}
+use mathlib.Core.Path.{_≡_, refl, sym, ap, ap₂, fun-ext, _∙_}
 use mathlib.Core.List.{List}
 use Prim.Native.Nat.{ℕ, zero, suc, _+_, _-_, _*_, _/_, _%_, _^_, _<_, _≤_}
 use native.Mathlib.Nat.{add-zero, add-comm, mul-comm, mod-eq-of-lt, mod-lt, mod-mod, zero-div, div-eq-of-lt, lt-of-le-of-lt, lt-of-lt-of-le}
@@ -145,6 +145,9 @@ words-coord x size i = elim (decLt i (64 * carriedWords)) [
   | yes h ↦ word-pack carriedWords (coord x) i h ∙ mod-eq-of-lt (coord-lt x i)
   | no h ↦ word-past _ i (omega (arith, length-words carriedWords (coord x))) ∙ sym (coord-past x i (omega arith))
 ]
+
+pub words-same : (x : List ℕ) {words : List ℕ} → words ≡ packWords carriedWords (coord x) → length x ≡ carriedBytes → wordCoord words ≡ coord x
+words-same x e size = ap wordCoord e ∙ fun-ext (words-coord x size)
 
 -- words made from coordinates, in bytes
 pub bytes-words : (f : ℕ → ℕ) → pack carriedBytes (wordCoord (packWords carriedWords f)) ≡ pack carriedBytes f

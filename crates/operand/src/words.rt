@@ -141,7 +141,7 @@ fn mask(w: usize, m: usize) -> u64
 }
 
 // Word w with its coordinates below m, the others cleared.
-fn low_word(word: u64, w: usize, m: usize) -> u64
+pub(crate) fn low_word(word: u64, w: usize, m: usize) -> u64
     requires { ⌜ w < carriedWords ⌝ }
     ensures { λ r. ⌜ r ≡ word % 2 ^ (m - w * 64) ⌝ }
 {
