@@ -3,6 +3,7 @@ pub mod FaultLaws
 pub mod WordCoords
 pub mod ByteLoops
 pub mod WordLoops
+pub mod WordStores
 pub mod TurnWords
 pub mod QuadraticBytes
 pub mod CallLaws

@@ -2,7 +2,7 @@
 // and the way from and to W bytes.
 ghost use mathlib.Core.Path.{_≡_};
 ghost use Prim.Native.Nat.{_+_, _≤_};
-ghost use lib.ListN.{length, getD};
+ghost use lib.ListN.{length};
 ghost use Rattle.gf2.specs.Coordinates.{coord, pack};
 ghost use Rattle.gf2.specs.Operands.{carriedBytes, fromCoords, isClear};
 use crate::Operand;
@@ -37,24 +37,11 @@ pub(crate) fn is_clear(x: [u8; Operand::BYTES], m: usize) -> bool
     high == 0
 }
 
-// Byte b of a slice, 0 past its end.
-fn byte_at(s: &[u8], b: usize) -> u8
-    ensures { λ r. ⌜ r ≡ getD (now (s .entry)) b 0 ⌝ }
-{
-    if b < s.len() { s[b] } else { 0 }
-}
-
 // The coordinates of a slice, in the bytes of a carried operand.
 pub fn carried(s: &[u8]) -> [u8; Operand::BYTES]
     ensures { λ r. ⌜ r ≡ pack carriedBytes (coord (now (s .entry))) ⌝ }
 {
-    let mut out = [0u8; Operand::BYTES];
-    let mut b = 0;
-    while b < Operand::BYTES {
-        out[b] = byte_at(s, b);
-        b += 1;
-    }
-    out
+    words::to_bytes(words::slice_words(s))
 }
 
 // The coordinates of a carried operand, in the bytes of a slice.
@@ -62,9 +49,5 @@ pub(crate) fn copy_out(x: [u8; Operand::BYTES], out: &mut [u8])
     requires { ⌜ length (now out) ≤ carriedBytes ⌝ }
     ensures { λ _. ⌜ now (out .exit) ≡ pack (length (now (out .entry))) (coord x) ⌝ }
 {
-    let mut b = 0;
-    while b < out.len() {
-        out[b] = x[b];
-        b += 1;
-    }
+    words::store(words::to_words(x), out);
 }

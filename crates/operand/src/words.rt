@@ -6,7 +6,7 @@ ghost use lib.ListN.{length, getD};
 ghost use lib.Bits.{bitAnd};
 ghost use Rattle.gf2.specs.Coordinates.{coord, value, pack};
 ghost use Rattle.gf2.specs.Operands.{carriedBytes, below};
-ghost use Rattle.operand.specs.Words.{carriedWords, wordCoord, packWords};
+ghost use Rattle.operand.specs.Words.{carriedWords, wordCoord, packWords, Put};
 use crate::Operand;
 
 fn wide(x: u8) -> u64
@@ -110,6 +110,54 @@ fn byte_of(word: u64, j: usize) -> u8
     ensures { λ r. ⌜ r ≡ word / 2 ^ (8 * j) % 256 ⌝ }
 {
     ((word >> (8 * j)) % 256) as u8
+}
+
+// A word into eight bytes of a slice, from b on. Stores in a row, which are compiled to one.
+fn put_whole(word: u64, b: usize, out: &mut [u8])
+    requires { ⌜ (b < carriedBytes) × (b + 8 ≤ length (now out)) ⌝ }
+    ensures { λ _. ⌜ Put 8 word b (now (out .entry)) (now (out .exit)) ⌝ }
+{
+    let mut j = 0;
+    while j < 8 {
+        out[b + j] = byte_of(word, j);
+        j += 1;
+    }
+}
+
+// A word into the bytes of a slice from b on, of which there are less than eight.
+fn put_part(word: u64, b: usize, out: &mut [u8])
+    requires { ⌜ (b < carriedBytes) × (length (now out) < b + 8) ⌝ }
+    ensures { λ _. ⌜ Put 8 word b (now (out .entry)) (now (out .exit)) ⌝ }
+{
+    let mut j = 0;
+    while b + j < out.len() {
+        out[b + j] = byte_of(word, j);
+        j += 1;
+    }
+}
+
+fn put_word(word: u64, b: usize, out: &mut [u8])
+    requires { ⌜ b < carriedBytes ⌝ }
+    ensures { λ _. ⌜ Put 8 word b (now (out .entry)) (now (out .exit)) ⌝ }
+{
+    if b + 8 <= out.len() {
+        put_whole(word, b, out);
+    } else {
+        put_part(word, b, out);
+    }
+}
+
+// The coordinates of words, in the bytes of a slice.
+pub(crate) fn store(x: [u64; Operand::WORDS], out: &mut [u8])
+    requires { ⌜ length (now out) ≤ carriedBytes ⌝ }
+    ensures { λ _. ⌜ now (out .exit) ≡ pack (length (now (out .entry))) (wordCoord x) ⌝ }
+{
+    let mut w = 0;
+    while w < Operand::WORDS {
+        let word = x[w];
+        put_word(word, w * 8, out);
+        w += 1;
+    }
 }
 
 pub fn to_bytes(x: [u64; Operand::WORDS]) -> [u8; Operand::BYTES]
