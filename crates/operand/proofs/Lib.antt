@@ -5,7 +5,7 @@ pub mod ByteLoops
 pub mod WordLoops
 pub mod WordStores
 pub mod TurnWords
-pub mod QuadraticBytes
+pub mod QuadraticWords
 pub mod CallLaws
 pub mod FaultFree
 pub mod Theorems
