@@ -1,8 +1,11 @@
 pub mod Tests
 pub mod FaultLaws
+pub mod WordCoords
 pub mod ByteLoops
-pub mod TurnBytes
-pub mod QuadraticBytes
+pub mod WordLoops
+pub mod WordStores
+pub mod TurnWords
+pub mod QuadraticWords
 pub mod CallLaws
 pub mod FaultFree
 pub mod Theorems

@@ -5,61 +5,75 @@ ghost use Rattle.gf2.specs.Sums.{sum};
 ghost use Rattle.gf2.specs.Coordinates.{coord, value, pack};
 ghost use Rattle.gf2.specs.Operands.{carriedBytes};
 ghost use Rattle.gf2.specs.Quadratic.{rootCoord};
+ghost use Rattle.operand.specs.Words.{carriedWords, wordCoord, packWords};
 use crate::Operand;
+use crate::words;
 
-// The sum of the bytes, bit by bit modulo 2.
-fn folded(x: [u8; Operand::BYTES]) -> u8
-    ensures { λ r. ⌜ r ≡ value 8 (λ j. sum carriedBytes (λ b. coord x (b * 8 + j))) ⌝ }
+// The sum of the words, bit by bit modulo 2.
+fn folded(x: [u64; Operand::WORDS]) -> u64
+    ensures { λ r. ⌜ r ≡ value 64 (λ j. sum carriedWords (λ w. wordCoord x (w * 64 + j))) ⌝ }
 {
-    let mut total: u8 = 0;
-    let mut b = 0;
-    while b < Operand::BYTES {
-        total = total ^ x[b];
-        b += 1;
+    let mut total: u64 = 0;
+    let mut w = 0;
+    while w < Operand::WORDS {
+        total = total ^ x[w];
+        w += 1;
     }
     total
 }
 
-// The sum of the bits of a byte, modulo 2.
-fn parity(x: u8) -> u8
-    ensures { λ r. ⌜ r ≡ sum 8 (λ j. x / 2 ^ j % 2) % 2 ⌝ }
+// The sum of the bits of a word, modulo 2.
+fn parity(x: u64) -> u8
+    ensures { λ r. ⌜ r ≡ sum 64 (λ j. x / 2 ^ j % 2) % 2 ⌝ }
 {
-    let four = x ^ (x >> 4);
-    let two = four ^ (four >> 2);
-    (two ^ (two >> 1)) % 2
+    let a = x ^ (x >> 32);
+    let b = a ^ (a >> 16);
+    let c = b ^ (b >> 8);
+    let d = c ^ (c >> 4);
+    let e = d ^ (d >> 2);
+    ((e ^ (e >> 1)) % 2) as u8
 }
 
 // The sum of all carried coordinates, modulo 2.
 pub(crate) fn trace(x: [u8; Operand::BYTES]) -> u8
     ensures { λ r. ⌜ r ≡ sum (8 * carriedBytes) (coord x) % 2 ⌝ }
 {
-    parity(folded(x))
+    parity(folded(words::to_words(x)))
 }
 
 // Bit j of the result is the sum of `carry` and the bits 0 to j of x, modulo 2.
-fn prefix_sums(x: u8, carry: u8) -> u8
+fn prefix_sums(x: u64, carry: u64) -> u64
     requires { ⌜ carry < 2 ⌝ }
-    ensures { λ r. ⌜ r ≡ value 8 (λ j. carry + sum (suc j) (λ t. x / 2 ^ t % 2)) ⌝ }
+    ensures { λ r. ⌜ r ≡ value 64 (λ j. carry + sum (suc j) (λ t. x / 2 ^ t % 2)) ⌝ }
 {
-    let two = x ^ (x << 1);
-    let four = two ^ (two << 2);
-    let eight = four ^ (four << 4);
-    eight ^ (carry * 255)
+    let a = x ^ (x << 1);
+    let b = a ^ (a << 2);
+    let c = b ^ (b << 4);
+    let d = c ^ (c << 8);
+    let e = d ^ (d << 16);
+    let f = e ^ (e << 32);
+    f ^ (carry * 18446744073709551615)
 }
 
 // The solution's coordinates. It starts from coordinate 0 as the carry, so that its own coordinate 0 is 0.
+fn root_words(c: [u64; Operand::WORDS]) -> [u64; Operand::WORDS]
+    ensures { λ r. ⌜ r ≡ packWords carriedWords (λ i. wordCoord c 0 + sum (suc i) (wordCoord c)) ⌝ }
+{
+    let mut out = [0u64; Operand::WORDS];
+    let mut carry = c[0] % 2;
+    let mut w = 0;
+    while w < Operand::WORDS {
+        let word = c[w];
+        let sums = prefix_sums(word, carry);
+        out[w] = sums;
+        carry = sums >> 63;
+        w += 1;
+    }
+    out
+}
+
 pub(crate) fn root(c: [u8; Operand::BYTES]) -> [u8; Operand::BYTES]
     ensures { λ r. ⌜ r ≡ pack carriedBytes (rootCoord c) ⌝ }
 {
-    let mut out = [0u8; Operand::BYTES];
-    let mut carry = c[0] % 2;
-    let mut b = 0;
-    while b < Operand::BYTES {
-        let byte = c[b];
-        let sums = prefix_sums(byte, carry);
-        out[b] = sums;
-        carry = sums >> 7;
-        b += 1;
-    }
-    out
+    words::to_bytes(root_words(words::to_words(c)))
 }

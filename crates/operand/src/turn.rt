@@ -1,58 +1,52 @@
-// The turn of a carried operand, by two shifts of whole bytes.
+// The turn of a carried operand, by two shifts of whole words.
 ghost use mathlib.Core.Path.{_≡_};
 ghost use mathlib.Core.Bool.{true};
-ghost use mathlib.Core.List.{_++_};
+ghost use mathlib.Core.List.{[], _∷_, _++_};
 ghost use Prim.Native.Nat.{_+_, _-_, _*_, _/_, _%_, _^_, _<_, _≤_};
 ghost use lib.ListN.{replicate};
-ghost use Rattle.gf2.specs.Coordinates.{coord, pack};
-ghost use Rattle.gf2.specs.Operands.{carriedBytes, maxWidth, isClear, turned};
+ghost use Rattle.gf2.specs.Coordinates.{value};
+ghost use Rattle.gf2.specs.Operands.{maxWidth, isClear, turned};
+ghost use Rattle.operand.specs.Words.{carriedWords, wordCoord, packWords};
 use crate::Operand;
-use crate::bytes;
+use crate::words;
 
-// An operand with as many zero bytes before it and after it: a shift either way reads inside it.
-const PADDED: usize = 3 * Operand::BYTES;
+// An operand with as many zero words before it and after it: a shift either way reads inside it.
+const PADDED: usize = 3 * Operand::WORDS;
 
-fn padded(x: [u8; Operand::BYTES]) -> [u8; PADDED]
-    ensures { λ r. ⌜ r ≡ replicate carriedBytes 0 ++ x ++ replicate carriedBytes 0 ⌝ }
+fn padded(x: [u64; Operand::WORDS]) -> [u64; PADDED]
+    ensures { λ r. ⌜ r ≡ replicate carriedWords 0 ++ x ++ replicate carriedWords 0 ⌝ }
 {
-    let mut out = [0u8; PADDED];
-    let mut b = 0;
-    while b < Operand::BYTES {
-        out[Operand::BYTES + b] = x[b];
-        b += 1;
+    let mut out = [0u64; PADDED];
+    let mut w = 0;
+    while w < Operand::WORDS {
+        out[Operand::WORDS + w] = x[w];
+        w += 1;
     }
     out
 }
 
-// The eight coordinates that begin at bit `skip` of `low` and go on in `high`.
-fn straddle(low: u8, high: u8, skip: usize) -> u8
-    requires { ⌜ skip < 8 ⌝ }
-    ensures { λ r. ⌜ r ≡ (low + 256 * high) / 2 ^ skip % 256 ⌝ }
+// The 64 coordinates that begin at bit `skip` of `low` and go on in `high`. A shift by 64 is made of two.
+fn straddle(low: u64, high: u64, skip: usize) -> u64
+    requires { ⌜ skip < 64 ⌝ }
+    ensures { λ r. ⌜ r ≡ value 64 (λ j. wordCoord (low ∷ high ∷ []) (skip + j)) ⌝ }
 {
-    let pair = wide(low) + 256 * wide(high);
-    ((pair >> skip) % 256) as u8
-}
-
-fn wide(x: u8) -> u16
-    ensures { λ r. ⌜ r ≡ x ⌝ }
-{
-    x as u16
+    (low >> skip) ^ ((high << 1) << (63 - skip))
 }
 
 // The coordinates from `at` on.
-fn window(x: [u8; PADDED], at: usize) -> [u8; Operand::BYTES]
-    requires { ⌜ at / 8 + carriedBytes < 3 * carriedBytes ⌝ }
-    ensures { λ r. ⌜ r ≡ pack carriedBytes (λ i. coord x (at + i)) ⌝ }
+fn window(x: [u64; PADDED], at: usize) -> [u64; Operand::WORDS]
+    requires { ⌜ at / 64 + carriedWords < 3 * carriedWords ⌝ }
+    ensures { λ r. ⌜ r ≡ packWords carriedWords (λ i. wordCoord x (at + i)) ⌝ }
 {
-    let skip = at % 8;
-    let first = at / 8;
-    let mut out = [0u8; Operand::BYTES];
-    let mut b = 0;
-    while b < Operand::BYTES {
-        let low = x[first + b];
-        let high = x[first + b + 1];
-        out[b] = straddle(low, high, skip);
-        b += 1;
+    let skip = at % 64;
+    let first = at / 64;
+    let mut out = [0u64; Operand::WORDS];
+    let mut w = 0;
+    while w < Operand::WORDS {
+        let low = x[first + w];
+        let high = x[first + w + 1];
+        out[w] = straddle(low, high, skip);
+        w += 1;
     }
     out
 }
@@ -62,10 +56,10 @@ pub(crate) fn turned(x: [u8; Operand::BYTES], m: usize, k: usize) -> [u8; Operan
     requires { ⌜ (m ≤ maxWidth) × (k < m) × (isClear m x ≡ true) ⌝ }
     ensures { λ r. ⌜ r ≡ turned m k x ⌝ }
 {
-    let room = padded(x);
+    let room = padded(words::to_words(x));
     let back = m - k;
-    let up = window(room, 8 * Operand::BYTES - k);
-    let round = window(room, 8 * Operand::BYTES + back);
-    let both = bytes::xored(up, round);
-    bytes::cleared(both, m)
+    let up = window(room, 64 * Operand::WORDS - k);
+    let round = window(room, 64 * Operand::WORDS + back);
+    let both = words::xored_words(up, round);
+    words::to_bytes(words::low_words(both, m))
 }

@@ -1,50 +1,60 @@
 -- `operand::bytes::is_clear` meets its contract.
-use Prim.Native.Nat.{ℕ, _-_}
+use mathlib.Core.Path.{_≡_, ap, _∙_}
+use Prim.Native.Nat.{ℕ, _-_, _*_, _^_, _≤_}
+use native.Mathlib.Nat.{mod-le}
 use native.Mathlib.Omega.{arith}
-use lib.ListN.{getD}
-use mir.Val.{Fits}
-use mir.Syntax.{w8}
+use lib.Dec.{eqb}
+use lib.ListN.{length, getD}
+use lib.Bits.{bitOr}
 use Rattle.gf2.specs.Operands.{carriedBytes}
-use Rattle.operand.proofs.ByteLoops.{ClearTo, clear-none, clear-more, clear-stop, clear-all}
+use Rattle.operand.specs.Words.{carriedWords}
+use Rattle.operand.proofs.WordLoops.{ored, above, ored-none, ored-more, clear-words}
 use borrow.Author.Needs.{needs}
 use Rattle.operand.proofs.bytes.is_clear.Statement.{statement}
 use Rattle.operand.proofs.bytes.is_clear.Tie as tie
 
 abbrev Inv-loop : tie.InvT-loop
-Inv-loop m x skip₀ b₀ skip b = ClearTo m x skip b
+Inv-loop m all high₀ w₀ high w = (w ≤ carriedWords) × (high ≡ ored w (above m all))
 
 abbrev μ-loop : tie.MeasureT-loop
-μ-loop m x skip₀ b₀ skip b = carriedBytes - b
+μ-loop m all high₀ w₀ high w = carriedWords - w
+
+to-words-requires : tie.Need-to-words-requires Inv-loop μ-loop
+to-words-requires c κs = search needs
 
 loop-holds : tie.Need-loop-holds Inv-loop μ-loop
-loop-holds c = clear-none _ _
+loop-holds c = (omega arith, ored-none _)
 
-array-read-if1 : tie.Need-array-read-if1 Inv-loop μ-loop
-array-read-if1 c = search needs
+mul-word : tie.Need-mul-word Inv-loop μ-loop
+mul-word c = search needs
 
-cast-if1 : tie.Need-cast-if1 Inv-loop μ-loop
-cast-if1 c = search needs
+array-read-word : tie.Need-array-read-word Inv-loop μ-loop
+array-read-word c = search needs
 
-shr-if1 : tie.Need-shr-if1 Inv-loop μ-loop
-shr-if1 c = search needs
+low-word-requires : tie.Need-low-word-requires Inv-loop μ-loop
+low-word-requires c κs = search needs
 
-returns : tie.Need-returns Inv-loop μ-loop
-returns c =
-    let x = c .before .before .before .args .t1 in
-    let small : (k : ℕ) → Fits w8 (getD x k 0) = λ k. search needs in
-    clear-stop (c .before .before .loop .inv) (λ k. small k .fits) (c .if1 .taken)
+sub-high : tie.Need-sub-high Inv-loop μ-loop
+sub-high c = rw (c .low-word .ensures) (mod-le _ _)
 
-add-b : tie.Need-add-b Inv-loop μ-loop
-add-b c = search needs
+add-w : tie.Need-add-w Inv-loop μ-loop
+add-w c = search needs
 
 loop-less : tie.Need-loop-less Inv-loop μ-loop
 loop-less c = search needs
 
 loop-again : tie.Need-loop-again Inv-loop μ-loop
-loop-again c = clear-more (c .before .before .loop .inv) (c .if1 .left)
+loop-again c =
+    let s = c .before .before in
+    (omega arith, ap (λ r. bitOr (s .loop .high) (getD (s .before .to-words .result) (s .loop .w) 0 - r)) (c .low-word .ensures) ∙ ored-more _ _ _ (s .loop .inv .1))
 
-returns-2 : tie.Need-returns-2 Inv-loop μ-loop
-returns-2 c = clear-all (c .before .loop .inv) (omega arith)
+returns : tie.Need-returns Inv-loop μ-loop
+returns c =
+    let s = c .before .before .before in
+    let e : c .before .loop .w ≡ carriedWords = omega arith in
+    let size : length (s .args .x) ≡ carriedBytes = search needs in
+    ap (λ h. eqb h 0) (c .before .loop .inv .1 ∙ ap (λ n. ored n (above (s .args .m) (c .before .before .to-words .result))) e ∙ ap (λ l. ored carriedWords (above (s .args .m) l)) (c .before .before .to-words .ensures))
+    ∙ clear-words (s .args .m) (s .args .x) size
 
 pub is-clear-spec : {M : Type 1} → statement M
 is-clear-spec =
@@ -52,12 +62,13 @@ is-clear-spec =
     (tie.spec
     Inv-loop
     μ-loop
+    to-words-requires
     loop-holds
-    array-read-if1
-    cast-if1
-    shr-if1
-    returns
-    add-b
+    mul-word
+    array-read-word
+    low-word-requires
+    sub-high
+    add-w
     loop-less
     loop-again
-    returns-2)
+    returns)

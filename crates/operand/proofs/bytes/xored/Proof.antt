@@ -1,64 +1,36 @@
 -- `operand::bytes::xored` meets its contract.
-use mathlib.Core.Path.{_≡_, refl, _∙_}
-use Prim.Native.Nat.{ℕ, _-_}
-use native.Mathlib.Omega.{arith}
-use lib.ListN.{getD}
-use lib.Bits.{bitXor}
-use mir.Val.{Fits}
-use mir.Syntax.{w8}
+use mathlib.Core.Path.{_≡_, ap, ap₂, _∙_}
+use Prim.Native.Nat.{_+_}
+use lib.ListN.{length}
+use Rattle.gf2.specs.Coordinates.{pack}
 use Rattle.gf2.specs.Operands.{carriedBytes}
-use Rattle.gf2.proofs.Loops.{Filled, filled-none, filled-more, filled-all}
-use Rattle.operand.proofs.ByteLoops.{xored-bytes}
+use Rattle.operand.specs.Words.{wordCoord}
+use Rattle.operand.proofs.WordCoords.{words-same, bytes-words}
 use borrow.Author.Needs.{needs}
 use Rattle.operand.proofs.bytes.xored.Statement.{statement}
 use Rattle.operand.proofs.bytes.xored.Tie as tie
 
-abbrev Inv-loop : tie.InvT-loop
-Inv-loop x y out₀ b₀ out b = Filled carriedBytes (λ k. bitXor (getD x k 0) (getD y k 0)) out₀ out b
+to-words-requires : tie.Need-to-words-requires
+to-words-requires c κs = search needs
 
-abbrev μ-loop : tie.MeasureT-loop
-μ-loop x y out₀ b₀ out b = carriedBytes - b
+to-words-requires-2 : tie.Need-to-words-requires-2
+to-words-requires-2 c κs = search needs
 
-loop-holds : tie.Need-loop-holds Inv-loop μ-loop
-loop-holds c = filled-none carriedBytes _ _
+xored-words-requires : tie.Need-xored-words-requires
+xored-words-requires c κs = search needs
 
-array-read-out : tie.Need-array-read-out Inv-loop μ-loop
-array-read-out c = search needs
+to-bytes-requires : tie.Need-to-bytes-requires
+to-bytes-requires c κs = search needs
 
-array-read-out-2 : tie.Need-array-read-out-2 Inv-loop μ-loop
-array-read-out-2 c = search needs
-
-array-write-out : tie.Need-array-write-out Inv-loop μ-loop
-array-write-out c = search needs
-
-add-b : tie.Need-add-b Inv-loop μ-loop
-add-b c = search needs
-
-loop-less : tie.Need-loop-less Inv-loop μ-loop
-loop-less c = search needs
-
-loop-again : tie.Need-loop-again Inv-loop μ-loop
-loop-again c = filled-more (c .before .loop .inv) (omega arith) (omega arith) refl
-
-returns : tie.Need-returns Inv-loop μ-loop
+returns : tie.Need-returns
 returns c =
-    let x = c .before .before .args .t1 in
-    let y = c .before .before .args .t2 in
-    let sx : (k : ℕ) → Fits w8 (getD x k 0) = λ k. search needs in
-    let sy : (k : ℕ) → Fits w8 (getD y k 0) = λ k. search needs in
-    filled-all (c .before .loop .inv) (omega arith) (omega arith) ∙ xored-bytes carriedBytes x y (λ k. sx k .fits) (λ k. sy k .fits)
+    let s = c .before .before .before .before in
+    let sx : length (s .args .x) ≡ carriedBytes = search needs in
+    let sy : length (s .args .y) ≡ carriedBytes = search needs in
+    c .to-bytes .ensures ∙ ap (λ l. pack carriedBytes (wordCoord l)) (c .before .xored-words .ensures) ∙ bytes-words _
+    ∙ ap₂ (λ f g. pack carriedBytes (λ i. f i + g i)) (words-same (s .args .x) (c .before .before .before .to-words .ensures) sx) (words-same (s .args .y) (c .before .before .to-words2 .ensures) sy)
 
 pub xored-spec : {M : Type 1} → statement M
 xored-spec =
     tie.close
-    (tie.spec
-    Inv-loop
-    μ-loop
-    loop-holds
-    array-read-out
-    array-read-out-2
-    array-write-out
-    add-b
-    loop-less
-    loop-again
-    returns)
+    (tie.spec to-words-requires to-words-requires-2 xored-words-requires to-bytes-requires returns)

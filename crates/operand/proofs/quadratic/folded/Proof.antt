@@ -4,27 +4,30 @@ use Prim.Native.Nat.{ℕ, _-_, _≤_}
 use native.Mathlib.Omega.{arith}
 use lib.ListN.{getD}
 use mir.Val.{Fits}
-use mir.Syntax.{w8}
-use Rattle.gf2.specs.Operands.{carriedBytes}
-use Rattle.operand.proofs.QuadraticBytes.{foldedTo, folded-none, folded-more}
+use mir.Syntax.{w64}
+use Rattle.operand.specs.Words.{carriedWords}
+use Rattle.operand.proofs.QuadraticWords.{foldedTo, folded-none, folded-more}
 use borrow.Author.Needs.{needs}
 use Rattle.operand.proofs.quadratic.folded.Statement.{statement}
 use Rattle.operand.proofs.quadratic.folded.Tie as tie
 
 abbrev Inv-loop : tie.InvT-loop
-Inv-loop x total₀ b₀ total b = (b ≤ carriedBytes) × (total ≡ foldedTo x b)
+Inv-loop x total₀ w₀ total w = (w ≤ carriedWords) × (total ≡ foldedTo x w)
 
 abbrev μ-loop : tie.MeasureT-loop
-μ-loop x total₀ b₀ total b = carriedBytes - b
+μ-loop x total₀ w₀ total w = carriedWords - w
 
 loop-holds : tie.Need-loop-holds Inv-loop μ-loop
 loop-holds c = (omega arith, folded-none _)
 
+mul-total : tie.Need-mul-total Inv-loop μ-loop
+mul-total c = search needs
+
 array-read-total : tie.Need-array-read-total Inv-loop μ-loop
 array-read-total c = search needs
 
-add-b : tie.Need-add-b Inv-loop μ-loop
-add-b c = search needs
+add-w : tie.Need-add-w Inv-loop μ-loop
+add-w c = search needs
 
 loop-less : tie.Need-loop-less Inv-loop μ-loop
 loop-less c = search needs
@@ -32,15 +35,24 @@ loop-less c = search needs
 loop-again : tie.Need-loop-again Inv-loop μ-loop
 loop-again c =
     let x = c .before .before .args .t1 in
-    let small : Fits w8 (getD x (c .before .loop .b) 0) = search needs in
+    let small : Fits w64 (getD x (c .before .loop .w) 0) = search needs in
     (omega arith, folded-more x _ _ (small .fits) (c .before .loop .inv .1))
 
 returns : tie.Need-returns Inv-loop μ-loop
 returns c =
-    let e : c .before .loop .b ≡ carriedBytes = omega arith in
+    let e : c .before .loop .w ≡ carriedWords = omega arith in
     c .before .loop .inv .1 ∙ ap (foldedTo (c .before .before .args .t1)) e
 
 pub folded-spec : {M : Type 1} → statement M
 folded-spec =
     tie.close
-    (tie.spec Inv-loop μ-loop loop-holds array-read-total add-b loop-less loop-again returns)
+    (tie.spec
+    Inv-loop
+    μ-loop
+    loop-holds
+    mul-total
+    array-read-total
+    add-w
+    loop-less
+    loop-again
+    returns)

@@ -1,10 +1,14 @@
 -- `operand::quadratic::parity` meets its contract.
-use Rattle.operand.proofs.QuadraticBytes.{parity-byte}
+use Rattle.operand.proofs.QuadraticWords.{word-parity}
+use borrow.Author.Needs.{needs}
 use Rattle.operand.proofs.quadratic.parity.Statement.{statement}
 use Rattle.operand.proofs.quadratic.parity.Tie as tie
 
+cast-result : tie.Need-cast-result
+cast-result c = search needs
+
 returns : tie.Need-returns
-returns c = parity-byte (c .args .x) (c .fits .x .fits)
+returns c = word-parity (c .args .x)
 
 pub parity-spec : {M : Type 1} → statement M
-parity-spec = tie.close (tie.spec returns)
+parity-spec = tie.close (tie.spec cast-result returns)

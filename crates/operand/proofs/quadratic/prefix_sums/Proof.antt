@@ -1,14 +1,17 @@
 -- `operand::quadratic::prefix_sums` meets its contract.
-use Rattle.operand.proofs.QuadraticBytes.{prefix-byte}
-use borrow.Author.Needs.{needs}
+use native.Mathlib.Omega.{arith}
+use Rattle.operand.proofs.QuadraticWords.{window-one, window-twice, window-carry}
 use Rattle.operand.proofs.quadratic.prefix_sums.Statement.{statement}
 use Rattle.operand.proofs.quadratic.prefix_sums.Tie as tie
 
 mul-result : tie.Need-mul-result
-mul-result c = search needs
+mul-result c = omega (arith, c .pre)
 
 returns : tie.Need-returns
-returns c = prefix-byte (c .args .x) (c .args .carry) (c .fits .x .fits) (c .pre)
+returns c =
+    let w1 = window-one (c .args .x) (c .fits .x .fits) in
+    let w8 = window-twice (window-twice (window-twice w1)) in
+    window-carry (c .args .carry) (window-twice (window-twice (window-twice w8))) (c .pre)
 
 pub prefix-sums-spec : {M : Type 1} → statement M
 prefix-sums-spec = tie.close (tie.spec mul-result returns)

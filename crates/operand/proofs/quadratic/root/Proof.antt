@@ -1,57 +1,33 @@
 -- `operand::quadratic::root` meets its contract.
-use Prim.Native.Nat.{ℕ, _-_}
-use native.Mathlib.Omega.{arith}
+use mathlib.Core.Path.{_≡_, ap, _∙_}
+use Prim.Native.Nat.{suc, _+_}
+use lib.ListN.{length}
+use Rattle.gf2.specs.Sums.{sum}
+use Rattle.gf2.specs.Coordinates.{pack}
 use Rattle.gf2.specs.Operands.{carriedBytes}
-use Rattle.operand.proofs.QuadraticBytes.{Rooted, rooted-none, rooted-carry, rooted-more, rooted-all}
+use Rattle.operand.specs.Words.{wordCoord}
+use Rattle.operand.proofs.WordCoords.{words-same, bytes-words}
+use Rattle.operand.proofs.QuadraticWords.{root-pack}
 use borrow.Author.Needs.{needs}
 use Rattle.operand.proofs.quadratic.root.Statement.{statement}
 use Rattle.operand.proofs.quadratic.root.Tie as tie
 
-abbrev Inv-loop : tie.InvT-loop
-Inv-loop c out₀ carry₀ b₀ out carry b = Rooted carriedBytes c out₀ out carry b
+to-words-requires : tie.Need-to-words-requires
+to-words-requires c κs = search needs
 
-abbrev μ-loop : tie.MeasureT-loop
-μ-loop c out₀ carry₀ b₀ out carry b = carriedBytes - b
+root-words-requires : tie.Need-root-words-requires
+root-words-requires c κs = search needs
 
-array-read-carry : tie.Need-array-read-carry Inv-loop μ-loop
-array-read-carry c = search needs
+to-bytes-requires : tie.Need-to-bytes-requires
+to-bytes-requires c κs = search needs
 
-loop-holds : tie.Need-loop-holds Inv-loop μ-loop
-loop-holds c = rooted-none carriedBytes _ _
-
-array-read-byte : tie.Need-array-read-byte Inv-loop μ-loop
-array-read-byte c = search needs
-
-prefix-sums-requires : tie.Need-prefix-sums-requires Inv-loop μ-loop
-prefix-sums-requires c κs = rooted-carry (c .before .loop .inv)
-
-array-write-out : tie.Need-array-write-out Inv-loop μ-loop
-array-write-out c = search needs
-
-add-b : tie.Need-add-b Inv-loop μ-loop
-add-b c = search needs
-
-loop-less : tie.Need-loop-less Inv-loop μ-loop
-loop-less c = search needs
-
-loop-again : tie.Need-loop-again Inv-loop μ-loop
-loop-again c = rooted-more (c .before .before .loop .inv) (c .prefix-sums .ensures) (omega arith) (omega arith)
-
-returns : tie.Need-returns Inv-loop μ-loop
-returns c = rooted-all (c .before .loop .inv) (omega arith) (omega arith)
+returns : tie.Need-returns
+returns c =
+    let t = c .before .before in
+    let x = t .before .args .c in
+    let size : length x ≡ carriedBytes = search needs in
+    c .to-bytes .ensures ∙ ap (λ l. pack carriedBytes (wordCoord l)) (c .before .root-words .ensures) ∙ bytes-words _
+    ∙ ap (λ f. pack carriedBytes (λ i. f 0 + sum (suc i) f)) (words-same x (t .to-words .ensures) size) ∙ root-pack carriedBytes x
 
 pub root-spec : {M : Type 1} → statement M
-root-spec =
-    tie.close
-    (tie.spec
-    Inv-loop
-    μ-loop
-    array-read-carry
-    loop-holds
-    array-read-byte
-    prefix-sums-requires
-    array-write-out
-    add-b
-    loop-less
-    loop-again
-    returns)
+root-spec = tie.close (tie.spec to-words-requires root-words-requires to-bytes-requires returns)

@@ -1,12 +1,18 @@
 -- `operand::quadratic::trace` meets its contract.
 use mathlib.Core.Path.{_≡_, ap, _∙_}
-use Prim.Native.Nat.{ℕ, _/_, _%_, _^_}
+use Prim.Native.Nat.{ℕ, _*_, _%_}
+use lib.ListN.{length}
 use Rattle.gf2.specs.Sums.{sum}
 use Rattle.gf2.specs.Operands.{carriedBytes}
-use Rattle.operand.proofs.QuadraticBytes.{folded-trace}
+use Rattle.operand.specs.Words.{carriedWords}
+use Rattle.operand.proofs.WordCoords.{words-same}
+use Rattle.operand.proofs.QuadraticWords.{bits, folded-trace}
 use borrow.Author.Needs.{needs}
 use Rattle.operand.proofs.quadratic.trace.Statement.{statement}
 use Rattle.operand.proofs.quadratic.trace.Tie as tie
+
+to-words-requires : tie.Need-to-words-requires
+to-words-requires c κs = search needs
 
 folded-requires : tie.Need-folded-requires
 folded-requires c κs = search needs
@@ -16,8 +22,11 @@ parity-requires c κs = search needs
 
 returns : tie.Need-returns
 returns c =
-    c .parity .ensures ∙ ap (λ s. sum 8 (λ j. s / 2 ^ j % 2) % 2) (c .before .folded .ensures)
-    ∙ folded-trace carriedBytes (c .before .before .args .x)
+    let t = c .before .before in
+    let x = t .before .args .x in
+    let size : length x ≡ carriedBytes = search needs in
+    c .parity .ensures ∙ ap (λ s. bits s 64 % 2) (c .before .folded .ensures)
+    ∙ folded-trace carriedWords (t .to-words .result) ∙ ap (λ f. sum (64 * carriedWords) f % 2) (words-same x (t .to-words .ensures) size)
 
 pub trace-spec : {M : Type 1} → statement M
-trace-spec = tie.close (tie.spec folded-requires parity-requires returns)
+trace-spec = tie.close (tie.spec to-words-requires folded-requires parity-requires returns)

@@ -1,17 +1,20 @@
 -- `operand::turn::turned` meets its contract: the two shifts, added, with the coordinates below m kept.
-use mathlib.Core.Path.{_≡_, ap, _∙_}
-use Prim.Native.Nat.{ℕ, _+_, _-_, _*_}
+use mathlib.Core.Path.{_≡_, sym, ap, _∙_}
+use Prim.Native.Nat.{ℕ, _+_, _-_, _*_, _≤_}
 use native.Mathlib.Omega.{arith}
-use lib.ListN.{getD}
-use mir.Val.{Fits}
-use mir.Syntax.{w8}
+use lib.ListN.{length}
 use Rattle.gf2.specs.Coordinates.{coord, pack}
-use Rattle.gf2.specs.Operands.{carriedBytes, IsOperand}
+use Rattle.gf2.specs.Operands.{carriedBytes, minus, below}
 use Rattle.gf2.proofs.Operands.{clear-at}
-use Rattle.operand.proofs.TurnBytes.{shifts-turn}
+use Rattle.operand.specs.Words.{carriedWords, wordCoord, packWords}
+use Rattle.operand.proofs.WordCoords.{length-words, words-coord}
+use Rattle.operand.proofs.TurnWords.{padding, shifts-turn, turned-bytes}
 use borrow.Author.Needs.{needs}
 use Rattle.operand.proofs.turn.turned.Statement.{statement}
 use Rattle.operand.proofs.turn.turned.Tie as tie
+
+to-words-requires : tie.Need-to-words-requires
+to-words-requires c κs = search needs
 
 padded-requires : tie.Need-padded-requires
 padded-requires c κs = search needs
@@ -37,27 +40,37 @@ add-window c = search needs
 window-requires-2 : tie.Need-window-requires-2
 window-requires-2 c κs = search needs
 
-xored-requires : tie.Need-xored-requires
-xored-requires c κs = search needs
+xored-words-requires : tie.Need-xored-words-requires
+xored-words-requires c κs = search needs
 
-cleared-requires : tie.Need-cleared-requires
-cleared-requires c κs = search needs
+low-words-requires : tie.Need-low-words-requires
+low-words-requires c κs = search needs
+
+to-bytes-requires : tie.Need-to-bytes-requires
+to-bytes-requires c κs = search needs
 
 returns : tie.Need-returns
 returns c =
-    let s = c .before .before .before .before .before in
+    let p = c .before .before .before .before .before in
+    let s = p .before .before in
     let x = s .args .x in
-    let small : (b : ℕ) → Fits w8 (getD x b 0) = λ b. search needs in
-    let o : IsOperand carriedBytes (s .args .m) x = record { size = search needs; byte = λ b. small b .fits; clear = clear-at (s .args .m) x (s .pre .2) } in
-    c .cleared .ensures ∙ shifts-turn o (omega arith) (s .pre .1)
-    (c .before .before .before .window .ensures ∙ ap (λ l. pack carriedBytes (λ i. coord l (8 * carriedBytes - s .args .k + i))) (c .before .before .before .before .padded .ensures))
-    (c .before .before .window2 .ensures ∙ ap (λ l. pack carriedBytes (λ i. coord l (8 * carriedBytes + (s .args .m - s .args .k) + i))) (c .before .before .before .before .padded .ensures))
-    (c .before .xored .ensures)
+    let m = s .args .m in
+    let k = s .args .k in
+    let ws = packWords carriedWords (coord x) in
+    let size : length x ≡ carriedBytes = search needs in
+    let room : p .padded .result ≡ padding carriedWords ws = p .padded .ensures ∙ ap (padding carriedWords) (p .before .to-words .ensures) in
+    c .to-bytes .ensures ∙ ap (λ l. pack carriedBytes (wordCoord l)) (c .before .low-words .ensures
+    ∙ shifts-turn carriedWords m k ws (length-words carriedWords (coord x)) (λ i h. words-coord x size i ∙ clear-at m x (s .pre .2) i h) (omega arith) (s .pre .1)
+    (c .before .before .before .before .window .ensures ∙ ap (λ l. packWords carriedWords (λ i. wordCoord l (64 * carriedWords - k + i))) room)
+    (c .before .before .before .window2 .ensures ∙ ap (λ l. packWords carriedWords (λ i. wordCoord l (64 * carriedWords + (m - k) + i))) room)
+    (c .before .before .xored-words .ensures))
+    ∙ turned-bytes m k x size (omega arith)
 
 pub turned-spec : {M : Type 1} → statement M
 turned-spec =
     tie.close
     (tie.spec
+    to-words-requires
     padded-requires
     sub-back
     mul-window
@@ -66,6 +79,7 @@ turned-spec =
     mul-window-2
     add-window
     window-requires-2
-    xored-requires
-    cleared-requires
+    xored-words-requires
+    low-words-requires
+    to-bytes-requires
     returns)

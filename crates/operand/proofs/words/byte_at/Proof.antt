@@ -1,9 +1,9 @@
--- `operand::bytes::byte_at` meets its contract.
+-- `operand::words::byte_at` meets its contract.
 use mathlib.Core.Path.{sym}
 use lib.ListN.{List·getD-eq-default}
 use borrow.Author.Needs.{needs}
-use Rattle.operand.proofs.bytes.byte_at.Statement.{statement}
-use Rattle.operand.proofs.bytes.byte_at.Tie as tie
+use Rattle.operand.proofs.words.byte_at.Statement.{statement}
+use Rattle.operand.proofs.words.byte_at.Tie as tie
 
 shared-slice-read-result : tie.Need-shared-slice-read-result
 shared-slice-read-result c = search needs

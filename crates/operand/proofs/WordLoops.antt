@@ -1,0 +1,153 @@
+-- What the loops over whole words make, as coordinates.
+-- Each law takes the list that a loop fills, word by word, to the words of given coordinates.
+use mathlib.Core.Path.{_≡_, refl, sym, ap, ap₂, _∙_}
+use mathlib.Core.List.{List, [], _∷_}
+use Prim.Native.Nat.{ℕ, zero, suc, _+_, _-_, _*_, _/_, _%_, _^_, _<_, _≤_}
+use native.Mathlib.Nat.{mod-lt, mod-le, div-eq-of-lt, lt-of-le-of-lt, lt-of-lt-of-le}
+use native.Mathlib.Decide.{decLt, ℕ-discrete}
+use native.Mathlib.Numerals.{add-one}
+use native.Mathlib.Omega.{arith}
+use lib.Dec.{eqb}
+use lib.ListN.{length, getD}
+use lib.Bits.{bitOr, or-add-and, and-le-l, and-le-r, or-zero-l, bitXor, xor-lt}
+use lib.Pow.{pow-pos, pow-mono, shr-shr, shr-le}
+use borrow.Author.Tests.{eq-eqb, eqb-true}
+use Rattle.gf2.specs.Coordinates.{coord, value, tabulate}
+use Rattle.gf2.specs.Operands.{carriedBytes, below, isClear}
+use Rattle.gf2.proofs.Parity.{bool-ext}
+use Rattle.gf2.proofs.Coordinates.{value-ext, value-eq, tabulate-ext, mod-bit, mod-bit-out, xor-bit, shl-bit, shl-bit-out}
+use Rattle.gf2.proofs.Operands.{below-in, below-out, clear-at, clear-of}
+use Rattle.operand.specs.Words.{carriedWords, wordCoord, packWords}
+use Rattle.operand.proofs.WordCoords.{word-digit, word-past, length-words, words-lt, words-of, words-coord}
+
+-- every element of a list is a word
+abbrev pub Words : List ℕ → Type 0
+Words l = (w : ℕ) → getD l w 0 < 2 ^ 64
+
+pub xored-words : (n : ℕ) (x y : List ℕ) → Words x → Words y
+    → tabulate n (λ w. bitXor (getD x w 0) (getD y w 0)) ≡ packWords n (λ i. wordCoord x i + wordCoord y i)
+xored-words n x y sx sy = words-of n _ (λ i. wordCoord x i + wordCoord y i) (λ w h. xor-lt 64 (getD x w 0) (getD y w 0) (sx w) (sy w)) (λ w j h l.
+    rw (word-digit x w j l, word-digit y w j l) (xor-bit (getD x w 0) (getD y w 0) j))
+
+pub low-words : (n m : ℕ) (x : List ℕ) → Words x → tabulate n (λ w. getD x w 0 % 2 ^ (m - w * 64)) ≡ packWords n (below m (wordCoord x))
+low-words n m x small = words-of n _ (below m (wordCoord x)) (λ w h. lt-of-le-of-lt (mod-le (getD x w 0) (2 ^ (m - w * 64))) (small w)) (λ w j h l. elim (decLt (w * 64 + j) m) [
+  | yes q ↦ rw (below-in m (wordCoord x) (w * 64 + j) q, word-digit x w j l, mod-bit (getD x w 0) (m - w * 64) j (omega arith)) (omega arith)
+  | no q ↦ rw (below-out m (wordCoord x) (w * 64 + j) (omega arith), mod-bit-out (getD x w 0) (m - w * 64) j (omega arith))
+])
+
+-- the coordinates of two words in a row
+pair-low : (low high i : ℕ) → i < 64 → wordCoord (low ∷ high ∷ []) i ≡ low / 2 ^ i % 2
+pair-low low high i h = let e : i ≡ 0 * 64 + i = omega arith in ap (wordCoord (low ∷ high ∷ [])) e ∙ word-digit (low ∷ high ∷ []) 0 i h
+
+pair-high : (low high i : ℕ) → 64 ≤ i → i < 128 → wordCoord (low ∷ high ∷ []) i ≡ high / 2 ^ (i - 64) % 2
+pair-high low high i h l = let e : i ≡ 1 * 64 + (i - 64) = omega arith in ap (wordCoord (low ∷ high ∷ [])) e ∙ word-digit (low ∷ high ∷ []) 1 (i - 64) (omega arith)
+
+-- two words in a row, from bit `skip` of the first on
+pub straddle-word : (low high skip : ℕ) → low < 2 ^ 64 → skip < 64
+    → bitXor (low / 2 ^ skip) (high * 2 ^ 1 % 2 ^ 64 * 2 ^ (63 - skip) % 2 ^ 64) ≡ value 64 (λ j. wordCoord (low ∷ high ∷ []) (skip + j))
+straddle-word low high skip hl hs =
+    value-eq 64 _ _ (xor-lt 64 _ _ (lt-of-le-of-lt (shr-le low skip) hl) (mod-lt _ (pow-pos 64))) (λ j l.
+    xor-bit (low / 2 ^ skip) _ j ∙ ap (λ y. (y % 2 + up / 2 ^ j % 2) % 2) (shr-shr low skip j) ∙ bits j l)
+  where
+    up : ℕ
+    up = high * 2 ^ 1 % 2 ^ 64 * 2 ^ (63 - skip) % 2 ^ 64
+
+    none : (j : ℕ) → skip + j < 64 → up / 2 ^ j % 2 ≡ 0
+    none j q = elim (decLt j (63 - skip)) [
+      | yes r ↦ shl-bit-out (high * 2 ^ 1 % 2 ^ 64) 64 (63 - skip) j r (omega arith)
+      | no r ↦ shl-bit (high * 2 ^ 1 % 2 ^ 64) 64 (63 - skip) j (omega arith) (omega arith) ∙ shl-bit-out high 64 1 (j - (63 - skip)) (omega arith) (omega arith)
+    ]
+
+    some : (j : ℕ) → j < 64 → 64 ≤ skip + j → up / 2 ^ j % 2 ≡ high / 2 ^ (skip + j - 64) % 2
+    some j l q = shl-bit (high * 2 ^ 1 % 2 ^ 64) 64 (63 - skip) j (omega arith) l ∙ shl-bit high 64 1 (j - (63 - skip)) (omega arith) (omega arith)
+        ∙ ap (λ k. high / 2 ^ k % 2) (omega arith)
+
+    bits : (j : ℕ) → j < 64 → (low / 2 ^ (skip + j) % 2 + up / 2 ^ j % 2) % 2 ≡ wordCoord (low ∷ high ∷ []) (skip + j) % 2
+    bits j l = elim (decLt (skip + j) 64) [
+      | yes q ↦ omega (arith, none j q, pair-low low high (skip + j) q)
+      | no q ↦
+        let z = div-eq-of-lt (lt-of-lt-of-le hl (pow-mono {i = 64} {j = skip + j} (omega arith))) in
+        omega (arith, some j l (omega arith), pair-high low high (skip + j) (omega arith) (omega arith), z)
+    ]
+
+-- the coordinates of a list from first * 64 + skip on
+pub window-words : (n first skip : ℕ) (x : List ℕ) → skip < 64
+    → tabulate n (λ w. value 64 (λ j. wordCoord (getD x (first + w) 0 ∷ getD x (first + w + 1) 0 ∷ []) (skip + j))) ≡ packWords n (λ i. wordCoord x (first * 64 + skip + i))
+unfolding packWords
+window-words n first skip x hs = tabulate-ext n _ _ (λ w h. value-ext 64 _ _ (λ j l. ap (λ y. y % 2) (bits w j l)))
+  where
+    bits : (w j : ℕ) → j < 64 → wordCoord (getD x (first + w) 0 ∷ getD x (first + w + 1) 0 ∷ []) (skip + j) ≡ wordCoord x (first * 64 + skip + (w * 64 + j))
+    bits w j l = elim (decLt (skip + j) 64) [
+      | yes q ↦ pair-low (getD x (first + w) 0) _ (skip + j) q ∙ sym (word-digit x (first + w) (skip + j) q) ∙ ap (wordCoord x) (omega arith)
+      | no q ↦
+        pair-high _ (getD x (first + w + 1) 0) (skip + j) (omega arith) (omega arith)
+        ∙ sym (word-digit x (first + w + 1) (skip + j - 64) (omega arith)) ∙ ap (wordCoord x) (omega arith)
+    ]
+
+-- f 0 or f 1 or .. or f (n - 1), bit by bit
+unfoldable pub ored : ℕ → (ℕ → ℕ) → ℕ
+ored zero f = 0
+ored (suc n) f = bitOr (ored n f) (f n)
+
+pub ored-none : (f : ℕ → ℕ) → 0 ≡ ored 0 f
+unfolding ored
+ored-none f = refl
+
+pub ored-more : (f : ℕ → ℕ) (w high : ℕ) → high ≡ ored w f → bitOr high (f w) ≡ ored (w + 1) f
+unfolding ored
+ored-more f w high e = rw (e, add-one)
+
+ored-at : (n : ℕ) (f : ℕ → ℕ) → ored n f ≡ 0 → (i : ℕ) → i < n → f i ≡ 0
+unfolding ored
+ored-at zero f e i h = absurd (omega arith)
+ored-at (suc n) f e i h =
+    let s = or-add-and (ored n f) (f n) in
+    let l = and-le-l (ored n f) (f n) in
+    let r = and-le-r (ored n f) (f n) in
+    elim (ℕ-discrete i n) [
+      | yes q ↦ ap f q ∙ omega arith
+      | no q ↦ ored-at n f (omega arith) i (omega arith)
+    ]
+
+ored-of : (n : ℕ) (f : ℕ → ℕ) → ((i : ℕ) → i < n → f i ≡ 0) → ored n f ≡ 0
+unfolding ored
+ored-of zero f e = refl
+ored-of (suc n) f e = ap₂ bitOr (ored-of n f (λ i h. e i (omega arith))) (e n (omega arith)) ∙ or-zero-l 0
+
+-- the coordinates of words at m and above, word by word
+abbrev pub above : ℕ → List ℕ → ℕ → ℕ
+above m x w = getD x w 0 - getD x w 0 % 2 ^ (m - w * 64)
+
+module _ (m : ℕ) (x : List ℕ) (small : Words x) where
+  above-none : (w j : ℕ) → above m x w ≡ 0 → j < 64 → m ≤ w * 64 + j → wordCoord x (w * 64 + j) ≡ 0
+  above-none w j e l h =
+      let same : getD x w 0 ≡ getD x w 0 % 2 ^ (m - w * 64) = omega (arith, mod-le (getD x w 0) (2 ^ (m - w * 64))) in
+      word-digit x w j l ∙ ap (λ y. y / 2 ^ j % 2) same ∙ mod-bit-out (getD x w 0) (m - w * 64) j (omega arith)
+
+  none-above : (w : ℕ) → ((i : ℕ) → m ≤ i → wordCoord x i ≡ 0) → above m x w ≡ 0
+  none-above w clear = omega (arith, whole ∙ sym part)
+    where
+      whole : getD x w 0 ≡ value 64 (λ j. getD x w 0 / 2 ^ j)
+      whole = value-eq 64 _ _ (small w) (λ j l. refl)
+
+      part : getD x w 0 % 2 ^ (m - w * 64) ≡ value 64 (λ j. getD x w 0 / 2 ^ j)
+      part = value-eq 64 _ _ (lt-of-le-of-lt (mod-le (getD x w 0) (2 ^ (m - w * 64))) (small w)) (λ j l. elim (decLt j (m - w * 64)) [
+        | yes q ↦ mod-bit (getD x w 0) (m - w * 64) j q
+        | no q ↦ mod-bit-out (getD x w 0) (m - w * 64) j (omega arith) ∙ sym (sym (word-digit x w j l) ∙ clear (w * 64 + j) (omega arith))
+      ])
+
+-- the test of the bits at m and above
+pub clear-words : (m : ℕ) (x : List ℕ) → length x ≡ carriedBytes → eqb (ored carriedWords (above m (packWords carriedWords (coord x)))) 0 ≡ isClear m x
+clear-words m x size = bool-ext _ _
+    (λ e. clear-of m x (λ i h. sym (words-coord x size i) ∙ none i h (ored-at carriedWords _ (eqb-true _ 0 e))))
+    (λ e. eq-eqb _ 0 (ored-of carriedWords _ (λ w h. none-above m ws (words-lt carriedWords (coord x)) w (λ i l. words-coord x size i ∙ clear-at m x e i l))))
+  where
+    ws : List ℕ
+    ws = packWords carriedWords (coord x)
+
+    none : (i : ℕ) → m ≤ i → ((w : ℕ) → w < carriedWords → above m (packWords carriedWords (coord x)) w ≡ 0) → wordCoord (packWords carriedWords (coord x)) i ≡ 0
+    none i h e = elim (decLt (i / 64) carriedWords) [
+      | yes q ↦ let d : i ≡ i / 64 * 64 + i % 64 = omega arith in
+          ap (wordCoord ws) d ∙ above-none m ws (words-lt carriedWords (coord x)) (i / 64) (i % 64) (e (i / 64) q) (omega arith) (omega arith)
+      | no q ↦ word-past ws i (omega (arith, length-words carriedWords (coord x)))
+    ]

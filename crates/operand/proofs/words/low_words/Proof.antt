@@ -1,0 +1,69 @@
+-- `operand::words::low_words` meets its contract.
+use mathlib.Core.Path.{_∙_}
+use Prim.Native.Nat.{ℕ, _-_, _*_, _%_, _^_}
+use native.Mathlib.Omega.{arith}
+use lib.ListN.{getD}
+use mir.Val.{Fits}
+use mir.Syntax.{w64}
+use Rattle.gf2.proofs.Loops.{Filled, filled-none, filled-more, filled-all}
+use Rattle.operand.specs.Words.{carriedWords}
+use Rattle.operand.proofs.WordLoops.{low-words}
+use borrow.Author.Needs.{needs}
+use Rattle.operand.proofs.words.low_words.Statement.{statement}
+use Rattle.operand.proofs.words.low_words.Tie as tie
+
+abbrev Inv-loop : tie.InvT-loop
+Inv-loop m x out₀ w₀ out w = Filled carriedWords (λ k. getD x k 0 % 2 ^ (m - k * 64)) out₀ out w
+
+abbrev μ-loop : tie.MeasureT-loop
+μ-loop m x out₀ w₀ out w = carriedWords - w
+
+loop-holds : tie.Need-loop-holds Inv-loop μ-loop
+loop-holds c = filled-none carriedWords _ _
+
+mul-word : tie.Need-mul-word Inv-loop μ-loop
+mul-word c = search needs
+
+array-read-word : tie.Need-array-read-word Inv-loop μ-loop
+array-read-word c = search needs
+
+low-word-requires : tie.Need-low-word-requires Inv-loop μ-loop
+low-word-requires c κs = search needs
+
+mul-out : tie.Need-mul-out Inv-loop μ-loop
+mul-out c = search needs
+
+array-write-out : tie.Need-array-write-out Inv-loop μ-loop
+array-write-out c = search needs
+
+add-w : tie.Need-add-w Inv-loop μ-loop
+add-w c = search needs
+
+loop-less : tie.Need-loop-less Inv-loop μ-loop
+loop-less c = search needs
+
+loop-again : tie.Need-loop-again Inv-loop μ-loop
+loop-again c = filled-more (c .before .before .loop .inv) (omega arith) (omega arith) (c .low-word .ensures)
+
+returns : tie.Need-returns Inv-loop μ-loop
+returns c =
+    let x = c .before .before .args .t1 in
+    let small : (k : ℕ) → Fits w64 (getD x k 0) = λ k. search needs in
+    filled-all (c .before .loop .inv) (omega arith) (omega arith) ∙ low-words carriedWords _ x (λ k. small k .fits)
+
+pub low-words-spec : {M : Type 1} → statement M
+low-words-spec =
+    tie.close
+    (tie.spec
+    Inv-loop
+    μ-loop
+    loop-holds
+    mul-word
+    array-read-word
+    low-word-requires
+    mul-out
+    array-write-out
+    add-w
+    loop-less
+    loop-again
+    returns)

@@ -1,0 +1,76 @@
+-- `operand::words::xored_words` meets its contract.
+use mathlib.Core.Path.{refl, _∙_}
+use Prim.Native.Nat.{ℕ, _-_}
+use native.Mathlib.Omega.{arith}
+use lib.ListN.{getD}
+use lib.Bits.{bitXor}
+use mir.Val.{Fits}
+use mir.Syntax.{w64}
+use Rattle.gf2.proofs.Loops.{Filled, filled-none, filled-more, filled-all}
+use Rattle.operand.specs.Words.{carriedWords}
+use Rattle.operand.proofs.WordLoops.{xored-words}
+use borrow.Author.Needs.{needs}
+use Rattle.operand.proofs.words.xored_words.Statement.{statement}
+use Rattle.operand.proofs.words.xored_words.Tie as tie
+
+abbrev Inv-loop : tie.InvT-loop
+Inv-loop x y out₀ w₀ out w = Filled carriedWords (λ k. bitXor (getD x k 0) (getD y k 0)) out₀ out w
+
+abbrev μ-loop : tie.MeasureT-loop
+μ-loop x y out₀ w₀ out w = carriedWords - w
+
+loop-holds : tie.Need-loop-holds Inv-loop μ-loop
+loop-holds c = filled-none carriedWords _ _
+
+mul-out : tie.Need-mul-out Inv-loop μ-loop
+mul-out c = search needs
+
+array-read-out : tie.Need-array-read-out Inv-loop μ-loop
+array-read-out c = search needs
+
+mul-out-2 : tie.Need-mul-out-2 Inv-loop μ-loop
+mul-out-2 c = search needs
+
+array-read-out-2 : tie.Need-array-read-out-2 Inv-loop μ-loop
+array-read-out-2 c = search needs
+
+mul-out-3 : tie.Need-mul-out-3 Inv-loop μ-loop
+mul-out-3 c = search needs
+
+array-write-out : tie.Need-array-write-out Inv-loop μ-loop
+array-write-out c = search needs
+
+add-w : tie.Need-add-w Inv-loop μ-loop
+add-w c = search needs
+
+loop-less : tie.Need-loop-less Inv-loop μ-loop
+loop-less c = search needs
+
+loop-again : tie.Need-loop-again Inv-loop μ-loop
+loop-again c = filled-more (c .before .loop .inv) (omega arith) (omega arith) refl
+
+returns : tie.Need-returns Inv-loop μ-loop
+returns c =
+    let x = c .before .before .args .t1 in
+    let y = c .before .before .args .t2 in
+    let sx : (k : ℕ) → Fits w64 (getD x k 0) = λ k. search needs in
+    let sy : (k : ℕ) → Fits w64 (getD y k 0) = λ k. search needs in
+    filled-all (c .before .loop .inv) (omega arith) (omega arith) ∙ xored-words carriedWords x y (λ k. sx k .fits) (λ k. sy k .fits)
+
+pub xored-words-spec : {M : Type 1} → statement M
+xored-words-spec =
+    tie.close
+    (tie.spec
+    Inv-loop
+    μ-loop
+    loop-holds
+    mul-out
+    array-read-out
+    mul-out-2
+    array-read-out-2
+    mul-out-3
+    array-write-out
+    add-w
+    loop-less
+    loop-again
+    returns)

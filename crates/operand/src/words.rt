@@ -1,0 +1,224 @@
+// A carried operand in words of 64 bits: coordinate i is bit i % 64 of word i / 64.
+// The way from bytes to words and back, by whole words where the bytes reach, and the turns by one place.
+ghost use mathlib.Core.Path.{_≡_};
+ghost use Prim.Native.Nat.{ℕ, _+_, _-_, _*_, _/_, _%_, _^_, _<_, _≤_};
+ghost use lib.ListN.{length, getD};
+ghost use lib.Bits.{bitAnd};
+ghost use Rattle.gf2.specs.Coordinates.{coord, value, pack};
+ghost use Rattle.gf2.specs.Operands.{carriedBytes, below};
+ghost use Rattle.operand.specs.Words.{carriedWords, wordCoord, packWords, Put};
+use crate::Operand;
+
+fn wide(x: u8) -> u64
+    ensures { λ r. ⌜ r ≡ x ⌝ }
+{
+    x as u64
+}
+
+// Eight bytes as one word, the first lowest. In one expression, which is compiled to one load where they are read in a row.
+fn joined(a: u8, b: u8, c: u8, d: u8, e: u8, f: u8, g: u8, h: u8) -> u64
+    ensures { λ r. ⌜ r ≡ a + 256 * (b + 256 * (c + 256 * (d + 256 * (e + 256 * (f + 256 * (g + 256 * h)))))) ⌝ }
+{
+    wide(a)
+        | (wide(b) << 8)
+        | (wide(c) << 16)
+        | (wide(d) << 24)
+        | (wide(e) << 32)
+        | (wide(f) << 40)
+        | (wide(g) << 48)
+        | (wide(h) << 56)
+}
+
+// Byte b of a slice, 0 past its end.
+fn byte_at(s: &[u8], b: usize) -> u8
+    ensures { λ r. ⌜ r ≡ getD (now (s .entry)) b 0 ⌝ }
+{
+    if b < s.len() { s[b] } else { 0 }
+}
+
+// Eight bytes of a slice, from b on.
+fn eight(s: &[u8], b: usize) -> u64
+    requires { ⌜ b + 8 ≤ length (now s) ⌝ }
+    ensures { λ r. ⌜ r ≡ value 64 (λ j. coord (now (s .entry)) (b * 8 + j)) ⌝ }
+{
+    joined(s[b], s[b + 1], s[b + 2], s[b + 3], s[b + 4], s[b + 5], s[b + 6], s[b + 7])
+}
+
+// The first eight bytes of a slice, 0 past its end.
+fn few(s: &[u8]) -> u64
+    ensures { λ r. ⌜ r ≡ value 64 (λ j. coord (now (s .entry)) (0 * 8 + j)) ⌝ }
+{
+    joined(
+        byte_at(s, 0),
+        byte_at(s, 1),
+        byte_at(s, 2),
+        byte_at(s, 3),
+        byte_at(s, 4),
+        byte_at(s, 5),
+        byte_at(s, 6),
+        byte_at(s, 7),
+    )
+}
+
+// Word w of a slice, 0 past its end. Where the slice ends in it, its last eight bytes are read and shifted down.
+fn word_at(s: &[u8], w: usize) -> u64
+    requires { ⌜ w < carriedWords ⌝ }
+    ensures { λ r. ⌜ r ≡ value 64 (λ j. coord (now (s .entry)) (w * 64 + j)) ⌝ }
+{
+    let b = w * 8;
+    let n = s.len();
+    if n <= b {
+        return 0;
+    }
+    if b + 8 <= n {
+        return eight(s, b);
+    }
+    if n < 8 {
+        return few(s);
+    }
+    eight(s, n - 8) >> (8 * (b + 8 - n))
+}
+
+// The coordinates of a slice, in the words of a carried operand.
+pub fn slice_words(s: &[u8]) -> [u64; Operand::WORDS]
+    ensures { λ r. ⌜ r ≡ packWords carriedWords (coord (now (s .entry))) ⌝ }
+{
+    let mut out = [0u64; Operand::WORDS];
+    let mut w = 0;
+    while w < Operand::WORDS {
+        out[w] = word_at(s, w);
+        w += 1;
+    }
+    out
+}
+
+pub fn to_words(x: [u8; Operand::BYTES]) -> [u64; Operand::WORDS]
+    ensures { λ r. ⌜ r ≡ packWords carriedWords (coord x) ⌝ }
+{
+    let mut out = [0u64; Operand::WORDS];
+    let mut w = 0;
+    while w < Operand::WORDS {
+        out[w] = eight(&x, w * 8);
+        w += 1;
+    }
+    out
+}
+
+// Byte j of a word.
+fn byte_of(word: u64, j: usize) -> u8
+    requires { ⌜ j < 8 ⌝ }
+    ensures { λ r. ⌜ r ≡ word / 2 ^ (8 * j) % 256 ⌝ }
+{
+    ((word >> (8 * j)) % 256) as u8
+}
+
+// A word into eight bytes of a slice, from b on. Stores in a row, which are compiled to one.
+fn put_whole(word: u64, b: usize, out: &mut [u8])
+    requires { ⌜ (b < carriedBytes) × (b + 8 ≤ length (now out)) ⌝ }
+    ensures { λ _. ⌜ Put 8 word b (now (out .entry)) (now (out .exit)) ⌝ }
+{
+    let mut j = 0;
+    while j < 8 {
+        out[b + j] = byte_of(word, j);
+        j += 1;
+    }
+}
+
+// A word into the bytes of a slice from b on, of which there are less than eight.
+fn put_part(word: u64, b: usize, out: &mut [u8])
+    requires { ⌜ (b < carriedBytes) × (length (now out) < b + 8) ⌝ }
+    ensures { λ _. ⌜ Put 8 word b (now (out .entry)) (now (out .exit)) ⌝ }
+{
+    let mut j = 0;
+    while b + j < out.len() {
+        out[b + j] = byte_of(word, j);
+        j += 1;
+    }
+}
+
+fn put_word(word: u64, b: usize, out: &mut [u8])
+    requires { ⌜ b < carriedBytes ⌝ }
+    ensures { λ _. ⌜ Put 8 word b (now (out .entry)) (now (out .exit)) ⌝ }
+{
+    if b + 8 <= out.len() {
+        put_whole(word, b, out);
+    } else {
+        put_part(word, b, out);
+    }
+}
+
+// The coordinates of words, in the bytes of a slice.
+pub(crate) fn store(x: [u64; Operand::WORDS], out: &mut [u8])
+    requires { ⌜ length (now out) ≤ carriedBytes ⌝ }
+    ensures { λ _. ⌜ now (out .exit) ≡ pack (length (now (out .entry))) (wordCoord x) ⌝ }
+{
+    let mut w = 0;
+    while w < Operand::WORDS {
+        let word = x[w];
+        put_word(word, w * 8, out);
+        w += 1;
+    }
+}
+
+pub fn to_bytes(x: [u64; Operand::WORDS]) -> [u8; Operand::BYTES]
+    ensures { λ r. ⌜ r ≡ pack carriedBytes (wordCoord x) ⌝ }
+{
+    let mut out = [0u8; Operand::BYTES];
+    let mut b = 0;
+    while b < Operand::BYTES {
+        let word = x[b / 8];
+        out[b] = byte_of(word, b % 8);
+        b += 1;
+    }
+    out
+}
+
+// The bits of word w that stand for coordinates below m: a word and this is the word's remainder.
+fn mask(w: usize, m: usize) -> u64
+    requires { ⌜ w < carriedWords ⌝ }
+    ensures { λ r. ⌜ ((x : ℕ) → x < 2 ^ 64 → bitAnd x r ≡ x % 2 ^ (m - w * 64)) ⌝ }
+{
+    if m <= w * 64 {
+        return 0;
+    }
+    let n = m - w * 64;
+    if 64 <= n {
+        return 18446744073709551615;
+    }
+    (1u64 << n) - 1
+}
+
+// Word w with its coordinates below m, the others cleared.
+pub(crate) fn low_word(word: u64, w: usize, m: usize) -> u64
+    requires { ⌜ w < carriedWords ⌝ }
+    ensures { λ r. ⌜ r ≡ word % 2 ^ (m - w * 64) ⌝ }
+{
+    word & mask(w, m)
+}
+
+// The coordinates below m, the others cleared.
+pub fn low_words(x: [u64; Operand::WORDS], m: usize) -> [u64; Operand::WORDS]
+    ensures { λ r. ⌜ r ≡ packWords carriedWords (below m (wordCoord x)) ⌝ }
+{
+    let mut out = [0u64; Operand::WORDS];
+    let mut w = 0;
+    while w < Operand::WORDS {
+        let word = x[w];
+        out[w] = low_word(word, w, m);
+        w += 1;
+    }
+    out
+}
+
+// The sum of the coordinates, modulo 2.
+pub fn xored_words(x: [u64; Operand::WORDS], y: [u64; Operand::WORDS]) -> [u64; Operand::WORDS]
+    ensures { λ r. ⌜ r ≡ packWords carriedWords (λ i. wordCoord x i + wordCoord y i) ⌝ }
+{
+    let mut out = [0u64; Operand::WORDS];
+    let mut w = 0;
+    while w < Operand::WORDS {
+        out[w] = x[w] ^ y[w];
+        w += 1;
+    }
+    out
+}
