@@ -3,6 +3,7 @@
 -- Carrying: operands of W bytes and the same operands carried.
 -- Rules: rules 5 and 6 as tests of one row and of one pair.
 -- RowSums: sums of rows: how a loop makes them, and which products they are.
+-- Listing: rows laid out and their ones listed, and sums over listed places.
 -- TableOnes: the number of ones in a table, byte by byte.
 -- Theorems: the proofs of the statements in specs/Statements.antt.
 pub mod Searches
@@ -10,5 +11,6 @@ pub mod Shapes
 pub mod Carrying
 pub mod Rules
 pub mod RowSums
+pub mod Listing
 pub mod TableOnes
 pub mod Theorems

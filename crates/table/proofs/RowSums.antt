@@ -15,14 +15,14 @@ use Rattle.gf2.specs.Operands.{maxWidth, bytesFor, carriedBytes, minus, IsOpera
 use Rattle.gf2.specs.Tables.{row}
 use Rattle.gf2.specs.Check.{Symmetric, rowSum}
 use Rattle.gf2.proofs.Sums.{sum-ext}
-use Rattle.gf2.proofs.Coordinates.{coord-digit, length-pack}
+use Rattle.gf2.proofs.Coordinates.{coord-digit}
 use Rattle.gf2.proofs.Operands.{coord-from, from-operand, from-ext, length-from, minus-below}
 use Rattle.gf2.proofs.Parity.{bits, odd, odd-mul}
-use Rattle.gf2.proofs.Index.{Ix, at, o, _⊖_, num-at, num-minus, at-minus, sub-z}
+use Rattle.gf2.proofs.Index.{Ix, at, o, _⊹_, _⊖_, num-at, num-minus, at-minus, at-neg, add-sub, add-neg, sub-eq}
 use Rattle.gf2.proofs.IndexSums.{Σ-ext, odd-Σ}
-use Rattle.gf2.proofs.Vector.{Vec, turn, β, lin, turn-lin}
+use Rattle.gf2.proofs.Vector.{Vec, turn, β, lin, lin-turn, turn-lin}
 use Rattle.gf2.proofs.VectorProduct.{_·_, pair, pair-swap, rule6-left, rule6-right}
-use Rattle.gf2.proofs.OperandVectors.{bytes-fit, vec, bytes, vec-bytes, from-vec, basis-vec, turned-vec, turned-bytes}
+use Rattle.gf2.proofs.OperandVectors.{bytes-fit, vec, bytes, from-vec, basis-vec, turned-bytes}
 use Rattle.gf2.proofs.TableVectors.{rows, product-bytes, symmetric}
 use Rattle.operand.specs.Faults.{isNone}
 use Rattle.operand.specs.Calls.{answer, zeroCall, oneCall}
@@ -125,19 +125,21 @@ module _ (p : ℕ) (t : List ℕ) (s : Shaped (suc p) t) where
       products : leftProduct (suc p) t i j ≡ bytes p W (_·_ T (_·_ T (β o) (β (at i))) (β (at j)))
       products = let h = bytes-fit (suc p) in let l : 0 < suc p = omega arith in let is = s .isTable in simp (basis-vec, product-bytes)
 
-  right-rows : (i j : ℕ) → i < suc p → j < suc p → rowsOver (suc p) t (turned (suc p) i (carriedRow (suc p) t (minus (suc p) j i))) 0 (suc p)
+  right-rows : (i j : ℕ) → i < suc p → j < suc p → rowsOver (suc p) t (carriedRow (suc p) t (minus (suc p) j i)) (suc p - i) (suc p)
       ≡ carriedBy (rightProduct (suc p) t i j)
   unfolding pair rightProduct
   right-rows i j li lj =
-      over-vec _ 0 ∙ ap₂ (λ v u. bytes p carriedBytes (lin v u)) factor (fun-ext (λ k. ap T (sub-z k)))
-      ∙ ap (bytes p carriedBytes) (sym (rule6-right T (at i) (at j))) ∙ sym (carried-vec _) ∙ ap carriedBy (sym products)
+      over-vec _ (suc p - i) ∙ ap₂ (λ v u. bytes p carriedBytes (lin v u)) factor (fun-ext (λ k. ap T (on k)))
+      ∙ ap (bytes p carriedBytes) (sym (lin-turn (at i) (T (at j ⊖ at i)) T) ∙ sym (rule6-right T (at i) (at j))) ∙ sym (carried-vec _) ∙ ap carriedBy (sym products)
     where
       d : ℕ
       d = minus (suc p) j i
 
-      factor : vec p (turned (suc p) i (carriedRow (suc p) t d)) ≡ turn (at i) (T (at j ⊖ at i))
-      factor = ap (vec p) (turned-vec p i (carriedRow (suc p) t d)) ∙ vec-bytes p _ _ (rw length-pack room)
-          ∙ ap (turn (at i)) (row-vec d (minus-lt (suc p) j i (omega arith)) ∙ ap T (at-minus j i))
+      factor : vec p (carriedRow (suc p) t d) ≡ T (at j ⊖ at i)
+      factor = row-vec d (minus-lt (suc p) j i (omega arith)) ∙ ap T (at-minus j i)
+
+      on : (k : Ix p) → k ⊖ at (suc p - i) ≡ k ⊹ at i
+      on k = ap (λ y. k ⊖ y) (at-neg i (omega arith)) ∙ sub-eq k (o ⊖ at i) (k ⊹ at i) (add-neg (k ⊹ at i) (at i) ∙ add-sub k (at i))
 
       products : rightProduct (suc p) t i j ≡ bytes p W (_·_ T (β o) (_·_ T (β (at i)) (β (at j))))
       products = let h = bytes-fit (suc p) in let l : 0 < suc p = omega arith in let is = s .isTable in simp (basis-vec, product-bytes)
@@ -148,7 +150,7 @@ left-sum {m = zero} {t} s y i j li lj = absurd (omega arith)
 left-sum {m = suc p} {t} s y i j li lj = left-rows p t s y i j li lj
 
 pub right-sum : {m : ℕ} {t : List ℕ} → Shaped m t → (i j : ℕ) → i < m → j < m →
-    rowsOver m t (turned m i (carriedRow m t (minus m j i))) 0 m ≡ carriedBy (rightProduct m t i j)
+    rowsOver m t (carriedRow m t (minus m j i)) (m - i) m ≡ carriedBy (rightProduct m t i j)
 right-sum {m = zero} {t} s i j li lj = absurd (omega arith)
 right-sum {m = suc p} {t} s i j li lj = right-rows p t s i j li lj
 

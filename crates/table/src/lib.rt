@@ -3,6 +3,7 @@ use operand::Fault;
 
 mod carried;
 mod counts;
+mod lists;
 mod rows;
 mod sums;
 mod symmetry;

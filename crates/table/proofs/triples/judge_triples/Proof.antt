@@ -13,16 +13,16 @@ use Rattle.table.proofs.triples.judge_triples.Statement.{statement}
 use Rattle.table.proofs.triples.judge_triples.Tie as tie
 
 abbrev Inv-loop : tie.InvT-loop
-Inv-loop width table fault₀ i j₀ fault j = (fault ≡ None) × (rowFault width table i ≡ firstFrom j (width - j) (pairFault width table i))
+Inv-loop width table rows places counts fault₀ i j₀ fault j = (fault ≡ None) × (rowFault width table i ≡ firstFrom j (width - j) (pairFault width table i))
 
 abbrev μ-loop : tie.MeasureT-loop
-μ-loop width table fault₀ i j₀ fault j = width - j
+μ-loop width table rows places counts fault₀ i j₀ fault j = width - j
 
 abbrev Inv-search : tie.InvT-search
-Inv-search width table fault₀ i₀ fault i = (fault ≡ None) × (tripleFault width table ≡ firstFrom i (width - i) (rowFault width table))
+Inv-search width table rows places counts fault₀ i₀ fault i = (fault ≡ None) × (tripleFault width table ≡ firstFrom i (width - i) (rowFault width table))
 
 abbrev μ-search : tie.MeasureT-search
-μ-search width table fault₀ i₀ fault i = width - i
+μ-search width table rows places counts fault₀ i₀ fault i = width - i
 
 search-holds : tie.Need-search-holds Inv-loop μ-loop Inv-search μ-search
 search-holds c = (refl, triple-search _ _ ∙ first-start _ _)
@@ -31,7 +31,7 @@ loop-holds : tie.Need-loop-holds Inv-loop μ-loop Inv-search μ-search
 loop-holds c = (c .before .search .inv .0, first-start _ _)
 
 associative-requires : tie.Need-associative-requires Inv-loop μ-loop Inv-search μ-search
-associative-requires c κs = let s = c .before .before .before .before .before .pre in (s .0, s .1, c .before .before .search-test .taken, c .loop-test .taken)
+associative-requires c κs = let s = c .before .before .before .before .before .before .before .before .pre in (s .0, s .1, s .2, s .3, c .before .before .search-test .taken, c .loop-test .taken)
 
 add-j : tie.Need-add-j Inv-loop μ-loop Inv-search μ-search
 add-j c = search needs
