@@ -35,7 +35,6 @@ digits-lt : (s : List ℕ) → numberOfDigits s < 2 ^ (4 * length s)
 unfolding numberOfDigits
 digits-lt [] = omega arith
 digits-lt (c ∷ s) =
-    let p = 2 ^ (4 * length s) in
     let d : digitValue c ≤ 15 = omega (arith, digit-lt c) in
     let e : 4 * length (c ∷ s) ≡ 4 + 4 * length s = omega arith in
     let w : 2 ^ (4 * length (c ∷ s)) ≡ 16 * 2 ^ (4 * length s) = ap (λ k. 2 ^ k) e ∙ pow-add 2 4 (4 * length s) in

@@ -1,10 +1,9 @@
--- Laws of numbers that are stored one after another: two stores in a row, one element more, the same numbers.
-use mathlib.Core.Path.{_≡_, ap, _∙_}
+-- Laws of numbers that are stored one after another: two stores in a row, and the same numbers under another name.
+use mathlib.Core.Path.{_≡_, _∙_}
 use mathlib.Core.List.{List, _++_}
-use Prim.Native.Nat.{ℕ, _+_}
+use Prim.Native.Nat.{ℕ}
 use native.Mathlib.Omega.{arith}
-use lib.ListN.{length, length-append}
-use lib.Seq.{sets}
+use lib.ListN.{length-append}
 use Rattle.card.proofs.Stores.{sets-append}
 use Rattle.vectors.specs.Numbers.{Stored}
 
