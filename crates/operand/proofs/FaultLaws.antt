@@ -121,9 +121,13 @@ when-none : (b : Bool) (f : Fault) → isNone f ≡ false → isNone (when b f) 
 when-none true f n e = never (sym n ∙ e)
 when-none false f n e = refl
 
-not-not : (b : Bool) → not b ≡ false → b ≡ true
+pub not-not : (b : Bool) → not b ≡ false → b ≡ true
 not-not true e = refl
 not-not false e = sym e
+
+pub not-true : (b : Bool) → not b ≡ true → b ≡ false
+not-true true e = sym e
+not-true false e = refl
 
 both-true : (a b : Bool) → (a && b) ≡ true → (a ≡ true) × (b ≡ true)
 both-true true b e = (refl, e)
@@ -236,3 +240,16 @@ trace-one m c e = rw (eq-eqb _ _ e)
 pub trace-none : (m : ℕ) (c : List ℕ) → (trace m c ≡ 1 → ⊥) → traceFault m c ≡ None
 unfolding traceFault
 trace-none m c n = rw (ne-eqb _ _ n)
+
+-- Judgements made in turn, f′ first: b is the test whether it gives none.
+-- A fault ends them; where there is none, the others decide.
+module _ (f′ g : Fault) (fs : List Fault) {f : Fault} {b : Bool} (e : f ≡ f′) (t : b ≡ isNone f) where
+  pub first-ends : b ≡ false → f ≡ firstOf (f′ ∷ g ∷ fs)
+  first-ends q = e ∙ sym (first-more f′ g fs ∙ or-first _ _ (judged e t q))
+
+  pub first-goes : {r : Fault} → b ≡ true → r ≡ firstOf (g ∷ fs) → r ≡ firstOf (f′ ∷ g ∷ fs)
+  first-goes q h = h ∙ sym (first-more f′ g fs ∙ or-second _ _ (judged e t q))
+
+pub first-last : {f g : Fault} → f ≡ g → f ≡ firstOf (g ∷ [])
+unfolding firstOf
+first-last {f} {g} e = e ∙ sym (or-none g)

@@ -74,13 +74,13 @@ window-twice {x} {k} {s} w = record {
   small = xor-lt 64 s _ (w .small) (mod-lt _ (pow-pos 64));
   sums = λ j l. xor-bit s (s * 2 ^ k % 2 ^ 64) j ∙ elim (decLt j k) [
     | yes h ↦
-      let a : suc j - k ≡ 0 = omega arith in
-      let b : suc j - (k + k) ≡ 0 = omega arith in
-      rw (shl-bit-out s 64 k j h l, w .sums j l, a, b) (omega arith)
+        let a : suc j - k ≡ 0 = omega arith in
+        let b : suc j - (k + k) ≡ 0 = omega arith in
+        rw (shl-bit-out s 64 k j h l, w .sums j l, a, b) (omega arith)
     | no h ↦
-      let a : suc (j - k) ≡ suc j - k = omega arith in
-      let b : suc (j - k) - k ≡ suc j - (k + k) = omega arith in
-      cancel (bits x (suc j)) (bits x (suc j - k)) (bits x (suc j - (k + k))) (w .sums j l) (shl-bit s 64 k j (omega arith) l ∙ w .sums (j - k) (omega arith) ∙ ap₂ (λ y z. (bits x y + bits x z) % 2) a b)
+        let a : suc (j - k) ≡ suc j - k = omega arith in
+        let b : suc (j - k) - k ≡ suc j - (k + k) = omega arith in
+        cancel (bits x (suc j)) (bits x (suc j - k)) (bits x (suc j - (k + k))) (w .sums j l) (shl-bit s 64 k j (omega arith) l ∙ w .sums (j - k) (omega arith) ∙ ap₂ (λ y z. (bits x y + bits x z) % 2) a b)
   ];
 }
   where

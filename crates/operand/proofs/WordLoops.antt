@@ -66,8 +66,8 @@ straddle-word low high skip hl hs =
     bits j l = elim (decLt (skip + j) 64) [
       | yes q ↦ omega (arith, none j q, pair-low low high (skip + j) q)
       | no q ↦
-        let z = div-eq-of-lt (lt-of-lt-of-le hl (pow-mono {i = 64} {j = skip + j} (omega arith))) in
-        omega (arith, some j l (omega arith), pair-high low high (skip + j) (omega arith) (omega arith), z)
+          let z = div-eq-of-lt (lt-of-lt-of-le hl (pow-mono {i = 64} {j = skip + j} (omega arith))) in
+          omega (arith, some j l (omega arith), pair-high low high (skip + j) (omega arith) (omega arith), z)
     ]
 
 -- the coordinates of a list from first * 64 + skip on
@@ -80,8 +80,8 @@ window-words n first skip x hs = tabulate-ext n _ _ (λ w h. value-ext 64 _ _ (�
     bits w j l = elim (decLt (skip + j) 64) [
       | yes q ↦ pair-low (getD x (first + w) 0) _ (skip + j) q ∙ sym (word-digit x (first + w) (skip + j) q) ∙ ap (wordCoord x) (omega arith)
       | no q ↦
-        pair-high _ (getD x (first + w + 1) 0) (skip + j) (omega arith) (omega arith)
-        ∙ sym (word-digit x (first + w + 1) (skip + j - 64) (omega arith)) ∙ ap (wordCoord x) (omega arith)
+          pair-high _ (getD x (first + w + 1) 0) (skip + j) (omega arith) (omega arith)
+          ∙ sym (word-digit x (first + w + 1) (skip + j - 64) (omega arith)) ∙ ap (wordCoord x) (omega arith)
     ]
 
 -- f 0 or f 1 or .. or f (n - 1), bit by bit

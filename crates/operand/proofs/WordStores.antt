@@ -48,9 +48,9 @@ module _ {x : List ℕ} {w : ℕ} {l₀ l : List ℕ} (done : Stored x w l₀ l)
     bytes = λ i h r. elim (decLt i (w * 8)) [
       | yes q ↦ put .front i q ∙ done .bytes i q r
       | no q ↦
-        let q' : i / 8 ≡ w = omega arith in
-        let e : i ≡ w * 8 + i % 8 = omega arith in
-        ap (λ k. getD after k 0) e ∙ put .bytes (i % 8) (omega arith) (omega (arith, done .size)) ∙ ap (λ k. getD x k 0 / 2 ^ (8 * (i % 8)) % 256) (sym q')
+          let q' : i / 8 ≡ w = omega arith in
+          let e : i ≡ w * 8 + i % 8 = omega arith in
+          ap (λ k. getD after k 0) e ∙ put .bytes (i % 8) (omega arith) (omega (arith, done .size)) ∙ ap (λ k. getD x k 0 / 2 ^ (8 * (i % 8)) % 256) (sym q')
     ];
   }
 

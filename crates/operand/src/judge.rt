@@ -1,9 +1,12 @@
 // What a call judges before its work: a width, a length, bits at the width and above, operands.
+// Each judgement after the first is made only where those before it give no fault.
 ghost use mathlib.Core.Path.{_≡_};
+ghost use mathlib.Core.List.{[], _∷_};
 ghost use Prim.Native.Nat.{_*_};
 ghost use lib.ListN.{length};
 ghost use Rattle.gf2.specs.Coordinates.{coord, pack};
 ghost use Rattle.gf2.specs.Operands.{bytesFor, carriedBytes};
+ghost use Rattle.operand.specs.Faults.{firstOf};
 ghost use Rattle.operand.specs.Judgements.{widthFault, lengthFault, highFault, turnFault, traceFault, operandFault, pairFault, bytesFault, roomFault};
 use crate::Operand;
 use crate::bytes;
@@ -69,7 +72,35 @@ pub fn judge_operand(a: Operand) -> Fault
 {
     let m = a.width as usize;
     let x = a.bytes;
-    fault::or_else(judge_width(m), judge_high(x, m))
+    let first = judge_width(m);
+    if fault::is_none(first) {
+        return judge_high(x, m);
+    }
+    first
+}
+
+// An operand, then a turn's count.
+pub(crate) fn judge_turning(a: Operand, k: usize) -> Fault
+    ensures { λ r. ⌜ r ≡ firstOf (operandFault a ∷ turnFault (a .width) k ∷ []) ⌝ }
+{
+    let m = a.width as usize;
+    let first = judge_operand(a);
+    if fault::is_none(first) {
+        return judge_turn(m, k);
+    }
+    first
+}
+
+// An operand, then its trace.
+pub(crate) fn judge_solving(c: Operand) -> Fault
+    ensures { λ r. ⌜ r ≡ firstOf (operandFault c ∷ traceFault (c .width) (c .bytes) ∷ []) ⌝ }
+{
+    let x = c.bytes;
+    let first = judge_operand(c);
+    if fault::is_none(first) {
+        return judge_trace(x);
+    }
+    first
 }
 
 pub fn judge_pair(a: Operand, b: Operand) -> Fault
@@ -79,9 +110,23 @@ pub fn judge_pair(a: Operand, b: Operand) -> Fault
     let n = b.width as usize;
     let x = a.bytes;
     let y = b.bytes;
-    let bits = fault::or_else(judge_high(x, m), judge_high(y, n));
-    let widths = fault::or_else(judge_width(n), fault::or_else(judge_length(n, m), bits));
-    fault::or_else(judge_width(m), widths)
+    let first = judge_width(m);
+    if !fault::is_none(first) {
+        return first;
+    }
+    let second = judge_width(n);
+    if !fault::is_none(second) {
+        return second;
+    }
+    let third = judge_length(n, m);
+    if !fault::is_none(third) {
+        return third;
+    }
+    let fourth = judge_high(x, m);
+    if !fault::is_none(fourth) {
+        return fourth;
+    }
+    judge_high(y, n)
 }
 
 // The number of bytes of an operand: the width over 8, rounded up.
@@ -92,14 +137,27 @@ pub fn bytes_for(width: usize) -> usize
     if width % 8 == 0 { whole } else { whole + 1 }
 }
 
+// A width, a length and bits.
+fn judge_sized(width: usize, size: usize, x: [u8; Operand::BYTES]) -> Fault
+    ensures { λ r. ⌜ r ≡ firstOf (widthFault width ∷ lengthFault size (bytesFor width) ∷ highFault width x ∷ []) ⌝ }
+{
+    let first = judge_width(width);
+    if !fault::is_none(first) {
+        return first;
+    }
+    let second = judge_length(size, bytes_for(width));
+    if !fault::is_none(second) {
+        return second;
+    }
+    judge_high(x, width)
+}
+
 // `x` holds the coordinates of `s`, which are all of them where the length is as laid down.
 pub(crate) fn judge_bytes(width: usize, s: &[u8], x: [u8; Operand::BYTES]) -> Fault
     requires { ⌜ x ≡ pack carriedBytes (coord (now s)) ⌝ }
     ensures { λ r. ⌜ r ≡ bytesFault width (now (s .entry)) ⌝ }
 {
-    let size = judge_length(s.len(), bytes_for(width));
-    let bits = fault::or_else(size, judge_high(x, width));
-    fault::or_else(judge_width(width), bits)
+    judge_sized(width, s.len(), x)
 }
 
 // A carried operand, and room for `size` bytes of it.
@@ -108,7 +166,5 @@ pub(crate) fn judge_room(a: Operand, size: usize) -> Fault
 {
     let m = a.width as usize;
     let x = a.bytes;
-    let room = judge_length(size, bytes_for(m));
-    let bits = fault::or_else(room, judge_high(x, m));
-    fault::or_else(judge_width(m), bits)
+    judge_sized(m, size, x)
 }

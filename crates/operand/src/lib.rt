@@ -113,7 +113,7 @@ impl Operand {
     {
         let m = self.width as usize;
         let x = self.bytes;
-        let fault = fault::or_else(judge::judge_operand(self), judge::judge_turn(m, k));
+        let fault = judge::judge_turning(self, k);
         if fault::is_none(fault) {
             return answered(fault, m, turn::turned(x, m, k));
         }
@@ -158,7 +158,7 @@ impl Operand {
         let m = self.width as usize;
         let c = self.bytes;
         let z = quadratic::root(c);
-        let fault = fault::or_else(judge::judge_operand(self), judge::judge_trace(c));
+        let fault = judge::judge_solving(self);
         answered(fault, m, bytes::cleared(z, m))
     }
 

@@ -41,7 +41,16 @@ fn eight(s: &[u8], b: usize) -> u64
     requires { ⌜ b + 8 ≤ length (now s) ⌝ }
     ensures { λ r. ⌜ r ≡ value 64 (λ j. coord (now (s .entry)) (b * 8 + j)) ⌝ }
 {
-    joined(s[b], s[b + 1], s[b + 2], s[b + 3], s[b + 4], s[b + 5], s[b + 6], s[b + 7])
+    joined(
+        s[b],
+        s[b + 1],
+        s[b + 2],
+        s[b + 3],
+        s[b + 4],
+        s[b + 5],
+        s[b + 6],
+        s[b + 7],
+    )
 }
 
 // The first eight bytes of a slice, 0 past its end.

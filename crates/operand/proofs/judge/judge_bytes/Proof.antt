@@ -1,50 +1,25 @@
 -- `operand::judge::judge_bytes` meets its contract.
-use mathlib.Core.Path.{_≡_}
+use mathlib.Core.Path.{ap, _∙_}
+use mathlib.Core.List.{[], _∷_}
+use lib.ListN.{length}
+use Rattle.gf2.specs.Operands.{bytesFor}
+use Rattle.operand.specs.Faults.{orElse, firstOf}
+use Rattle.operand.specs.Judgements.{widthFault, lengthFault, highFault}
+use Rattle.operand.proofs.FaultLaws.{first-two, first-more}
 use Rattle.operand.proofs.CallLaws.{bytes-fault}
 use borrow.Author.Needs.{needs}
 use Rattle.operand.proofs.judge.judge_bytes.Statement.{statement}
 use Rattle.operand.proofs.judge.judge_bytes.Tie as tie
 
-bytes-for-requires : tie.Need-bytes-for-requires
-bytes-for-requires c κs = search needs
-
-judge-length-requires : tie.Need-judge-length-requires
-judge-length-requires c κs = search needs
-
-judge-high-requires : tie.Need-judge-high-requires
-judge-high-requires c κs = search needs
-
-or-else-requires : tie.Need-or-else-requires
-or-else-requires c κs = search needs
-
-judge-width-requires : tie.Need-judge-width-requires
-judge-width-requires c κs = search needs
-
-or-else-requires-2 : tie.Need-or-else-requires-2
-or-else-requires-2 c κs = search needs
+judge-sized-requires : tie.Need-judge-sized-requires
+judge-sized-requires c κs = search needs
 
 returns : tie.Need-returns
 returns c =
-    let s = c .before .before .before in
-    rw (
-      c .or-else2 .ensures,
-      c .before .judge-width .ensures,
-      c .before .before .or-else .ensures,
-      s .judge-high .ensures,
-      s .before .judge-length .ensures,
-      s .before .before .bytes-for .ensures,
-      s .before .before .before .before .pre,
-    )
-    (bytes-fault _ _)
+    let m = c .before .before .args .width in
+    let l = c .before .before .args .s .now in
+    c .judge-sized .ensures ∙ ap (λ x. firstOf (widthFault m ∷ lengthFault (length l) (bytesFor m) ∷ highFault m x ∷ [])) (c .before .before .pre)
+    ∙ first-more _ _ _ ∙ ap (orElse (widthFault m)) (first-two _ _) ∙ bytes-fault m l
 
 pub judge-bytes-spec : {M : Type 1} → statement M
-judge-bytes-spec =
-    tie.close
-    (tie.spec
-    bytes-for-requires
-    judge-length-requires
-    judge-high-requires
-    or-else-requires
-    judge-width-requires
-    or-else-requires-2
-    returns)
+judge-bytes-spec = tie.close (tie.spec judge-sized-requires returns)

@@ -1,8 +1,6 @@
 -- `operand::judge::judge_operand` meets its contract.
-use mathlib.Core.Path.{_≡_, sym, ap₂, _∙_}
-use Rattle.operand.specs.Faults.{orElse}
 use Rattle.operand.specs.Judgements.{operandFault}
-use Rattle.operand.proofs.FaultLaws.{first-two}
+use Rattle.operand.proofs.FaultLaws.{first-ends, first-goes, first-last}
 use borrow.Author.Needs.{needs}
 use Rattle.operand.proofs.judge.judge_operand.Statement.{statement}
 use Rattle.operand.proofs.judge.judge_operand.Tie as tie
@@ -13,17 +11,22 @@ cast-m c = search needs
 judge-width-requires : tie.Need-judge-width-requires
 judge-width-requires c κs = search needs
 
+is-none-requires : tie.Need-is-none-requires
+is-none-requires c κs = search needs
+
 judge-high-requires : tie.Need-judge-high-requires
 judge-high-requires c κs = search needs
-
-or-else-requires : tie.Need-or-else-requires
-or-else-requires c κs = search needs
 
 returns : tie.Need-returns
 unfolding operandFault
 returns c =
-    c .or-else .ensures ∙ ap₂ orElse (c .before .before .judge-width .ensures) (c .before .judge-high .ensures) ∙ sym (first-two _ _)
+    first-goes _ _ _ (c .before .before .before .judge-width .ensures) (c .before .before .is-none .ensures) (c .before .if1 .taken) (first-last (c .judge-high .ensures))
+
+returns-2 : tie.Need-returns-2
+unfolding operandFault
+returns-2 c = first-ends _ _ _ (c .before .before .judge-width .ensures) (c .before .is-none .ensures) (c .if1 .left)
 
 pub judge-operand-spec : {M : Type 1} → statement M
 judge-operand-spec =
-    tie.close (tie.spec cast-m judge-width-requires judge-high-requires or-else-requires returns)
+    tie.close
+    (tie.spec cast-m judge-width-requires is-none-requires judge-high-requires returns returns-2)

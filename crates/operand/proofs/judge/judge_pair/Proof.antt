@@ -1,7 +1,6 @@
 -- `operand::judge::judge_pair` meets its contract.
-use mathlib.Core.Path.{_≡_}
 use Rattle.operand.specs.Judgements.{pairFault}
-use Rattle.operand.proofs.FaultLaws.{first-two, first-more}
+use Rattle.operand.proofs.FaultLaws.{not-not, not-true, first-ends, first-goes, first-last}
 use borrow.Author.Needs.{needs}
 use Rattle.operand.proofs.judge.judge_pair.Statement.{statement}
 use Rattle.operand.proofs.judge.judge_pair.Tie as tie
@@ -12,52 +11,66 @@ cast-m c = search needs
 cast-n : tie.Need-cast-n
 cast-n c = search needs
 
-judge-high-requires : tie.Need-judge-high-requires
-judge-high-requires c κs = search needs
-
-judge-high-requires-2 : tie.Need-judge-high-requires-2
-judge-high-requires-2 c κs = search needs
-
-or-else-requires : tie.Need-or-else-requires
-or-else-requires c κs = search needs
-
 judge-width-requires : tie.Need-judge-width-requires
 judge-width-requires c κs = search needs
 
-judge-length-requires : tie.Need-judge-length-requires
-judge-length-requires c κs = search needs
+is-none-requires : tie.Need-is-none-requires
+is-none-requires c κs = search needs
 
-or-else-requires-2 : tie.Need-or-else-requires-2
-or-else-requires-2 c κs = search needs
-
-or-else-requires-3 : tie.Need-or-else-requires-3
-or-else-requires-3 c κs = search needs
+returns : tie.Need-returns
+unfolding pairFault
+returns c = first-ends _ _ _ (c .before .before .judge-width .ensures) (c .before .is-none .ensures) (not-true _ (c .if1 .taken))
 
 judge-width-requires-2 : tie.Need-judge-width-requires-2
 judge-width-requires-2 c κs = search needs
 
-or-else-requires-4 : tie.Need-or-else-requires-4
-or-else-requires-4 c κs = search needs
+is-none-requires-2 : tie.Need-is-none-requires-2
+is-none-requires-2 c κs = search needs
 
-returns : tie.Need-returns
+returns-2 : tie.Need-returns-2
 unfolding pairFault
-returns c =
-    let s = c .before .before .before .before in
-    rw (
-      c .or-else4 .ensures,
-      c .before .judge-width2 .ensures,
-      c .before .before .or-else3 .ensures,
-      c .before .before .before .or-else2 .ensures,
-      s .judge-length .ensures,
-      s .before .judge-width .ensures,
-      s .before .before .or-else .ensures,
-      s .before .before .before .judge-high2 .ensures,
-      s .before .before .before .before .judge-high .ensures,
-      first-more,
-      first-more,
-      first-more,
-      first-two,
-    )
+returns-2 c =
+    first-goes _ _ _ (c .before .before .before .before .before .judge-width .ensures) (c .before .before .before .before .is-none .ensures) (not-not _ (c .before .before .before .if1 .left))
+    (first-ends _ _ _ (c .before .before .judge-width2 .ensures) (c .before .is-none2 .ensures) (not-true _ (c .if2 .taken)))
+
+judge-length-requires : tie.Need-judge-length-requires
+judge-length-requires c κs = search needs
+
+is-none-requires-3 : tie.Need-is-none-requires-3
+is-none-requires-3 c κs = search needs
+
+returns-3 : tie.Need-returns-3
+unfolding pairFault
+returns-3 c =
+    first-goes _ _ _ (c .before .before .before .before .before .before .before .before .judge-width .ensures) (c .before .before .before .before .before .before .before .is-none .ensures) (not-not _ (c .before .before .before .before .before .before .if1 .left))
+    (first-goes _ _ _ (c .before .before .before .before .before .judge-width2 .ensures) (c .before .before .before .before .is-none2 .ensures) (not-not _ (c .before .before .before .if2 .left))
+    (first-ends _ _ _ (c .before .before .judge-length .ensures) (c .before .is-none3 .ensures) (not-true _ (c .if3 .taken))))
+
+judge-high-requires : tie.Need-judge-high-requires
+judge-high-requires c κs = search needs
+
+is-none-requires-4 : tie.Need-is-none-requires-4
+is-none-requires-4 c κs = search needs
+
+returns-4 : tie.Need-returns-4
+unfolding pairFault
+returns-4 c =
+    first-goes _ _ _ (c .before .before .before .before .before .before .before .before .before .before .before .judge-width .ensures) (c .before .before .before .before .before .before .before .before .before .before .is-none .ensures) (not-not _ (c .before .before .before .before .before .before .before .before .before .if1 .left))
+    (first-goes _ _ _ (c .before .before .before .before .before .before .before .before .judge-width2 .ensures) (c .before .before .before .before .before .before .before .is-none2 .ensures) (not-not _ (c .before .before .before .before .before .before .if2 .left))
+    (first-goes _ _ _ (c .before .before .before .before .before .judge-length .ensures) (c .before .before .before .before .is-none3 .ensures) (not-not _ (c .before .before .before .if3 .left))
+    (first-ends _ _ _ (c .before .before .judge-high .ensures) (c .before .is-none4 .ensures) (not-true _ (c .if4 .taken)))))
+
+judge-high-requires-2 : tie.Need-judge-high-requires-2
+judge-high-requires-2 c κs = search needs
+
+returns-5 : tie.Need-returns-5
+unfolding pairFault
+returns-5 c =
+    first-goes _ _ _ (c .before .before .before .before .before .before .before .before .before .before .before .before .judge-width .ensures) (c .before .before .before .before .before .before .before .before .before .before .before .is-none .ensures) (not-not _ (c .before .before .before .before .before .before .before .before .before .before .if1 .left))
+    (first-goes _ _ _ (c .before .before .before .before .before .before .before .before .before .judge-width2 .ensures) (c .before .before .before .before .before .before .before .before .is-none2 .ensures) (not-not _ (c .before .before .before .before .before .before .before .if2 .left))
+    (first-goes _ _ _ (c .before .before .before .before .before .before .judge-length .ensures) (c .before .before .before .before .before .is-none3 .ensures) (not-not _ (c .before .before .before .before .if3 .left))
+    (first-goes _ _ _ (c .before .before .before .judge-high .ensures) (c .before .before .is-none4 .ensures) (not-not _ (c .before .if4 .left))
+    (first-last (c .judge-high2 .ensures)))))
 
 pub judge-pair-spec : {M : Type 1} → statement M
 judge-pair-spec =
@@ -65,13 +78,17 @@ judge-pair-spec =
     (tie.spec
     cast-m
     cast-n
-    judge-high-requires
-    judge-high-requires-2
-    or-else-requires
     judge-width-requires
-    judge-length-requires
-    or-else-requires-2
-    or-else-requires-3
+    is-none-requires
+    returns
     judge-width-requires-2
-    or-else-requires-4
-    returns)
+    is-none-requires-2
+    returns-2
+    judge-length-requires
+    is-none-requires-3
+    returns-3
+    judge-high-requires
+    is-none-requires-4
+    returns-4
+    judge-high-requires-2
+    returns-5)

@@ -1,7 +1,5 @@
 -- `operand::judge::judge_room` meets its contract.
-use mathlib.Core.Path.{_≡_}
 use Rattle.operand.specs.Judgements.{roomFault}
-use Rattle.operand.proofs.FaultLaws.{first-two, first-more}
 use borrow.Author.Needs.{needs}
 use Rattle.operand.proofs.judge.judge_room.Statement.{statement}
 use Rattle.operand.proofs.judge.judge_room.Tie as tie
@@ -9,48 +7,12 @@ use Rattle.operand.proofs.judge.judge_room.Tie as tie
 cast-m : tie.Need-cast-m
 cast-m c = search needs
 
-bytes-for-requires : tie.Need-bytes-for-requires
-bytes-for-requires c κs = search needs
-
-judge-length-requires : tie.Need-judge-length-requires
-judge-length-requires c κs = search needs
-
-judge-high-requires : tie.Need-judge-high-requires
-judge-high-requires c κs = search needs
-
-or-else-requires : tie.Need-or-else-requires
-or-else-requires c κs = search needs
-
-judge-width-requires : tie.Need-judge-width-requires
-judge-width-requires c κs = search needs
-
-or-else-requires-2 : tie.Need-or-else-requires-2
-or-else-requires-2 c κs = search needs
+judge-sized-requires : tie.Need-judge-sized-requires
+judge-sized-requires c κs = search needs
 
 returns : tie.Need-returns
 unfolding roomFault
-returns c =
-    let s = c .before .before .before in
-    rw (
-      c .or-else2 .ensures,
-      c .before .judge-width .ensures,
-      c .before .before .or-else .ensures,
-      s .judge-high .ensures,
-      s .before .judge-length .ensures,
-      s .before .before .bytes-for .ensures,
-      first-more,
-      first-two,
-    )
+returns c = c .judge-sized .ensures
 
 pub judge-room-spec : {M : Type 1} → statement M
-judge-room-spec =
-    tie.close
-    (tie.spec
-    cast-m
-    bytes-for-requires
-    judge-length-requires
-    judge-high-requires
-    or-else-requires
-    judge-width-requires
-    or-else-requires-2
-    returns)
+judge-room-spec = tie.close (tie.spec cast-m judge-sized-requires returns)
