@@ -64,7 +64,7 @@ module _ {k : ℕ} {x l : List ℕ} {from n : ℕ} (p : Places k x l from n) whe
     ];
     total = λ f.
         let rest = sum-ext n (λ q. f (getD (set l (from + n) k) (from + q) 0)) (λ q. f (getD l (from + q) 0)) (λ q z.
-            ap f (getD-set-other l (from + n) (from + q) k 0 (λ y. omega arith))) in
+        ap f (getD-set-other l (from + n) (from + q) k 0 (λ y. omega arith))) in
         rw (add-one, add-one, rest, p .total f, getD-set-same l (from + n) k 0 h, e, one-mul);
   }
 
@@ -94,6 +94,13 @@ module _ {m : ℕ} {t rows places counts : List ℕ} {n : ℕ} (l : Listed m t r
       | no e ↦ rw (getD-set-other counts n d c 0 e) (places-kept (l .ones d (omega arith)) (λ b z. k .kept b (omega arith)))
     ];
   }
+
+-- a list that is changed from the front: from b on it is as x
+pub record AheadOf (x l : List ℕ) (b : ℕ) : Type 0 where
+  pub at : (k : ℕ) → b ≤ k → getD l k 0 ≡ getD x k 0
+
+pub ahead-more : {x l : List ℕ} {b : ℕ} (v : ℕ) → AheadOf x l b → AheadOf x (set l b v) (b + 1)
+ahead-more {x} {l} {b} v a = record { at = λ k h. getD-set-other l b k v 0 (λ z. omega arith) ∙ a .at k (omega arith) }
 
 -- the sum of two lists of bytes, byte by byte
 xored : (n : ℕ) (x y : List ℕ) → Bytes x → Bytes y → tabulate n (λ b. bitXor (getD x b 0) (getD y b 0)) ≡ pack n (λ i. coord x i + coord y i)
