@@ -11,15 +11,15 @@ use native.Mathlib.Decide.{ℕ-discrete}
 use native.Mathlib.Omega.{arith}
 use lib.ListN.{length, getD, set, replicate}
 use lib.Seq.{getD-set-same, getD-set-other}
-use lib.Bits.{bitXor}
+use lib.Bits.{bitXor, xor-lt}
 use Rattle.gf2.specs.Sums.{sum}
-use Rattle.gf2.specs.Coordinates.{coord, tabulate}
+use Rattle.gf2.specs.Coordinates.{coord, tabulate, pack}
 use Rattle.gf2.specs.Operands.{maxWidth, carriedBytes, minus, fromCoords, zeroes, added, IsOperand}
 use Rattle.gf2.specs.Tables.{row}
 use Rattle.gf2.proofs.Sums.{sum-ext}
-use Rattle.gf2.proofs.Coordinates.{tabulate-ext}
+use Rattle.gf2.proofs.Coordinates.{tabulate-ext, coord-digit, pack-of, xor-bit}
 use Rattle.gf2.proofs.Operands.{coord-from, from-operand, from-ext, length-from, clear-of}
-use Rattle.operand.proofs.ByteLoops.{xored-bytes}
+use Rattle.operand.proofs.ByteLoops.{Bytes}
 use Rattle.operand.proofs.CallLaws.{coord-carried, zero-bytes, sum-bytes}
 use Rattle.table.specs.Rows.{Shaped, carriedRow, rowsOver}
 use Rattle.table.specs.Lists.{Stored, Places, Listed}
@@ -64,7 +64,7 @@ module _ {k : ℕ} {x l : List ℕ} {from n : ℕ} (p : Places k x l from n) whe
     ];
     total = λ f.
         let rest = sum-ext n (λ q. f (getD (set l (from + n) k) (from + q) 0)) (λ q. f (getD l (from + q) 0)) (λ q z.
-            ap f (getD-set-other l (from + n) (from + q) k 0 (λ y. omega arith))) in
+        ap f (getD-set-other l (from + n) (from + q) k 0 (λ y. omega arith))) in
         rw (add-one, add-one, rest, p .total f, getD-set-same l (from + n) k 0 h, e, one-mul);
   }
 
@@ -95,6 +95,18 @@ module _ {m : ℕ} {t rows places counts : List ℕ} {n : ℕ} (l : Listed m t r
     ];
   }
 
+-- a list that is changed from the front: from b on it is as x
+pub record AheadOf (x l : List ℕ) (b : ℕ) : Type 0 where
+  pub at : (k : ℕ) → b ≤ k → getD l k 0 ≡ getD x k 0
+
+pub ahead-more : {x l : List ℕ} {b : ℕ} (v : ℕ) → AheadOf x l b → AheadOf x (set l b v) (b + 1)
+ahead-more {x} {l} {b} v a = record { at = λ k h. getD-set-other l b k v 0 (λ z. omega arith) ∙ a .at k (omega arith) }
+
+-- the sum of two lists of bytes, byte by byte
+xored : (n : ℕ) (x y : List ℕ) → Bytes x → Bytes y → tabulate n (λ b. bitXor (getD x b 0) (getD y b 0)) ≡ pack n (λ i. coord x i + coord y i)
+xored n x y sx sy = pack-of n _ (λ i. coord x i + coord y i) (λ b h. xor-lt 8 (getD x b 0) (getD y b 0) (sx b) (sy b)) (λ b j h l.
+    rw (coord-digit x b j l, coord-digit y b j l) (xor-bit (getD x b 0) (getD y b 0) j))
+
 -- the sum of the rows `shift` places on from the first n listed places
 abbrev pub overPlaces : ℕ → List ℕ → List ℕ → ℕ → ℕ → ℕ → List ℕ
 overPlaces m t places from shift n =
@@ -116,7 +128,7 @@ module _ (m : ℕ) (t places : List ℕ) (from shift : ℕ) where
       let a = from-operand carriedBytes m (λ s. sum n (λ q. coord (row m t ((getD places (from + q) 0 + shift) % m)) s)) in
       let b = row-operand s r l in
       tabulate-ext carriedBytes _ (λ b. bitXor (getD (overPlaces m t places from shift n) b 0) (getD (carriedRow m t r) b 0)) (λ b h. rw (same b h))
-      ∙ xored-bytes carriedBytes (overPlaces m t places from shift n) (carriedRow m t r) (a .byte) (b .byte)
+      ∙ xored carriedBytes (overPlaces m t places from shift n) (carriedRow m t r) (a .byte) (b .byte)
       ∙ rw length-from at (sum-bytes m (overPlaces m t places from shift n) (carriedRow m t r) (clear-of m _ (a .clear)) (clear-of m _ (b .clear)))
       ∙ from-ext carriedBytes m _ _ (λ i h.
       rw (add-one, coord-carried carriedBytes (row m t r) (row-short _ _ _ (sized s) l) i, coord-from carriedBytes m _ (omega arith) i h, ← e) (omega arith))

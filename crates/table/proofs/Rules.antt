@@ -1,13 +1,21 @@
 -- Rules 5 and 6 of the check: the fault that is given where the test of one row or of one pair fails.
-use mathlib.Core.Path.{_≡_, refl}
-use mathlib.Core.Bool.{not}
+-- mirror-back, half-search: rule 5 for row d is that for row m-d, so that half of the rows are enough.
+use mathlib.Core.Path.{_≡_, refl, sym, ap, _∙_}
+use mathlib.Core.Bool.{true, not}
 use mathlib.Core.List.{List}
-use Prim.Native.Nat.{ℕ, _-_}
+use Prim.Native.Nat.{ℕ, zero, suc, _+_, _-_, _*_, _<_, _≤_}
+use native.Mathlib.Omega.{arith}
+use Rattle.gf2.specs.Operands.{bytesFor, IsOperand, turned}
+use Rattle.gf2.specs.Tables.{row}
+use Rattle.gf2.proofs.Index.{at, at-add, at-all}
+use Rattle.gf2.proofs.Vector.{turn, turn-turn, turn-z}
+use Rattle.gf2.proofs.OperandVectors.{bytes-fit, vec, bytes, operand-vec, turned-bytes}
 use Rattle.operand.specs.declared.fault.Fault.{Fault}
-use Rattle.operand.specs.declared.fault.Fault.the-variants.{RowPair, Triple}
+use Rattle.operand.specs.declared.fault.Fault.the-variants.{None, RowPair, Triple}
 use Rattle.operand.specs.Faults.{when, firstFrom}
 use Rattle.table.specs.Judgements.{rowPairFault, tripleFault}
-use Rattle.table.specs.Rows.{mirrors, leftProduct, rightProduct, associates}
+use Rattle.table.specs.Rows.{Shaped, mirrors, leftProduct, rightProduct, associates}
+use Rattle.table.proofs.Searches.{same-correct, when-passes, first-none}
 
 module _ (m : ℕ) (t : List ℕ) where
   -- 5 for row d
@@ -28,3 +36,29 @@ module _ (m : ℕ) (t : List ℕ) where
   pub triple-search : tripleFault m t ≡ firstFrom 0 m rowFault
   unfolding tripleFault associates leftProduct rightProduct
   triple-search = refl
+
+-- a turn and the rest of the way round
+turn-home : (p n : ℕ) → suc p ≤ 8 * n → (d : ℕ) → d ≤ suc p → {x : List ℕ} → IsOperand n (suc p) x → turned (suc p) d (turned (suc p) (suc p - d) x) ≡ x
+turn-home p n fits d h {x} o =
+    let v = vec p x in
+    let whole : suc p - d + d ≡ suc p = omega arith in
+    ap (λ y. turned (suc p) d (turned (suc p) (suc p - d) y)) (operand-vec p o)
+    ∙ ap (turned (suc p) d) (turned-bytes p n fits (suc p - d) v) ∙ turned-bytes p n fits d (turn (at (suc p - d)) v)
+    ∙ ap (bytes p n) (turn-turn (at d) (at (suc p - d)) v ∙ ap (λ k. turn k v) (at-add (suc p - d) d ∙ ap at whole ∙ at-all) ∙ turn-z v)
+    ∙ sym (operand-vec p o)
+
+mirror-back : {m : ℕ} {t : List ℕ} → Shaped m t → (d : ℕ) → 1 ≤ d → d < m → mirrors m t (m - d) ≡ true → mirrors m t d ≡ true
+unfolding mirrors
+mirror-back {m = zero} {t} s d l h e = absurd (omega arith)
+mirror-back {m = suc p} {t} s d l h e =
+    let whole : suc p - (suc p - d) ≡ d = omega arith in
+    let back = same-correct _ _ .0 e ∙ ap (λ k. turned (suc p) (suc p - d) (row (suc p) t k)) whole in
+    same-correct _ _ .1 (sym (ap (turned (suc p) d) back ∙ turn-home p (bytesFor (suc p)) (bytes-fit (suc p)) d (omega arith) (s .isTable .rows d h)))
+
+-- the rows from 1 to d-1 pass
+pub record MirrorsTo (m : ℕ) (t : List ℕ) (d : ℕ) : Type 0 where
+  pub at : (k : ℕ) → 1 ≤ k → k < d → mirrors m t k ≡ true
+
+pub half-search : {m : ℕ} {t : List ℕ} → Shaped m t → (d : ℕ) → m < d + d → MirrorsTo m t d → firstFrom d (m - d) (mirrorFault m t) ≡ None
+half-search {m} {t} s d h passed = first-none (mirrorFault m t) d (m - d) .1 (λ k l q.
+    when-passes _ (RowPair k) (mirror-back s k (omega arith) (omega arith) (passed .at (m - k) (omega arith) (omega arith))))

@@ -57,6 +57,24 @@ module _ {x y : List ℕ} {b : ℕ} (agree : AgreeTo x y b) where
 pub agree-stop : (x y : List ℕ) (b : ℕ) → (getD x b 0 ≡ getD y b 0 → ⊥) → false ≡ same x y
 agree-stop x y b n = bool-ext _ _ (λ e. absurd (true≢false (sym e))) (λ e. absurd (n (ap (λ l. getD l b 0) (same-correct x y .0 e))))
 
+-- a loop that looks at every byte: r says whether the first b agree
+pub record Compared (x y : List ℕ) (b : ℕ) (r : Bool) : Type 0 where
+  pub agree : r ≡ true → AgreeTo x y b
+  pub differ : r ≡ false → same x y ≡ false
+
+pub compared-none : (x y : List ℕ) → Compared x y 0 true
+compared-none x y = record { agree = λ e. agree-none x y; differ = λ e. absurd (true≢false e) }
+
+pub compared-stop : (x y : List ℕ) (b : ℕ) → (getD x b 0 ≡ getD y b 0 → ⊥) → Compared x y (b + 1) false
+compared-stop x y b n = record { agree = λ e. absurd (true≢false (sym e)); differ = λ e. sym (agree-stop x y b n) }
+
+pub compared-more : {x y : List ℕ} {b : ℕ} {r : Bool} → Compared x y b r → getD x b 0 ≡ getD y b 0 → Compared x y (b + 1) r
+compared-more c e = record { agree = λ q. agree-more (c .agree q) e; differ = c .differ }
+
+pub compared-all : {x y : List ℕ} {b : ℕ} (r : Bool) → Compared x y b r → length x ≡ length y → length x ≤ b → r ≡ same x y
+compared-all true c e h = agree-all (c .agree refl) e h
+compared-all false c e h = sym (c .differ refl)
+
 -- a fault that is given where a test fails
 pub when-passes : (b : Bool) (f : Fault) → b ≡ true → when (not b) f ≡ None
 when-passes b f e = rw e

@@ -3,20 +3,21 @@ use mathlib.Core.Path.{_≡_, refl, sym, ap, _∙_}
 use mathlib.Core.Logic.{_↔_}
 use mathlib.Core.Bool.{Bool, true, false, not, true≢false}
 use mathlib.Core.List.{List, [], _∷_}
-use Prim.Native.Nat.{ℕ, _+_, _*_, _%_, _<_, _≤_}
-use native.Mathlib.Nat.{suc-mul, mul-le-mul-right, mul-le-mul, mod-lt}
+use Prim.Native.Nat.{ℕ, _+_, _-_, _*_, _/_, _%_, _^_, _<_, _≤_}
+use native.Mathlib.Nat.{suc-mul, mul-le-mul-right, mul-le-mul, mod-lt, lt-of-le-of-lt, lt-of-lt-of-le, div-eq-of-lt, zero-div}
 use native.Mathlib.Numerals.{add-one}
 use native.Mathlib.Decide.{decLt}
 use native.Mathlib.Omega.{arith}
-use lib.ListN.{length, drop, length-drop, List·getD-eq-default}
+use lib.ListN.{length, getD, drop, length-drop, List·getD-eq-default}
+use lib.Pow.{shr-shr, shr-le, pow-mono}
 use lib.Seq.{length-take-le, getD-take, getD-drop}
-use Rattle.gf2.specs.Sums.{every}
-use Rattle.gf2.specs.Coordinates.{coord}
+use Rattle.gf2.specs.Sums.{sum, every}
+use Rattle.gf2.specs.Coordinates.{coord, value}
 use Rattle.gf2.specs.Operands.{maxWidth, bytesFor, carriedBytes, IsOperand, isClear}
 use Rattle.gf2.specs.Tables.{row}
 use Rattle.gf2.proofs.Parity.{bool-ext}
 use Rattle.gf2.proofs.Sums.{every-at, every-of}
-use Rattle.gf2.proofs.Coordinates.{length-pack, pack-byte}
+use Rattle.gf2.proofs.Coordinates.{length-pack, pack-byte, coord-past, coord-digit, value-eq}
 use Rattle.gf2.proofs.Operands.{clear-at, clear-of}
 use Rattle.operand.specs.declared.fault.Fault.{Fault}
 use Rattle.operand.specs.declared.fault.Fault.the-variants.{None, HighBit}
@@ -74,6 +75,10 @@ module _ (m d : ℕ) (t : List ℕ) (h : length t ≡ m * bytesFor m) (l : d < m
   unfolding row
   row-length = length-take-le _ _ (rw length-drop (omega (arith, row-within)))
 
+  pub row-getD : (b : ℕ) → b < bytesFor m → getD (row m t d) b 0 ≡ getD t (d * bytesFor m + b) 0
+  unfolding row
+  row-getD b q = rw (getD-take {A = ℕ} (bytesFor m) (drop (d * bytesFor m) t) b 0 q, getD-drop)
+
   pub row-byte : Bytes t → Bytes (row m t d)
   unfolding row
   row-byte small b = elim (decLt b (bytesFor m)) [
@@ -83,16 +88,6 @@ module _ (m d : ℕ) (t : List ℕ) (h : length t ≡ m * bytesFor m) (l : d < m
 
 pub row-short : (m d : ℕ) (t : List ℕ) → Sized m (length t) → d < m → length (row m t d) ≤ carriedBytes
 row-short m d t s l = let g = s .greatest in omega (arith, row-length m d t (s .exact) l)
-
--- the coordinates of bytes that are carried
-pub clear-carried : (m : ℕ) (x : List ℕ) → length x ≤ carriedBytes → isClear m (carriedBy x) ≡ isClear m x
-clear-carried m x h =
-    let e = coord-carried carriedBytes x h in
-    bool-ext _ _ (λ q. clear-of m x (λ i l. sym (e i) ∙ clear-at m _ q i l)) (λ q. clear-of m _ (λ i l. e i ∙ clear-at m x q i l))
-
-pub high-carried : (m : ℕ) (x : List ℕ) → length x ≤ carriedBytes → highFault m (carriedBy x) ≡ highFault m x
-unfolding highFault
-high-carried m x h = ap (λ b. when (not b) HighBit) (clear-carried m x h)
 
 pub carried-operand : {m n : ℕ} {x : List ℕ} → n ≤ carriedBytes → IsOperand n m x → IsOperand carriedBytes m (carriedBy x)
 carried-operand {m} {n} {x} h o = record {
@@ -140,13 +135,37 @@ module _ (m : ℕ) (t : List ℕ) where
   unfolding rowsFault
   rows-done e = when-passes _ HighBit e
 
-  pub rows-hit : (d : ℕ) → d < m → isNone (highFault m (row m t d)) ≡ false → highFault m (row m t d) ≡ rowsFault m t
-  unfolding highFault rowsFault isNone
-  rows-hit d l e = go (clearRow d) refl
+  pub rows-broken : (d : ℕ) → d < m → clearRow d ≡ false → rowsFault m t ≡ HighBit
+  unfolding rowsFault
+  rows-broken d l e = when-fails _ HighBit (bool-ext _ _ (λ z. sym e ∙ every-at m clearRow z d l) (λ z. absurd (true≢false (sym z))))
+
+-- the bits at m and above of m/8 bytes, rounded up
+module _ (m : ℕ) (x : List ℕ) (size : length x ≡ bytesFor m) where
+  pub clear-whole : m % 8 ≡ 0 → isClear m x ≡ true
+  clear-whole e = clear-of m x (λ i l. coord-past x i (omega (arith, size)))
+
+  pub clear-end : getD x (m / 8) 0 / 2 ^ (m % 8) ≡ 0 → isClear m x ≡ true
+  clear-end e = clear-of m x (λ i l. elim (decLt i (8 * length x)) [
+    | yes q ↦ let d : i ≡ m / 8 * 8 + (i - m / 8 * 8) = omega arith in
+        let k : i - m / 8 * 8 ≡ m % 8 + (i - m / 8 * 8 - m % 8) = omega arith in
+        ap (coord x) d ∙ coord-digit x (m / 8) (i - m / 8 * 8) (omega (arith, size))
+        ∙ ap (λ n. getD x (m / 8) 0 / 2 ^ n % 2) k
+        ∙ ap (λ y. y % 2) (sym (shr-shr (getD x (m / 8) 0) (m % 8) (i - m / 8 * 8 - m % 8)) ∙ ap (λ y. y / 2 ^ (i - m / 8 * 8 - m % 8)) e ∙ zero-div _)
+    | no q ↦ coord-past x i (omega arith)
+  ])
+
+  pub clear-broken : Bytes x → (getD x (m / 8) 0 / 2 ^ (m % 8) ≡ 0 → ⊥) → isClear m x ≡ false
+  clear-broken small n = go (isClear m x) refl
     where
-      go : (b : Bool) → clearRow d ≡ b → highFault m (row m t d) ≡ rowsFault m t
-      go true q = absurd (true≢false (sym (none-true (when-passes _ HighBit q)) ∙ e))
-      go false q = when-fails _ HighBit q ∙ sym (when-fails _ HighBit (bool-ext _ _ (λ z. sym q ∙ every-at m clearRow z d l) (λ z. absurd (true≢false (sym z)))))
+      bits : isClear m x ≡ true → (j : ℕ) → j < 8 → getD x (m / 8) 0 / 2 ^ (m % 8) / 2 ^ j % 2 ≡ 0
+      bits e j l = ap (λ y. y % 2) (shr-shr (getD x (m / 8) 0) (m % 8) j) ∙ elim (decLt (m % 8 + j) 8) [
+        | yes q ↦ sym (coord-digit x (m / 8) (m % 8 + j) q) ∙ clear-at m x e (m / 8 * 8 + (m % 8 + j)) (omega arith)
+        | no q ↦ ap (λ y. y % 2) (div-eq-of-lt (lt-of-lt-of-le (small (m / 8)) (pow-mono {i = 8} (omega arith))))
+      ]
+
+      go : (b : Bool) → isClear m x ≡ b → isClear m x ≡ false
+      go true e = absurd (n (value-eq 8 (λ j. 0) _ (lt-of-le-of-lt (shr-le (getD x (m / 8) 0) (m % 8)) (small (m / 8))) (bits e) ∙ (unfold value sum in refl)))
+      go false e = e
 
 -- a table of bytes has no fault of shape just where it is shaped
 pub shape-fine : (m : ℕ) (t : List ℕ) → Bytes t → (shapeFault m t ≡ None) ↔ Shaped m t

@@ -7,7 +7,7 @@ ghost use Rattle.gf2.specs.Operands.{maxWidth, bytesFor};
 ghost use Rattle.operand.specs.Faults.{firstOf};
 ghost use Rattle.operand.specs.Judgements.{widthFault, lengthFault};
 ghost use Rattle.table.specs.Rows.{Shaped, carriedRow};
-ghost use Rattle.table.specs.Judgements.{shapeFault};
+ghost use Rattle.table.specs.Judgements.{rowsFault, shapeFault};
 ghost use Rattle.table.specs.Calls.{rowCall};
 use operand::Fault;
 use operand::Operand;
@@ -48,6 +48,27 @@ pub fn row(width: usize, table: &[u8], d: usize) -> OperandAnswer
     Operand::read(width, &table[from..from + size])
 }
 
+// Bits at the width and above can stand only in the last byte of a row, and in none where the width is a multiple of 8.
+fn judge_ends(width: usize, table: &[u8]) -> Fault
+    requires { ⌜ (width ≤ maxWidth) × (length (now table) ≡ width * bytesFor width) ⌝ }
+    ensures { λ r. ⌜ r ≡ rowsFault width (now (table .entry)) ⌝ }
+{
+    let used = width % 8;
+    if used == 0 {
+        return Fault::None;
+    }
+    let size = operand::bytes_for(width);
+    let mut d = 0;
+    while d < width {
+        let last = table[d * size + width / 8];
+        if last >> used != 0 {
+            return Fault::HighBit;
+        }
+        d += 1;
+    }
+    Fault::None
+}
+
 // The shape of a table: width, length, and the bits of each row.
 pub fn judge_shape(width: usize, table: &[u8]) -> Fault
     ensures { λ r. ⌜ r ≡ shapeFault width (now (table .entry)) ⌝ }
@@ -56,15 +77,7 @@ pub fn judge_shape(width: usize, table: &[u8]) -> Fault
     if !operand::is_none(fault) {
         return fault;
     }
-    let mut d = 0;
-    while d < width {
-        let high = operand::judge_high(row_bytes(width, table, d), width);
-        if !operand::is_none(high) {
-            return high;
-        }
-        d += 1;
-    }
-    Fault::None
+    judge_ends(width, table)
 }
 
 // Row d of a table that has passed the judgement of its shape.

@@ -86,15 +86,15 @@ pub(crate) fn wrapped(place: usize, width: usize) -> usize
     if place < width { place } else { place - width }
 }
 
-// The sum of `total` and the row that stands from `from` on.
+// The sum of `total` and the row that stands from `from` on. Summed in place, the total stays in registers.
 fn plus_stored(total: [u8; Operand::BYTES], rows: &[u8], from: usize) -> [u8; Operand::BYTES]
     requires { ⌜ from + carriedBytes ≤ length (now rows) ⌝ }
     ensures { λ r. ⌜ r ≡ tabulate carriedBytes (λ b. bitXor (getD total b 0) (getD (now (rows .entry)) (from + b) 0)) ⌝ }
 {
-    let mut out = [0u8; Operand::BYTES];
+    let mut out = total;
     let mut b = 0;
     while b < Operand::BYTES {
-        out[b] = total[b] ^ rows[from + b];
+        out[b] = out[b] ^ rows[from + b];
         b += 1;
     }
     out

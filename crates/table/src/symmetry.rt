@@ -9,17 +9,19 @@ use crate::rows;
 use operand::Fault;
 use operand::Operand;
 
+// Every byte is looked at, which is compiled to a few comparisons of many bytes.
 pub(crate) fn same_bytes(x: [u8; Operand::BYTES], y: [u8; Operand::BYTES]) -> bool
     ensures { λ r. ⌜ r ≡ same x y ⌝ }
 {
+    let mut same = true;
     let mut b = 0;
     while b < Operand::BYTES {
         if x[b] != y[b] {
-            return false;
+            same = false;
         }
         b += 1;
     }
-    true
+    same
 }
 
 // The bytes of the basis operand whose only coordinate is k, in the first byte.
@@ -53,12 +55,13 @@ fn mirrored(width: usize, table: &[u8], d: usize) -> bool
     same_bytes(rows::row_bytes(width, table, d), turned_bytes)
 }
 
+// Rows d and m-d are looked at once: if one is the other turned, so is the other.
 fn judge_row_pairs(width: usize, table: &[u8]) -> Fault
     requires { ⌜ Shaped width (now table) ⌝ }
     ensures { λ r. ⌜ r ≡ rowPairFault width (now (table .entry)) ⌝ }
 {
     let mut d = 1;
-    while d < width {
+    while d <= width / 2 {
         if !mirrored(width, table, d) {
             return Fault::RowPair(d);
         }

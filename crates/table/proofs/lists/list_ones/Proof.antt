@@ -56,7 +56,8 @@ loop-again c =
       places-add (w .0) (x .0 .taken) (omega (arith, w .0 .few, w .3)),
       record { stored = λ b h. absurd (omega arith); kept = stored-kept (w .1) _ _ (omega arith) },
       omega arith,
-      simp length-set (w .3)))
+      simp length-set (w .3),
+    ))
     (λ x. rw (x .1, x .2) (places-skip (w .0) (omega (arith, x .0 .left)), w .1, omega arith, w .3))
     (c .if1 .came)
 

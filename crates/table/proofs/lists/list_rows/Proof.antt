@@ -66,7 +66,7 @@ loop-again c =
     let stored = c .before .before .before .before .before .before .store-row in
     let listed = c .before .before .list-ones in (
       listed-more (inv .0) _ (s .greatest) (omega (arith, s .greatest, w .loop-test .taken, inv .2 .forCounts))
-        (rw x at (stored .ensures)) (rw x at (listed .ensures .0)) (rw x at (listed .ensures .1)),
+          (rw x at (stored .ensures)) (rw x at (listed .ensures .0)) (rw x at (listed .ensures .1)),
       omega (arith, w .loop-test .taken),
       record {
         forRows = stored .kept .1 .0 ∙ inv .2 .forRows;

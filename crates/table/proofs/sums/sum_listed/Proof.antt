@@ -97,8 +97,8 @@ loop-again c =
     let place = r .ensures ∙ ap (λ x. (x + a .t) % a .width) (c .before .before .wide2 .ensures) in (
       omega (arith, c .before .before .before .before .loop-test .taken),
       c .plus-stored .ensures
-        ∙ ap (λ x. tabulate carriedBytes (λ b. bitXor (getD x b 0) (getD (a .rows .now) (r .result * carriedBytes + b) 0))) (w .inv .1)
-        ∙ places-step (a .width) (a .table .now) (a .places .now) (a .d * maxWidth) (a .t) (p .0) (a .rows .now) (w .n) (r .result) place (λ b h. p .2 .row _ b (below (c .before)) h),
+          ∙ ap (λ x. tabulate carriedBytes (λ b. bitXor (getD x b 0) (getD (a .rows .now) (r .result * carriedBytes + b) 0))) (w .inv .1)
+          ∙ places-step (a .width) (a .table .now) (a .places .now) (a .d * maxWidth) (a .t) (p .0) (a .rows .now) (w .n) (r .result) place (λ b h. p .2 .row _ b (below (c .before)) h),
     )
 
 returns : tie.Need-returns Inv-loop μ-loop

@@ -1,35 +1,36 @@
 -- `table::symmetry::judge_row_pairs` meets its contract.
 use mathlib.Core.Path.{_≡_, sym, ap, _∙_}
 use Prim.Native.Nat.{_-_, _≤_}
+use native.Mathlib.Decide.{ℕ-discrete}
 use native.Mathlib.Omega.{arith}
 use borrow.Author.Tests.{not-true, not-false}
 use Rattle.operand.specs.declared.fault.Fault.the-variants.{RowPair}
 use Rattle.operand.specs.Faults.{isNone, firstFrom}
 use Rattle.table.specs.Judgements.{rowPairFault}
-use Rattle.table.proofs.Searches.{when-passes, when-fails, none-true, first-done, first-hit, first-miss}
-use Rattle.table.proofs.Rules.{mirrorFault, mirror-search}
+use Rattle.table.proofs.Searches.{when-passes, when-fails, none-true, first-hit, first-miss}
+use Rattle.table.proofs.Rules.{mirrorFault, mirror-search, MirrorsTo, half-search}
 use borrow.Author.Needs.{needs}
 use Rattle.table.proofs.symmetry.judge_row_pairs.Statement.{statement}
 use Rattle.table.proofs.symmetry.judge_row_pairs.Tie as tie
 
 abbrev Inv-loop : tie.InvT-loop
-Inv-loop width table d₀ d = (1 ≤ d) × (rowPairFault width table ≡ firstFrom d (width - d) (mirrorFault width table))
+Inv-loop width table d₀ d = (1 ≤ d) × (rowPairFault width table ≡ firstFrom d (width - d) (mirrorFault width table)) × (MirrorsTo width table d)
 
 abbrev μ-loop : tie.MeasureT-loop
 μ-loop width table d₀ d = width - d
 
 loop-holds : tie.Need-loop-holds Inv-loop μ-loop
-loop-holds c = (omega arith, mirror-search _ _)
+loop-holds c = (omega arith, mirror-search _ _, record { at = λ k l h. absurd (omega arith) })
 
 mirrored-requires : tie.Need-mirrored-requires Inv-loop μ-loop
-mirrored-requires c κs = (c .before .before .before .pre, c .before .loop .inv .0, c .loop-test .taken)
+mirrored-requires c κs = let s = c .before .before .before .pre in (s, c .before .loop .inv .0, omega (arith, s .least, c .loop-test .taken))
 
 returns : tie.Need-returns Inv-loop μ-loop
 unfolding isNone
 returns c =
     let s = c .before .before .before in
     let e = when-fails _ (RowPair (s .loop .d)) (sym (c .before .mirrored .ensures) ∙ not-true _ (c .if1 .taken)) in
-    sym (s .loop .inv .1 ∙ first-hit _ _ _ (c .before .before .loop-test .taken) (ap isNone e) ∙ e)
+    sym (s .loop .inv .1 ∙ first-hit _ _ _ (omega (arith, s .before .before .pre .least, c .before .before .loop-test .taken)) (ap isNone e) ∙ e)
 
 add-d : tie.Need-add-d Inv-loop μ-loop
 add-d c = search needs
@@ -40,11 +41,17 @@ loop-less c = search needs
 loop-again : tie.Need-loop-again Inv-loop μ-loop
 loop-again c =
     let s = c .before .before .before in
-    let e = when-passes _ (RowPair (s .loop .d)) (sym (c .before .mirrored .ensures) ∙ not-false _ (c .if1 .left)) in
-    (omega arith, s .loop .inv .1 ∙ first-miss _ _ _ (c .before .before .loop-test .taken) (none-true e))
+    let mirrors = sym (c .before .mirrored .ensures) ∙ not-false _ (c .if1 .left) in
+    let e = when-passes _ (RowPair (s .loop .d)) mirrors in (
+      omega arith,
+      s .loop .inv .1 ∙ first-miss _ _ _ (omega (arith, s .before .before .pre .least, c .before .before .loop-test .taken)) (none-true e),
+      record { at = λ k l h. elim (ℕ-discrete k (s .loop .d)) [ yes q ↦ rw q mirrors | no q ↦ s .loop .inv .2 .at k l (omega arith) ] },
+    )
 
 returns-2 : tie.Need-returns-2 Inv-loop μ-loop
-returns-2 c = sym (c .before .loop .inv .1 ∙ first-done _ _ _ (omega arith))
+returns-2 c =
+    let l = c .before .loop in
+    sym (l .inv .1 ∙ half-search (c .before .before .before .pre) _ (omega (arith, c .loop-test .left)) (l .inv .2))
 
 pub judge-row-pairs-spec : {M : Type 1} → statement M
 judge-row-pairs-spec =
