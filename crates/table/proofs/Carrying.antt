@@ -11,7 +11,7 @@ use lib.Dec.{eqb}
 use borrow.Author.Tests.{eqb-true, ne-eqb}
 use Rattle.gf2.specs.Sums.{every}
 use Rattle.gf2.specs.Coordinates.{coord, tabulate}
-use Rattle.gf2.specs.Operands.{bytesFor, carriedBytes, minus, choose, IsOperand, below, fromCoords, ones, turned}
+use Rattle.gf2.specs.Operands.{bytesFor, carriedBytes, minus, choose, IsOperand, below, fromCoords, turned}
 use Rattle.gf2.specs.Tables.{basis}
 use Rattle.gf2.specs.Products.{product}
 use Rattle.gf2.specs.Check.{rowSum}
@@ -60,10 +60,6 @@ right-operand m t i j = product-operand t _ (basis-operand m 0)
 pub sum-operand : (m : ℕ) (t : List ℕ) → IsOperand (bytesFor m) m (rowSum m t)
 unfolding rowSum
 sum-operand m t = from-operand (bytesFor m) m _
-
-pub one-operand : (m : ℕ) → IsOperand carriedBytes m (ones carriedBytes m)
-unfolding ones
-one-operand m = from-operand carriedBytes m _
 
 -- the basis operand of a coordinate in the first byte
 power-test : ℕ → ℕ → Bool

@@ -2,7 +2,7 @@
 -- Shapes: tables without fault of shape: their rows, as they lie in the table and carried.
 -- Carrying: operands of W bytes and the same operands carried.
 -- Rules: rules 5 and 6 as tests of one row and of one pair.
--- RowSums: sums of rows: how a loop makes them, and which products they are.
+-- RowSums: sums of rows: which products they are, and the sum of all rows.
 -- Listing: rows laid out and their ones listed, and sums over listed places.
 -- TableOnes: the number of ones in a table, byte by byte.
 -- Theorems: the proofs of the statements in specs/Statements.antt.

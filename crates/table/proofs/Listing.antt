@@ -14,7 +14,7 @@ use lib.Seq.{getD-set-same, getD-set-other}
 use lib.Bits.{bitXor, xor-lt}
 use Rattle.gf2.specs.Sums.{sum}
 use Rattle.gf2.specs.Coordinates.{coord, tabulate, pack}
-use Rattle.gf2.specs.Operands.{maxWidth, carriedBytes, minus, fromCoords, zeroes, added, IsOperand}
+use Rattle.gf2.specs.Operands.{maxWidth, carriedBytes, minus, fromCoords, zeroes, added}
 use Rattle.gf2.specs.Tables.{row}
 use Rattle.gf2.proofs.Sums.{sum-ext}
 use Rattle.gf2.proofs.Coordinates.{tabulate-ext, coord-digit, pack-of, xor-bit}

@@ -1,22 +1,19 @@
--- Sums of rows: how a loop makes them, coordinate by coordinate, and which products they are.
--- over-none, over-skip, over-add, over-byte, over-all: the start, a coordinate, a zero byte, the end.
--- left-sum, right-sum: under rules 4 and 5 the two sides of rule 6; all-sum: the sum of all rows.
+-- Sums of rows.
+-- left-sum, right-sum: under rules 4 and 5 the two sides of rule 6.
+-- rows-none, rows-more, rows-all: the sum of all rows, row after row.
 use mathlib.Core.Path.{_≡_, refl, sym, ap, ap₂, fun-ext, _∙_}
 use mathlib.Core.Bool.{_&&_}
 use mathlib.Core.List.{List}
-use Prim.Native.Nat.{ℕ, zero, suc, _+_, _-_, _*_, _/_, _%_, _^_, _<_, _≤_}
-use native.Mathlib.Nat.{zero-mul, one-mul, add-zero, mod-lt, mod-eq-of-lt, zero-div}
+use Prim.Native.Nat.{ℕ, zero, suc, _+_, _-_, _*_, _%_, _<_, _≤_}
+use native.Mathlib.Nat.{mod-lt, mod-eq-of-lt}
 use native.Mathlib.Numerals.{add-one}
 use native.Mathlib.Omega.{arith}
-use lib.ListN.{length, getD}
 use Rattle.gf2.specs.Sums.{sum}
 use Rattle.gf2.specs.Coordinates.{coord}
-use Rattle.gf2.specs.Operands.{maxWidth, bytesFor, carriedBytes, minus, IsOperand, zeroes, ones, added, turned}
+use Rattle.gf2.specs.Operands.{bytesFor, carriedBytes, minus, IsOperand, fromCoords, zeroes, added, turned}
 use Rattle.gf2.specs.Tables.{row}
 use Rattle.gf2.specs.Check.{Symmetric, rowSum}
-use Rattle.gf2.proofs.Sums.{sum-ext}
-use Rattle.gf2.proofs.Coordinates.{coord-digit}
-use Rattle.gf2.proofs.Operands.{coord-from, from-operand, from-ext, length-from, minus-below}
+use Rattle.gf2.proofs.Operands.{coord-from, from-operand, from-ext, length-from}
 use Rattle.gf2.proofs.Parity.{bits, odd, odd-mul}
 use Rattle.gf2.proofs.Index.{Ix, at, o, _⊹_, _⊖_, num-at, num-minus, at-minus, at-neg, add-sub, add-neg, sub-eq}
 use Rattle.gf2.proofs.IndexSums.{Σ-ext, odd-Σ}
@@ -25,7 +22,7 @@ use Rattle.gf2.proofs.VectorProduct.{_·_, pair, pair-swap, rule6-left, rule6-r
 use Rattle.gf2.proofs.OperandVectors.{bytes-fit, vec, bytes, from-vec, basis-vec, turned-bytes}
 use Rattle.gf2.proofs.TableVectors.{rows, product-bytes, symmetric}
 use Rattle.operand.specs.Faults.{isNone}
-use Rattle.operand.specs.Calls.{answer, zeroCall, oneCall}
+use Rattle.operand.specs.Calls.{answer, zeroCall}
 use Rattle.operand.proofs.FaultFree.{IsWidth, done, width-none}
 use Rattle.operand.proofs.CallLaws.{coord-carried}
 use Rattle.table.specs.Rows.{Shaped, carriedBy, carriedRow, rowsOver, leftProduct, rightProduct}
@@ -44,45 +41,9 @@ pub zero-done : {m : ℕ} → IsWidth m → zeroCall m ≡ done m (zeroes carrie
 unfolding answer isNone
 zero-done {m} w = rw (width-none m w)
 
-pub one-done : {m : ℕ} → IsWidth m → oneCall m ≡ done m (ones carriedBytes m)
-unfolding answer isNone
-one-done {m} w = rw (width-none m w)
-
--- how a loop makes a sum
-module _ (m : ℕ) (t x : List ℕ) (j : ℕ) where
-  pub over-operand : (n : ℕ) → IsOperand carriedBytes m (rowsOver m t x j n)
-  unfolding rowsOver
-  over-operand n = from-operand carriedBytes m _
-
-  pub over-none : zeroes carriedBytes m ≡ rowsOver m t x j 0
-  unfolding rowsOver zeroes sum
-  over-none = refl
-
-  pub over-skip : (k : ℕ) → coord x k ≡ 0 → rowsOver m t x j k ≡ rowsOver m t x j (k + 1)
-  unfolding rowsOver sum
-  over-skip k e = rw add-one (from-ext carriedBytes m _ _ (λ s l. rw (e, zero-mul, add-zero)))
-
-  pub over-add : m ≤ maxWidth → (k : ℕ) → coord x k ≡ 1 → length (row m t (minus m k j)) ≤ carriedBytes
-      → added m (rowsOver m t x j k) (carriedRow m t (minus m k j)) ≡ rowsOver m t x j (k + 1)
-  unfolding rowsOver sum added
-  over-add h k e short = rw (add-one, length-from) (from-ext carriedBytes m _ _ (λ s l.
-      rw (coord-carried carriedBytes (row m t (minus m k j)) short s, coord-from carriedBytes m _ (omega arith) s l, e, one-mul) (omega arith)))
-
-  over-clear : (k n : ℕ) → ((i : ℕ) → i < n → coord x (k + i) ≡ 0) → rowsOver m t x j k ≡ rowsOver m t x j (k + n)
-  over-clear k zero e = ap (rowsOver m t x j) (sym (add-zero k))
-  over-clear k (suc n) e =
-      let place : k + n + 1 ≡ k + suc n = omega arith in
-      over-clear k n (λ i l. e i (omega arith)) ∙ over-skip (k + n) (e n (omega arith)) ∙ ap (rowsOver m t x j) place
-
-  pub over-byte : (b : ℕ) → getD x b 0 ≡ 0 → rowsOver m t x j (b * 8) ≡ rowsOver m t x j ((b + 1) * 8)
-  over-byte b e =
-      let place : b * 8 + 8 ≡ (b + 1) * 8 = omega arith in
-      over-clear (b * 8) 8 (λ i l. coord-digit x b i l ∙ ap (λ y. y % 2) (ap (λ y. y / 2 ^ i) e ∙ zero-div (2 ^ i))) ∙ ap (rowsOver m t x j) place
-
-  pub over-all : IsOperand carriedBytes m x → (n : ℕ) → m ≤ n → rowsOver m t x j n ≡ rowsOver m t x j m
-  over-all o n h =
-      let place : m + (n - m) ≡ n = omega arith in
-      ap (rowsOver m t x j) (sym place) ∙ sym (over-clear m (n - m) (λ i l. o .clear (m + i) (omega arith)))
+pub over-operand : (m : ℕ) (t x : List ℕ) (j n : ℕ) → IsOperand carriedBytes m (rowsOver m t x j n)
+unfolding rowsOver
+over-operand m t x j n = from-operand carriedBytes m _
 
 -- which products they are
 module _ (p : ℕ) (t : List ℕ) (s : Shaped (suc p) t) where
@@ -154,12 +115,20 @@ pub right-sum : {m : ℕ} {t : List ℕ} → Shaped m t → (i j : ℕ) → i < 
 right-sum {m = zero} {t} s i j li lj = absurd (omega arith)
 right-sum {m = suc p} {t} s i j li lj = right-rows p t s i j li lj
 
--- the sum of all rows
-pub all-sum : {m : ℕ} {t : List ℕ} → Shaped m t → rowsOver m t (ones carriedBytes m) 0 m ≡ carriedBy (rowSum m t)
-unfolding rowsOver rowSum ones
-all-sum {m} {t} s =
-    let g = s .greatest in
-    from-ext carriedBytes m _ (λ r. sum m (λ d. coord (row m t d) r)) (λ r l. ap (λ y. y % 2) (sum-ext m _ _ (λ k h.
-    let same : k - 0 ≡ k = omega arith in
-    ap₂ (λ a b. a * coord (row m t b) r) (coord-from carriedBytes m _ (omega arith) k h) (minus-below m k 0 (omega arith) h ∙ same) ∙ one-mul _)))
-    ∙ sym (carried-from {n = bytesFor m} (omega arith) (omega arith) _)
+-- the sum of the first n rows
+abbrev pub firstRows : ℕ → List ℕ → ℕ → List ℕ
+firstRows m t n = fromCoords carriedBytes m (λ s. sum n (λ d. coord (row m t d) s))
+
+pub rows-none : (m : ℕ) (t : List ℕ) → zeroes carriedBytes m ≡ firstRows m t 0
+unfolding zeroes sum
+rows-none m t = refl
+
+module _ {m : ℕ} {t : List ℕ} (s : Shaped m t) where
+  pub rows-more : (d : ℕ) → d < m → added m (firstRows m t d) (carriedRow m t d) ≡ firstRows m t (d + 1)
+  unfolding sum added
+  rows-more d l = let g = s .greatest in rw (add-one, length-from) (from-ext carriedBytes m _ _ (λ i h.
+      rw (coord-carried carriedBytes (row m t d) (row-short _ _ _ (sized s) l) i, coord-from carriedBytes m _ (omega arith) i h) (omega arith)))
+
+  pub rows-all : firstRows m t m ≡ carriedBy (rowSum m t)
+  unfolding rowSum
+  rows-all = let g = s .greatest in sym (carried-from (omega arith) (bytes-fit m) _)

@@ -1,7 +1,7 @@
 -- Tables without fault of shape: their rows, as they lie in the table and carried.
 use mathlib.Core.Path.{_≡_, refl, sym, ap, _∙_}
 use mathlib.Core.Logic.{_↔_}
-use mathlib.Core.Bool.{Bool, true, false, not, true≢false}
+use mathlib.Core.Bool.{Bool, true, false, true≢false}
 use mathlib.Core.List.{List, [], _∷_}
 use Prim.Native.Nat.{ℕ, _+_, _-_, _*_, _/_, _%_, _^_, _<_, _≤_}
 use native.Mathlib.Nat.{suc-mul, mul-le-mul-right, mul-le-mul, mod-lt, lt-of-le-of-lt, lt-of-lt-of-le, div-eq-of-lt, zero-div}
@@ -21,12 +21,12 @@ use Rattle.gf2.proofs.Coordinates.{length-pack, pack-byte, coord-past, coord-di
 use Rattle.gf2.proofs.Operands.{clear-at, clear-of}
 use Rattle.operand.specs.declared.fault.Fault.{Fault}
 use Rattle.operand.specs.declared.fault.Fault.the-variants.{None, HighBit}
-use Rattle.operand.specs.Faults.{isNone, when, orElse, firstOf}
+use Rattle.operand.specs.Faults.{isNone, orElse, firstOf}
 use Rattle.operand.specs.Judgements.{widthFault, lengthFault, highFault, bytesFault}
 use Rattle.operand.specs.Calls.{answer}
 use Rattle.operand.proofs.ByteLoops.{Bytes}
 use Rattle.operand.proofs.CallLaws.{coord-carried}
-use Rattle.operand.proofs.FaultLaws.{or-first, or-second, or-assoc, first-two, first-more, two-fine, width-fine, length-fine}
+use Rattle.operand.proofs.FaultLaws.{or-second, or-assoc, first-two, first-more, two-fine, width-fine, length-fine}
 use Rattle.operand.proofs.FaultFree.{IsWidth, done, width-none, length-none, high-none}
 use Rattle.table.specs.Rows.{Shaped, carriedBy, carriedRow}
 use Rattle.table.specs.Judgements.{rowsFault, shapeFault}

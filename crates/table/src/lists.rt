@@ -1,7 +1,6 @@
 // The rows of a table laid out for the sums of rule 6: carried, one after the other, and the places of the ones of each.
-ghost use mathlib.Core.Path.{_≡_};
 ghost use Prim.Native.Nat.{_+_, _*_, _<_, _≤_};
-ghost use lib.ListN.{length, getD};
+ghost use lib.ListN.{length};
 ghost use Rattle.gf2.specs.Operands.{maxWidth, carriedBytes};
 ghost use Rattle.table.specs.Rows.{Shaped};
 ghost use Rattle.table.specs.Lists.{Stored, Places, Roomy, Listed};

@@ -4,70 +4,26 @@ ghost use Prim.Native.Nat.{_+_, _-_, _*_, _%_, _<_, _≤_};
 ghost use lib.ListN.{length, getD};
 ghost use lib.Bits.{bitXor};
 ghost use Rattle.gf2.specs.Coordinates.{tabulate};
-ghost use Rattle.gf2.specs.Operands.{carriedBytes, IsOperand};
-ghost use Rattle.table.specs.Rows.{Shaped, carriedRow, rowsOver};
+ghost use Rattle.gf2.specs.Operands.{carriedBytes};
+ghost use Rattle.gf2.specs.Check.{rowSum};
+ghost use Rattle.table.specs.Rows.{Shaped, carriedBy, carriedRow, rowsOver};
 ghost use Rattle.table.specs.Lists.{Roomy, Listed};
 use crate::rows;
 use operand::Operand;
 
-// `total` and row k-j where x has coordinate k.
-fn plus_row(
-    width: usize,
-    table: &[u8],
-    x: [u8; Operand::BYTES],
-    j: usize,
-    k: usize,
-    total: Operand,
-) -> Operand
-    requires { ⌜ (Shaped width (now table)) × (j < width) × (k < 8 * carriedBytes) × (total ≡ record { bytes = rowsOver width (now table) x j k; width = width }) ⌝ }
-    ensures { λ r. ⌜ r ≡ record { bytes = rowsOver width (now (table .entry)) x j (k + 1); width = width } ⌝ }
+// The sum of all rows.
+pub(crate) fn sum_of_rows(width: usize, table: &[u8]) -> Operand
+    requires { ⌜ Shaped width (now table) ⌝ }
+    ensures { λ r. ⌜ r ≡ record { bytes = carriedBy (rowSum width (now (table .entry))); width = width } ⌝ }
 {
-    let byte = x[k / 8];
-    if (byte >> (k % 8)) % 2 == 0 {
-        return total;
-    }
-    let answer = total.sum(rows::row_at(width, table, (k + (width - j)) % width));
-    answer.value
-}
-
-// `total` and the rows k-j for the coordinates k of byte b of x.
-fn plus_byte(
-    width: usize,
-    table: &[u8],
-    x: [u8; Operand::BYTES],
-    j: usize,
-    b: usize,
-    total: Operand,
-) -> Operand
-    requires { ⌜ (Shaped width (now table)) × (j < width) × (b < carriedBytes) × (total ≡ record { bytes = rowsOver width (now table) x j (b * 8); width = width }) ⌝ }
-    ensures { λ r. ⌜ r ≡ record { bytes = rowsOver width (now (table .entry)) x j ((b + 1) * 8); width = width } ⌝ }
-{
-    if x[b] == 0 {
-        return total;
-    }
-    let mut sum = total;
-    let mut t = 0;
-    while t < 8 {
-        let next = plus_row(width, table, x, j, b * 8 + t, sum);
-        sum = next;
-        t += 1;
-    }
-    sum
-}
-
-// The sum of the rows k-j over the coordinates k of x.
-pub(crate) fn sum_of_rows(width: usize, table: &[u8], x: Operand, j: usize) -> Operand
-    requires { ⌜ (Shaped width (now table)) × (j < width) × (IsOperand carriedBytes width (x .bytes)) ⌝ }
-    ensures { λ r. ⌜ r ≡ record { bytes = rowsOver width (now (table .entry)) (x .bytes) j width; width = width } ⌝ }
-{
-    let bytes = x.bytes;
     let zero = Operand::zero(width);
     let mut total = zero.value;
-    let mut b = 0;
-    while b < Operand::BYTES {
-        let next = plus_byte(width, table, bytes, j, b, total);
+    let mut d = 0;
+    while d < width {
+        let answer = total.sum(rows::row_at(width, table, d));
+        let next = answer.value;
         total = next;
-        b += 1;
+        d += 1;
     }
     total
 }

@@ -103,13 +103,11 @@ fn judge_listed(width: usize, table: &[u8]) -> Fault
     judge_triples(width, table, &rows, &places, &counts)
 }
 
-// The sum of all rows is the sum of those over the coordinates of one.
 fn judge_row_sum(width: usize, table: &[u8]) -> Fault
     requires { ⌜ Shaped width (now table) ⌝ }
     ensures { λ r. ⌜ r ≡ rowSumFault width (now (table .entry)) ⌝ }
 {
-    let one = Operand::one(width);
-    let sum = sums::sum_of_rows(width, table, one.value, 0);
+    let sum = sums::sum_of_rows(width, table);
     let bytes = sum.bytes;
     if symmetry::same_bytes(bytes, symmetry::basis_bytes(width, 0)) {
         Fault::None

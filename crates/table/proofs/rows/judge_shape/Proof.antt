@@ -1,5 +1,5 @@
 -- `table::rows::judge_shape` meets its contract.
-use mathlib.Core.Path.{_≡_, sym, _∙_}
+use mathlib.Core.Path.{sym, _∙_}
 use lib.ListN.{length}
 use borrow.Author.Tests.{not-true, not-false}
 use Rattle.operand.proofs.FaultLaws.{judged, or-first, or-second}

@@ -1,47 +1,61 @@
 -- `table::sums::sum_of_rows` meets its contract.
-use mathlib.Core.Path.{_≡_, ap, _∙_}
-use Prim.Native.Nat.{_-_, _*_, _≤_}
+use mathlib.Core.Path.{_≡_, ap, ap₂, _∙_}
+use Prim.Native.Nat.{_-_, _≤_}
 use native.Mathlib.Omega.{arith}
 use Rattle.gf2.specs.Operands.{carriedBytes}
+use Rattle.gf2.proofs.Operands.{from-operand}
 use Rattle.operand.specs.declared.OperandAnswer.{OperandAnswer}
-use Rattle.operand.proofs.FaultFree.{carry}
-use Rattle.table.specs.Rows.{rowsOver}
-use Rattle.table.proofs.Shapes.{width-of, sized}
-use Rattle.table.proofs.RowSums.{zero-done, over-none, over-all}
+use Rattle.operand.specs.Calls.{sumCall}
+use Rattle.operand.proofs.FaultFree.{carry, sum-done}
+use Rattle.table.proofs.Shapes.{width-of, sized, row-operand}
+use Rattle.table.proofs.RowSums.{zero-done, firstRows, rows-none, rows-more, rows-all}
 use borrow.Author.Needs.{needs}
 use Rattle.table.proofs.sums.sum_of_rows.Statement.{statement}
 use Rattle.table.proofs.sums.sum_of_rows.Tie as tie
 
 abbrev Inv-loop : tie.InvT-loop
-Inv-loop width table j bytes total₀ b₀ total b = (b ≤ carriedBytes) × (total ≡ carry width (rowsOver width table bytes j (b * 8)))
+Inv-loop width table total₀ d₀ total d = (d ≤ width) × (total ≡ carry width (firstRows width table d))
 
 abbrev μ-loop : tie.MeasureT-loop
-μ-loop width table j bytes total₀ b₀ total b = carriedBytes - b
+μ-loop width table total₀ d₀ total d = width - d
 
 zero-requires : tie.Need-zero-requires Inv-loop μ-loop
 zero-requires c κs = search needs
 
 loop-holds : tie.Need-loop-holds Inv-loop μ-loop
 loop-holds c =
-    let s = c .before .before .before .before .pre in
-    (omega arith, ap (λ (r : OperandAnswer). r .value) (c .before .zero .ensures ∙ zero-done (width-of (sized (s .0)))) ∙ ap (carry _) (over-none _ _ _ _))
+    let s = c .before .before .before .pre in
+    (omega arith, ap (λ (r : OperandAnswer). r .value) (c .before .zero .ensures ∙ zero-done (width-of (sized s))) ∙ ap (carry _) (rows-none _ _))
 
-plus-byte-requires : tie.Need-plus-byte-requires Inv-loop μ-loop
-plus-byte-requires c κs = let s = c .before .before .before .before .before .before .pre in (s .0, s .1, c .loop-test .taken, c .before .loop .inv .1)
+row-at-requires : tie.Need-row-at-requires Inv-loop μ-loop
+row-at-requires c κs = (c .before .before .before .before .before .pre, c .loop-test .taken)
 
-add-b : tie.Need-add-b Inv-loop μ-loop
-add-b c = search needs
+sum-requires : tie.Need-sum-requires Inv-loop μ-loop
+sum-requires c κs = search needs
+
+add-d : tie.Need-add-d Inv-loop μ-loop
+add-d c = search needs
 
 loop-less : tie.Need-loop-less Inv-loop μ-loop
 loop-less c = search needs
 
 loop-again : tie.Need-loop-again Inv-loop μ-loop
-loop-again c = (omega arith, c .plus-byte .ensures)
+loop-again c =
+    let s = c .before .before .before .before .before .before .before .before .pre in
+    let l = c .before .before .before .loop-test .taken in
+    let w = c .before .before .before .before .loop in (
+      omega arith,
+      ap (λ (r : OperandAnswer). r .value)
+          (c .before .sum .ensures ∙ ap₂ sumCall (w .inv .1) (c .before .before .row-at .ensures) ∙ sum-done (width-of (sized s)) (from-operand carriedBytes _ _) (row-operand s _ l))
+          ∙ ap (carry _) (rows-more s _ l),
+    )
 
 returns : tie.Need-returns Inv-loop μ-loop
 returns c =
-    let s = c .before .before .before .before .before .before .pre in
-    c .before .loop .inv .1 ∙ ap (carry _) (over-all _ _ _ _ (s .2) _ (omega (arith, s .0 .greatest)))
+    let a = c .before .before .before .before .before .args in
+    let w = c .before .loop in
+    let e : w .d ≡ a .width = omega arith in
+    w .inv .1 ∙ ap (carry _) (ap (firstRows (a .width) (a .table .now)) e ∙ rows-all (c .before .before .before .before .before .pre))
 
 pub sum-of-rows-spec : {M : Type 1} → statement M
 sum-of-rows-spec =
@@ -51,8 +65,9 @@ sum-of-rows-spec =
     μ-loop
     zero-requires
     loop-holds
-    plus-byte-requires
-    add-b
+    row-at-requires
+    sum-requires
+    add-d
     loop-less
     loop-again
     returns)

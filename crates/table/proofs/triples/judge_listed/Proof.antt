@@ -1,5 +1,4 @@
 -- `table::triples::judge_listed` meets its contract.
-use mathlib.Core.Path.{_∙_}
 use borrow.Author.Needs.{needs}
 use Rattle.table.proofs.triples.judge_listed.Statement.{statement}
 use Rattle.table.proofs.triples.judge_listed.Tie as tie

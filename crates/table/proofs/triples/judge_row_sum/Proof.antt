@@ -4,42 +4,30 @@ use native.Mathlib.Omega.{arith}
 use Rattle.gf2.specs.Tables.{basis}
 use Rattle.gf2.specs.Check.{rowSum}
 use Rattle.operand.specs.declared.Operand.{Operand}
-use Rattle.operand.specs.declared.OperandAnswer.{OperandAnswer}
 use Rattle.operand.specs.declared.fault.Fault.the-variants.{RowSum}
-use Rattle.table.specs.Rows.{rowsOver}
 use Rattle.table.specs.Judgements.{same, rowSumFault}
 use Rattle.table.proofs.Searches.{when-passes, when-fails}
-use Rattle.table.proofs.Shapes.{width-of, sized}
-use Rattle.table.proofs.Carrying.{same-carried, basis-operand, sum-operand, one-operand}
-use Rattle.table.proofs.RowSums.{one-done, all-sum}
+use Rattle.table.proofs.Carrying.{same-carried, basis-operand, sum-operand}
 use borrow.Author.Needs.{needs}
 use Rattle.table.proofs.triples.judge_row_sum.Statement.{statement}
 use Rattle.table.proofs.triples.judge_row_sum.Tie as tie
 
-one-requires : tie.Need-one-requires
-one-requires c κs = search needs
-
 sum-of-rows-requires : tie.Need-sum-of-rows-requires
-sum-of-rows-requires c κs =
-    let s = c .before .before .pre in
-    (s, omega (arith, s .least), rw (c .one .ensures ∙ one-done (width-of (sized s))) (one-operand _))
+sum-of-rows-requires c κs = c .before .pre
 
 basis-bytes-requires : tie.Need-basis-bytes-requires
-basis-bytes-requires c κs = let s = c .before .before .before .before .pre in (omega arith, omega (arith, s .least), s .greatest)
+basis-bytes-requires c κs = let s = c .before .before .before .pre in (omega arith, omega (arith, s .least), s .greatest)
 
 same-bytes-requires : tie.Need-same-bytes-requires
 same-bytes-requires c κs = search needs
 
 -- what the test of the carried bytes says of the table's
-tested : (c : tie.After-same-bytes) → let a = c .before .before .before .before .before .before .args in
+tested : (c : tie.After-same-bytes) → let a = c .before .before .before .before .before .args in
     c .same-bytes .result ≡ same (rowSum (a .width) (a .table .now)) (basis (a .width) 0)
 tested c =
-    let s = c .before .before .before .before .before .before .pre in
-    let a = c .before .before .before .before .before .before .args in
-    let sum = c .before .before .before in
-    let one = ap (λ (r : OperandAnswer). rowsOver (a .width) (a .table .now) (r .value .bytes) 0 (a .width)) (sum .before .one .ensures ∙ one-done (width-of (sized s))) in
+    let s = c .before .before .before .before .before .pre in
     c .same-bytes .ensures
-    ∙ ap₂ same (ap (λ (x : Operand). x .bytes) (sum .sum-of-rows .ensures) ∙ one ∙ all-sum s) (c .before .basis-bytes .ensures)
+    ∙ ap₂ same (ap (λ (x : Operand). x .bytes) (c .before .before .before .sum-of-rows .ensures)) (c .before .basis-bytes .ensures)
     ∙ same-carried (omega (arith, s .greatest)) (sum-operand _ _) (basis-operand _ 0)
 
 returns : tie.Need-returns
@@ -54,7 +42,6 @@ pub judge-row-sum-spec : {M : Type 1} → statement M
 judge-row-sum-spec =
     tie.close
     (tie.spec
-    one-requires
     sum-of-rows-requires
     basis-bytes-requires
     same-bytes-requires
