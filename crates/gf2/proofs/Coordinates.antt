@@ -1,15 +1,17 @@
 -- Laws of coordinates and bytes.
 -- Values: the bits of a number, and the number of given bits.
 -- Lists: the elements of a tabulated list.
+-- Digits: a list of numbers of d bits as one row of coordinates, for bytes and words alike.
 -- Bytes: `coord` of `pack` and `pack` of `coord`; equal bytes from equal coordinates.
 -- Bitwise operations: their bits, modulo 2.
 use mathlib.Core.Path.{_≡_, refl, sym, ap, ap₂, _∙_}
 use mathlib.Core.List.{List, [], _∷_, _++_}
 use mathlib.Core.Bool.{Bool, true, false}
 use Prim.Native.Nat.{ℕ, zero, suc, _+_, _-_, _*_, _/_, _%_, _^_, _<_, _≤_, min}
-use native.Mathlib.Nat.{zero-min, min-zero, suc-min-suc, add-mul-div-right, div-add-mod', div-eq-of-lt, zero-div, mod-eq-of-lt, mod-lt, lt-of-lt-of-le, pow-suc, pow-succ', mul-assoc}
+use native.Mathlib.Nat.{zero-min, min-zero, suc-min-suc, add-zero, add-suc, add-comm, add-mul, mul-comm, add-mul-div-right, add-mul-mod-self-right, div-add-mod', div-eq-of-lt, div-lt-iff-lt-mul, zero-div, mod-eq-of-lt, mod-lt, lt-of-lt-of-le, pow-suc, pow-succ', mul-assoc}
 use native.Mathlib.Decide.{ℕ-discrete, decLt}
 use native.Mathlib.Omega.{arith}
+use lib.Arith.{digits-lt, digits-div, digits-mod}
 use lib.ListN.{length, getD, replicate, length-append, length-replicate, getD-replicate, List·getD-append, List·getD-eq-default}
 use lib.Seq.{getD-at, getD-append-add, ext-getD}
 use lib.Bits.{bitAnd, and-shr, and-step, bitXor, xor-shr, xor-add-and, xor-lt}
@@ -56,6 +58,15 @@ value-bit (suc n) f j l = elim (ℕ-discrete j n) [
 pub value-eq : (n : ℕ) (f : ℕ → ℕ) (x : ℕ) → x < 2 ^ n → ((j : ℕ) → j < n → x / 2 ^ j % 2 ≡ f j % 2) → x ≡ value n f
 value-eq n f x h e = sym (mod-eq-of-lt h) ∙ sym (value-bits n x) ∙ value-ext n (λ j. x / 2 ^ j) f e
 
+-- the low n bits and the others
+pub value-split : (n k : ℕ) (f : ℕ → ℕ) → value (n + k) f ≡ value n f + value k (λ j. f (n + j)) * 2 ^ n
+unfolding value sum
+value-split n zero f = ap (λ k. value k f) (add-zero n) ∙ omega arith
+value-split n (suc k) f =
+    ap (λ k. value k f) (add-suc n k)
+    ∙ ap₂ _+_ (value-split n k f) (ap (λ p. f (n + k) % 2 * p) (pow-add 2 n k ∙ mul-comm (2 ^ n) (2 ^ k)) ∙ sym (mul-assoc (f (n + k) % 2) (2 ^ k) (2 ^ n)))
+    ∙ omega (arith, add-mul (value k (λ j. f (n + j))) (f (n + k) % 2 * 2 ^ k) (2 ^ n))
+
 pub length-tabulate : (n : ℕ) (f : ℕ → ℕ) → length (tabulate n f) ≡ n
 unfolding tabulate
 length-tabulate zero f = refl
@@ -74,13 +85,64 @@ unfolding tabulate
 tabulate-ext zero f g h = refl
 tabulate-ext (suc n) f g h = ap₂ (λ l x. l ++ (x ∷ [])) (tabulate-ext n f g (λ i l. h i (omega arith))) (h n (omega arith))
 
+-- coordinate i is bit i % d of element i / d: bytes are d = 8, words d = 64
+abbrev pub digit : ℕ → List ℕ → ℕ → ℕ
+digit d l i = getD l (i / d) 0 / 2 ^ (i % d) % 2
+
+-- the n elements of d bits whose coordinates are f 0, f 1, .., each modulo 2
+abbrev pub packed : ℕ → ℕ → (ℕ → ℕ) → List ℕ
+packed d n f = tabulate n (λ b. value d (λ j. f (b * d + j)))
+
+module _ (d : ℕ) (some : 0 < d) where
+  -- the coordinates of one element
+  pub digit-at : (l : List ℕ) (b j : ℕ) → j < d → digit d l (b * d + j) ≡ getD l b 0 / 2 ^ j % 2
+  digit-at l b j h = rw (digits-div b h, digits-mod b h)
+
+  pub digit-past : (l : List ℕ) (i : ℕ) → length l ≤ i / d → digit d l i ≡ 0
+  digit-past l i h = rw (List·getD-eq-default l 0 {n = i / d} h, zero-div)
+
+  pub packed-lt : (n : ℕ) (f : ℕ → ℕ) (b : ℕ) → getD (packed d n f) b 0 < 2 ^ d
+  packed-lt n f b = elim (decLt b n) [
+    | yes h ↦ rw (getD-tabulate n (λ c. value d (λ j. f (c * d + j))) b h) (value-lt d (λ j. f (b * d + j)))
+    | no h ↦ rw (List·getD-eq-default (packed d n f) 0 {n = b} (omega (arith, length-tabulate n (λ c. value d (λ j. f (c * d + j)))))) (pow-pos d)
+  ]
+
+  pub digit-packed : (n : ℕ) (f : ℕ → ℕ) (i : ℕ) → i < n * d → digit d (packed d n f) i ≡ f i % 2
+  digit-packed n f i h =
+      ap (λ x. x / 2 ^ (i % d) % 2) (getD-tabulate n (λ b. value d (λ j. f (b * d + j))) (i / d) (div-lt-iff-lt-mul some .1 h))
+      ∙ value-bit d (λ j. f (i / d * d + j)) (i % d) (mod-lt i some) ∙ ap (λ k. f k % 2) (div-add-mod' i d)
+
+  -- a list given element by element has the coordinates f where each element's bits are f's
+  pub packed-of : (n : ℕ) (g f : ℕ → ℕ) → ((b : ℕ) → b < n → g b < 2 ^ d) → ((b j : ℕ) → b < n → j < d → g b / 2 ^ j % 2 ≡ f (b * d + j) % 2)
+      → tabulate n g ≡ packed d n f
+  packed-of n g f small e = tabulate-ext n g _ (λ b h. value-eq d (λ j. f (b * d + j)) (g b) (small b h) (λ j l. e b j h l))
+
+  -- a list is known by its coordinates
+  pub packed-eq : (n : ℕ) (f : ℕ → ℕ) (l : List ℕ) → length l ≡ n → ((b : ℕ) → getD l b 0 < 2 ^ d) → ((i : ℕ) → i < n * d → digit d l i ≡ f i % 2) → l ≡ packed d n f
+  packed-eq n f l size small e =
+      ext-getD 0 l (tabulate n (λ b. getD l b 0)) (size ∙ sym (length-tabulate n _)) (λ b h. sym (getD-tabulate n (λ b. getD l b 0) b (omega arith)))
+      ∙ packed-of n _ f (λ b h. small b) (λ b j h l'. sym (digit-at l b j l') ∙ e (b * d + j) (digits-lt h l'))
+
+  -- two lists in a row
+  pub digit-front : (a b : List ℕ) (i : ℕ) → i / d < length a → digit d (a ++ b) i ≡ digit d a i
+  digit-front a b i h = rw (List·getD-append a b 0 (i / d) h)
+
+  pub digit-back : (a b : List ℕ) (i : ℕ) → digit d (a ++ b) (i + length a * d) ≡ digit d b i
+  digit-back a b i = rw (add-mul-div-right i (length a) some, add-mul-mod-self-right i (length a) d, add-comm (i / d) (length a), getD-append-add)
+
+  pub digit-none : (n i : ℕ) → digit d (replicate n 0) i ≡ 0
+  digit-none n i = elim (decLt (i / d) n) [
+    | yes h ↦ rw (getD-replicate {A = ℕ} n (i / d) 0 0 h, zero-div)
+    | no h ↦ digit-past (replicate n 0) i (omega (arith, length-replicate {A = ℕ} n 0))
+  ]
+
 pub coord-lt : (bytes : List ℕ) (i : ℕ) → coord bytes i < 2
 unfolding coord
 coord-lt bytes i = omega arith
 
 pub coord-past : (bytes : List ℕ) (i : ℕ) → 8 * length bytes ≤ i → coord bytes i ≡ 0
 unfolding coord
-coord-past bytes i h = rw (List·getD-eq-default bytes 0 {n = i / 8} (omega arith), zero-div)
+coord-past bytes i h = digit-past 8 (omega arith) bytes i (omega arith)
 
 pub length-pack : (n : ℕ) (f : ℕ → ℕ) → length (pack n f) ≡ n
 unfolding pack
@@ -88,27 +150,16 @@ length-pack n f = length-tabulate n _
 
 pub pack-byte : (n : ℕ) (f : ℕ → ℕ) (b : ℕ) → getD (pack n f) b 0 < 256
 unfolding pack
-pack-byte n f b = elim (decLt b n) [
-  | yes h ↦ rw (getD-tabulate n (λ c. value 8 (λ j. f (c * 8 + j))) b h) (value-lt 8 (λ j. f (b * 8 + j)))
-  | no h ↦ rw (List·getD-eq-default (pack n f) 0 {n = b} (omega (arith, length-pack n f))) (omega arith)
-]
+pack-byte n f b = packed-lt 8 (omega arith) n f b
 
 pub coord-pack : (n : ℕ) (f : ℕ → ℕ) (i : ℕ) → i < 8 * n → coord (pack n f) i ≡ f i % 2
 unfolding coord pack
-coord-pack n f i h =
-    ap (λ x. x / 2 ^ (i % 8) % 2) (getD-tabulate n (λ b. value 8 (λ j. f (b * 8 + j))) (i / 8) (omega arith))
-    ∙ value-bit 8 (λ j. f (i / 8 * 8 + j)) (i % 8) (omega arith) ∙ ap (λ k. f k % 2) (div-add-mod' i 8)
+coord-pack n f i h = digit-packed 8 (omega arith) n f i (omega arith)
 
 -- bytes are known by their coordinates
 pub pack-eq : (n : ℕ) (f : ℕ → ℕ) (l : List ℕ) → length l ≡ n → ((b : ℕ) → getD l b 0 < 256) → ((i : ℕ) → i < 8 * n → coord l i ≡ f i % 2) → l ≡ pack n f
 unfolding coord pack
-pack-eq n f l size small e =
-    ext-getD 0 l (pack n f) (size ∙ sym (length-pack n f)) (λ b h.
-    value-eq 8 (λ j. f (b * 8 + j)) (getD l b 0) (small b) (λ j hj.
-    let q : (b * 8 + j) / 8 ≡ b = omega arith in
-    let r : (b * 8 + j) % 8 ≡ j = omega arith in
-    rw (q, r) at (e (b * 8 + j) (omega arith)))
-    ∙ sym (getD-tabulate n (λ c. value 8 (λ j. f (c * 8 + j))) b (omega arith)))
+pack-eq n f l size small e = packed-eq 8 (omega arith) n f l size small (λ i h. e i (omega arith))
 
 pub pack-ext : (n : ℕ) (f g : ℕ → ℕ) → ((i : ℕ) → i < 8 * n → f i % 2 ≡ g i % 2) → pack n f ≡ pack n g
 pack-ext n f g e = pack-eq n g (pack n f) (length-pack n f) (pack-byte n f) (λ i h. coord-pack n f i h ∙ e i h)
@@ -119,15 +170,12 @@ pack-coord l small = pack-eq (length l) (coord l) l refl small (λ i h. sym (mod
 -- the coordinates of one byte
 pub coord-digit : (l : List ℕ) (b j : ℕ) → j < 8 → coord l (b * 8 + j) ≡ getD l b 0 / 2 ^ j % 2
 unfolding coord
-coord-digit l b j h =
-    let q : (b * 8 + j) / 8 ≡ b = omega arith in
-    let r : (b * 8 + j) % 8 ≡ j = omega arith in
-    rw (q, r)
+coord-digit l b j h = digit-at 8 (omega arith) l b j h
 
 -- a list given byte by byte is the bytes of f where each byte's bits are f's
 pub pack-of : (n : ℕ) (g f : ℕ → ℕ) → ((b : ℕ) → b < n → g b < 256) → ((b j : ℕ) → b < n → j < 8 → g b / 2 ^ j % 2 ≡ f (b * 8 + j) % 2) → tabulate n g ≡ pack n f
 unfolding pack
-pack-of n g f small e = tabulate-ext n g _ (λ b h. value-eq 8 (λ j. f (b * 8 + j)) (g b) (small b h) (λ j l. e b j h l))
+pack-of n g f small e = packed-of 8 (omega arith) n g f small e
 
 pub xor-bit : (a b k : ℕ) → bitXor a b / 2 ^ k % 2 ≡ (a / 2 ^ k % 2 + b / 2 ^ k % 2) % 2
 xor-bit a b k = rw xor-shr (omega (arith, xor-add-and (a / 2 ^ k) (b / 2 ^ k)))
@@ -159,18 +207,12 @@ mod-bit-out x k j h = ap (λ y. y % 2) (div-eq-of-lt (lt-of-lt-of-le (mod-lt x (
 -- the coordinates of two lists in a row
 pub coord-front : (a b : List ℕ) (i : ℕ) → i < 8 * length a → coord (a ++ b) i ≡ coord a i
 unfolding coord
-coord-front a b i h = rw (List·getD-append a b 0 (i / 8) (omega arith))
+coord-front a b i h = digit-front 8 (omega arith) a b i (omega arith)
 
 pub coord-back : (a b : List ℕ) (i : ℕ) → coord (a ++ b) (8 * length a + i) ≡ coord b i
 unfolding coord
-coord-back a b i =
-    let q : (8 * length a + i) / 8 ≡ length a + i / 8 = omega arith in
-    let r : (8 * length a + i) % 8 ≡ i % 8 = omega arith in
-    rw (q, r, getD-append-add)
+coord-back a b i = let e : 8 * length a + i ≡ i + length a * 8 = omega arith in rw e (digit-back 8 (omega arith) a b i)
 
 pub coord-none : (n i : ℕ) → coord (replicate n 0) i ≡ 0
 unfolding coord
-coord-none n i = elim (decLt (i / 8) n) [
-  | yes h ↦ rw (getD-replicate {A = ℕ} n (i / 8) 0 0 h, zero-div)
-  | no h ↦ rw (List·getD-eq-default {A = ℕ} (replicate n 0) 0 {n = i / 8} (omega (arith, length-replicate {A = ℕ} n 0)), zero-div)
-]
+coord-none n i = digit-none 8 (omega arith) n i

@@ -1,5 +1,6 @@
 pub mod Tests
 pub mod FaultLaws
+pub mod WordCoords
 pub mod ByteLoops
 pub mod TurnBytes
 pub mod QuadraticBytes

@@ -14,6 +14,7 @@ mod fault;
 mod judge;
 mod quadratic;
 mod turn;
+mod words;
 
 pub use bytes::carried;
 pub use bytes::cleared;
@@ -29,6 +30,8 @@ pub use judge::judge_operand;
 pub use judge::judge_pair;
 pub use judge::judge_turn;
 pub use judge::judge_width;
+pub use words::slice_words;
+pub use words::to_words;
 
 // Coordinate i is bit i % 8 of byte i / 8, and bits at the width and above are 0.
 pub struct Operand {
@@ -80,6 +83,8 @@ fn answered(fault: Fault, width: usize, bytes: [u8; Operand::BYTES]) -> OperandA
 
 impl Operand {
     pub const BYTES: usize = 32;
+
+    pub const WORDS: usize = Operand::BYTES / 8;
 
     pub const MAX_WIDTH: usize = 255;
 

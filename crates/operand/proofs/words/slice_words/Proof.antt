@@ -1,0 +1,54 @@
+-- `operand::words::slice_words` meets its contract.
+use Prim.Native.Nat.{ℕ, _+_, _-_, _*_}
+use native.Mathlib.Omega.{arith}
+use Rattle.gf2.specs.Coordinates.{coord, value}
+use Rattle.gf2.proofs.Loops.{Filled, filled-none, filled-more, filled-all}
+use Rattle.operand.specs.Words.{carriedWords, packWords}
+use borrow.Author.Needs.{needs}
+use Rattle.operand.proofs.words.slice_words.Statement.{statement}
+use Rattle.operand.proofs.words.slice_words.Tie as tie
+
+abbrev Inv-loop : tie.InvT-loop
+Inv-loop s out₀ w₀ out w = Filled carriedWords (λ k. value 64 (λ j. coord s (k * 64 + j))) out₀ out w
+
+abbrev μ-loop : tie.MeasureT-loop
+μ-loop s out₀ w₀ out w = carriedWords - w
+
+loop-holds : tie.Need-loop-holds Inv-loop μ-loop
+loop-holds c = filled-none carriedWords _ _
+
+word-at-requires : tie.Need-word-at-requires Inv-loop μ-loop
+word-at-requires c κs = search needs
+
+mul-out : tie.Need-mul-out Inv-loop μ-loop
+mul-out c = search needs
+
+array-write-out : tie.Need-array-write-out Inv-loop μ-loop
+array-write-out c = search needs
+
+add-w : tie.Need-add-w Inv-loop μ-loop
+add-w c = search needs
+
+loop-less : tie.Need-loop-less Inv-loop μ-loop
+loop-less c = search needs
+
+loop-again : tie.Need-loop-again Inv-loop μ-loop
+loop-again c = filled-more (c .before .before .loop .inv) (omega arith) (omega arith) (c .word-at .ensures)
+
+returns : tie.Need-returns Inv-loop μ-loop
+returns c = unfold packWords in filled-all (c .before .loop .inv) (omega arith) (omega arith)
+
+pub slice-words-spec : {M : Type 1} → statement M
+slice-words-spec =
+    tie.close
+    (tie.spec
+    Inv-loop
+    μ-loop
+    loop-holds
+    word-at-requires
+    mul-out
+    array-write-out
+    add-w
+    loop-less
+    loop-again
+    returns)
