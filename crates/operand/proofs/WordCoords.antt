@@ -3,13 +3,16 @@
 -- Bytes: eight bytes joined to a word.
 use mathlib.Core.Path.{_≡_, refl, sym, ap, ap₂, _∙_}
 use mathlib.Core.List.{List}
-use Prim.Native.Nat.{ℕ, zero, suc, _+_, _*_, _/_, _%_, _^_, _<_, _≤_}
-use native.Mathlib.Nat.{add-zero, mul-comm, mod-eq-of-lt}
+use Prim.Native.Nat.{ℕ, zero, suc, _+_, _-_, _*_, _/_, _%_, _^_, _<_, _≤_}
+use native.Mathlib.Nat.{add-zero, add-comm, mul-comm, mod-eq-of-lt, mod-lt, zero-div, div-eq-of-lt, lt-of-le-of-lt, lt-of-lt-of-le}
+use native.Mathlib.Decide.{decLt}
 use native.Mathlib.Omega.{arith}
 use lib.ListN.{length, getD}
+use lib.Bits.{bitOr, or-shifted-r}
+use lib.Pow.{pow-mono, shl-exact, shr-shr, shr-le}
 use Rattle.gf2.specs.Sums.{sum}
 use Rattle.gf2.specs.Coordinates.{coord, value, tabulate, pack}
-use Rattle.gf2.proofs.Coordinates.{value-ext, value-eq, value-split, length-tabulate, digit-at, digit-past, packed-lt, digit-packed, packed-of, packed-eq, coord-lt, coord-digit, pack-ext}
+use Rattle.gf2.proofs.Coordinates.{value-ext, value-lt, value-bit, value-eq, value-split, length-tabulate, digit-at, digit-past, packed-lt, digit-packed, packed-of, packed-eq, coord-lt, coord-past, coord-digit, pack-of, pack-ext, mod-bit}
 use Rattle.operand.specs.Words.{wordCoord, packWords}
 
 pub word-lt : (words : List ℕ) (i : ℕ) → wordCoord words i < 2
@@ -66,18 +69,70 @@ joined-value (suc n) g f e =
     front : (j : ℕ) → 0 * 8 + j ≡ j
     front j = omega arith
 
--- eight bytes of a list are one word of its coordinates
-pub joined-word : (s : List ℕ) (w : ℕ) → ((b : ℕ) → getD s b 0 < 256) → joined 8 (λ b. getD s (w * 8 + b) 0) ≡ value 64 (λ j. coord s (w * 64 + j))
-joined-word s w small = joined-value 8 (λ b. getD s (w * 8 + b) 0) (λ j. coord s (w * 64 + j)) (λ b.
-    value-eq 8 _ _ (small (w * 8 + b)) (λ j l. sym (coord-digit s (w * 8 + b) j l) ∙ ap (coord s) (place b j) ∙ sym (mod-eq-of-lt (coord-lt s _))))
+-- eight bytes of a list from b on
+joined-eight : (s : List ℕ) (b : ℕ) → ((k : ℕ) → getD s k 0 < 256) → joined 8 (λ k. getD s (b + k) 0) ≡ value 64 (λ j. coord s (b * 8 + j))
+joined-eight s b small = joined-value 8 (λ k. getD s (b + k) 0) (λ j. coord s (b * 8 + j)) (λ k.
+    value-eq 8 _ _ (small (b + k)) (λ j l. sym (coord-digit s (b + k) j l) ∙ ap (coord s) (place k j) ∙ sym (mod-eq-of-lt (coord-lt s _))))
   where
-    place : (b j : ℕ) → (w * 8 + b) * 8 + j ≡ w * 64 + (b * 8 + j)
-    place b j = omega arith
+    place : (k j : ℕ) → (b + k) * 8 + j ≡ b * 8 + (k * 8 + j)
+    place k j = omega arith
 
 -- the same, written out
-pub joined-bytes : {a b c d e f g h : ℕ} (s : List ℕ) (w : ℕ) → ((b : ℕ) → getD s b 0 < 256)
-    → a ≡ getD s (w * 8) 0 → b ≡ getD s (w * 8 + 1) 0 → c ≡ getD s (w * 8 + 2) 0 → d ≡ getD s (w * 8 + 3) 0
-    → e ≡ getD s (w * 8 + 4) 0 → f ≡ getD s (w * 8 + 5) 0 → g ≡ getD s (w * 8 + 6) 0 → h ≡ getD s (w * 8 + 7) 0
-    → a + 256 * (b + 256 * (c + 256 * (d + 256 * (e + 256 * (f + 256 * (g + 256 * h)))))) ≡ value 64 (λ j. coord s (w * 64 + j))
+pub joined-bytes : {a₀ a₁ a₂ a₃ a₄ a₅ a₆ a₇ : ℕ} (s : List ℕ) (b : ℕ) → ((k : ℕ) → getD s k 0 < 256)
+    → a₀ ≡ getD s b 0 → a₁ ≡ getD s (b + 1) 0 → a₂ ≡ getD s (b + 2) 0 → a₃ ≡ getD s (b + 3) 0
+    → a₄ ≡ getD s (b + 4) 0 → a₅ ≡ getD s (b + 5) 0 → a₆ ≡ getD s (b + 6) 0 → a₇ ≡ getD s (b + 7) 0
+    → a₀ + 256 * (a₁ + 256 * (a₂ + 256 * (a₃ + 256 * (a₄ + 256 * (a₅ + 256 * (a₆ + 256 * a₇)))))) ≡ value 64 (λ j. coord s (b * 8 + j))
 unfolding joined
-joined-bytes s w small ea eb ec ed ee ef eg eh = omega (arith, joined-word s w small, ap (λ i. getD s i 0) (add-zero (w * 8)))
+joined-bytes s b small e₀ e₁ e₂ e₃ e₄ e₅ e₆ e₇ = omega (arith, joined-eight s b small, ap (λ i. getD s i 0) (add-zero b))
+
+-- one byte more above the bits that are there
+or-byte : (k x y : ℕ) → x < 2 ^ k → y < 256 → k + 8 ≤ 64 → bitOr x (y * 2 ^ k % 2 ^ 64) ≡ x + y * 2 ^ k
+or-byte k x y h l r = ap (bitOr x) (shl-exact {a = y} 8 k 64 l (omega arith)) ∙ or-shifted-r y k x h ∙ add-comm _ _
+
+pub or-bytes : (a b c d e f g h : ℕ) → a < 256 → b < 256 → c < 256 → d < 256 → e < 256 → f < 256 → g < 256 → h < 256
+    → bitOr (bitOr (bitOr (bitOr (bitOr (bitOr (bitOr a (b * 2 ^ 8 % 2 ^ 64)) (c * 2 ^ 16 % 2 ^ 64)) (d * 2 ^ 24 % 2 ^ 64)) (e * 2 ^ 32 % 2 ^ 64)) (f * 2 ^ 40 % 2 ^ 64)) (g * 2 ^ 48 % 2 ^ 64)) (h * 2 ^ 56 % 2 ^ 64)
+    ≡ a + 256 * (b + 256 * (c + 256 * (d + 256 * (e + 256 * (f + 256 * (g + 256 * h))))))
+or-bytes a b c d e f g h ha hb hc hd he hf hg hh =
+    let p1 : bitOr a (b * 2 ^ 8 % 2 ^ 64) ≡ a + b * 2 ^ 8 = or-byte 8 a b ha hb (omega arith) in
+    let p2 : bitOr (a + b * 2 ^ 8) (c * 2 ^ 16 % 2 ^ 64) ≡ a + b * 2 ^ 8 + c * 2 ^ 16 = or-byte 16 _ c (omega arith) hc (omega arith) in
+    let p3 : bitOr (a + b * 2 ^ 8 + c * 2 ^ 16) (d * 2 ^ 24 % 2 ^ 64) ≡ a + b * 2 ^ 8 + c * 2 ^ 16 + d * 2 ^ 24 = or-byte 24 _ d (omega arith) hd (omega arith) in
+    let p4 = or-byte 32 (a + b * 2 ^ 8 + c * 2 ^ 16 + d * 2 ^ 24) e (omega arith) he (omega arith) in
+    let p5 = or-byte 40 (a + b * 2 ^ 8 + c * 2 ^ 16 + d * 2 ^ 24 + e * 2 ^ 32) f (omega arith) hf (omega arith) in
+    let p6 = or-byte 48 (a + b * 2 ^ 8 + c * 2 ^ 16 + d * 2 ^ 24 + e * 2 ^ 32 + f * 2 ^ 40) g (omega arith) hg (omega arith) in
+    let p7 = or-byte 56 (a + b * 2 ^ 8 + c * 2 ^ 16 + d * 2 ^ 24 + e * 2 ^ 32 + f * 2 ^ 40 + g * 2 ^ 48) h (omega arith) hh (omega arith) in
+    rw (p1, p2, p3, p4, p5, p6, p7) (omega arith)
+
+-- word w of a list from its byte w * 8 on
+pub word-from : (s : List ℕ) (w b : ℕ) → w * 8 ≡ b → value 64 (λ j. coord s (b * 8 + j)) ≡ value 64 (λ j. coord s (w * 64 + j))
+word-from s w b e = value-ext 64 _ _ (λ j l. ap (λ i. coord s i % 2) (omega arith))
+
+-- past the list's end
+pub word-none : (s : List ℕ) (w : ℕ) → length s ≤ w * 8 → 0 ≡ value 64 (λ j. coord s (w * 64 + j))
+word-none s w h = value-eq 64 _ 0 (omega arith) (λ j l. rw (zero-div, coord-past s (w * 64 + j) (omega arith)))
+
+-- a word in which the list ends, from the last eight bytes
+pub word-last : (s : List ℕ) (n w : ℕ) → length s ≡ n → 8 ≤ n → n ≤ w * 8 + 8
+    → value 64 (λ j. coord s ((n - 8) * 8 + j)) / 2 ^ (8 * (w * 8 + 8 - n)) ≡ value 64 (λ j. coord s (w * 64 + j))
+word-last s n w size some h = value-eq 64 _ _ (lt-of-le-of-lt (shr-le _ t) (value-lt 64 _)) (λ j l.
+    ap (λ y. y % 2) (shr-shr _ t j) ∙ elim (decLt (t + j) 64) [
+      | yes q ↦ value-bit 64 (λ i. coord s ((n - 8) * 8 + i)) (t + j) q ∙ ap (λ i. coord s i % 2) (place j)
+      | no q ↦ ap (λ y. y % 2) (div-eq-of-lt (lt-of-lt-of-le (value-lt 64 _) (pow-mono {i = 64} (omega arith)))) ∙ sym (ap (λ y. y % 2) (coord-past s (w * 64 + j) (past j (omega arith))))
+    ])
+  where
+    t : ℕ
+    t = 8 * (w * 8 + 8 - n)
+
+    place : (j : ℕ) → (n - 8) * 8 + (8 * (w * 8 + 8 - n) + j) ≡ w * 64 + j
+    place j = omega arith
+
+    past : (j : ℕ) → 64 ≤ 8 * (w * 8 + 8 - n) + j → 8 * length s ≤ w * 64 + j
+    past j q = omega arith
+
+-- words given byte by byte
+pub bytes-of : (n : ℕ) (x : List ℕ) → tabulate n (λ b. getD x (b / 8) 0 / 2 ^ (8 * (b % 8)) % 256) ≡ pack n (wordCoord x)
+bytes-of n x = pack-of n _ (wordCoord x) (λ b h. mod-lt _ (omega arith)) (λ b j h l.
+    mod-bit _ 8 j l ∙ ap (λ y. y % 2) (shr-shr (getD x (b / 8) 0) (8 * (b % 8)) j)
+    ∙ sym (word-digit x (b / 8) (8 * (b % 8) + j) (omega arith)) ∙ ap (wordCoord x) (place b j) ∙ sym (mod-eq-of-lt (word-lt x _)))
+  where
+    place : (b j : ℕ) → b / 8 * 64 + (8 * (b % 8) + j) ≡ b * 8 + j
+    place b j = omega arith

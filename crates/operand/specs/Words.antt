@@ -1,8 +1,7 @@
 -- A carried operand as words of 64 bits: the coordinates of its bytes, in larger digits.
-use mathlib.Core.Path.{_≡_}
 use mathlib.Core.List.{List}
-use Prim.Native.Nat.{ℕ, _+_, _*_, _/_, _%_, _^_, _<_}
-use lib.ListN.{length, getD}
+use Prim.Native.Nat.{ℕ, _+_, _*_, _/_, _%_, _^_}
+use lib.ListN.{getD}
 use Rattle.gf2.specs.Coordinates.{value, tabulate}
 use Rattle.gf2.specs.Operands.{carriedBytes, below, minus}
 
@@ -21,11 +20,3 @@ packWords n f = tabulate n (λ w. value 64 (λ j. f (w * 64 + j)))
 -- "turned k places, coordinate i of the result is coordinate i-k of the old", on words
 unfoldable pub turnedWords : ℕ → ℕ → List ℕ → List ℕ
 turnedWords m k words = packWords carriedWords (below m (λ i. wordCoord words (minus m i k)))
-
--- byte b of words
-abbrev pub wordByte : List ℕ → ℕ → ℕ
-wordByte words b = getD words (b / 8) 0 / 2 ^ (8 * (b % 8)) % 256
-
--- the first n bytes of a list, as far as it has them, are those of words
-pub record StoredTo (words : List ℕ) (n : ℕ) (l : List ℕ) : Type 0 where
-  pub stored : (b : ℕ) → b < n → b < length l → getD l b 0 ≡ wordByte words b

@@ -31,6 +31,7 @@ pub use judge::judge_pair;
 pub use judge::judge_turn;
 pub use judge::judge_width;
 pub use words::slice_words;
+pub use words::to_bytes;
 pub use words::to_words;
 
 // Coordinate i is bit i % 8 of byte i / 8, and bits at the width and above are 0.

@@ -5,7 +5,7 @@ ghost use Prim.Native.Nat.{_+_, _-_, _*_, _/_, _%_, _^_, _<_, _≤_};
 ghost use lib.ListN.{length, getD};
 ghost use Rattle.gf2.specs.Coordinates.{coord, value, pack};
 ghost use Rattle.gf2.specs.Operands.{carriedBytes};
-ghost use Rattle.operand.specs.Words.{carriedWords, wordCoord, packWords, turnedWords, StoredTo};
+ghost use Rattle.operand.specs.Words.{carriedWords, wordCoord, packWords};
 use crate::Operand;
 
 fn wide(x: u8) -> u64
@@ -19,9 +19,13 @@ fn joined(a: u8, b: u8, c: u8, d: u8, e: u8, f: u8, g: u8, h: u8) -> u64
     ensures { λ r. ⌜ r ≡ a + 256 * (b + 256 * (c + 256 * (d + 256 * (e + 256 * (f + 256 * (g + 256 * h)))))) ⌝ }
 {
     wide(a)
-        + 256
-            * (wide(b)
-                + 256 * (wide(c) + 256 * (wide(d) + 256 * (wide(e) + 256 * (wide(f) + 256 * (wide(g) + 256 * wide(h)))))))
+        | (wide(b) << 8)
+        | (wide(c) << 16)
+        | (wide(d) << 24)
+        | (wide(e) << 32)
+        | (wide(f) << 40)
+        | (wide(g) << 48)
+        | (wide(h) << 56)
 }
 
 // Byte b of a slice, 0 past its end.
@@ -31,42 +35,47 @@ fn byte_at(s: &[u8], b: usize) -> u8
     if b < s.len() { s[b] } else { 0 }
 }
 
-// Word w of a slice, whose bytes are all in it.
-fn whole_word(s: &[u8], w: usize) -> u64
-    requires { ⌜ (w < carriedWords) × (w * 8 + 8 ≤ length (now s)) ⌝ }
-    ensures { λ r. ⌜ r ≡ value 64 (λ j. coord (now (s .entry)) (w * 64 + j)) ⌝ }
+// Eight bytes of a slice, from b on.
+fn eight(s: &[u8], b: usize) -> u64
+    requires { ⌜ b + 8 ≤ length (now s) ⌝ }
+    ensures { λ r. ⌜ r ≡ value 64 (λ j. coord (now (s .entry)) (b * 8 + j)) ⌝ }
 {
-    let b = w * 8;
     joined(s[b], s[b + 1], s[b + 2], s[b + 3], s[b + 4], s[b + 5], s[b + 6], s[b + 7])
 }
 
-// Word w of a slice, 0 past its end.
-fn part_word(s: &[u8], w: usize) -> u64
-    requires { ⌜ w < carriedWords ⌝ }
-    ensures { λ r. ⌜ r ≡ value 64 (λ j. coord (now (s .entry)) (w * 64 + j)) ⌝ }
+// The first eight bytes of a slice, 0 past its end.
+fn few(s: &[u8]) -> u64
+    ensures { λ r. ⌜ r ≡ value 64 (λ j. coord (now (s .entry)) (0 * 8 + j)) ⌝ }
 {
-    let b = w * 8;
     joined(
-        byte_at(s, b),
-        byte_at(s, b + 1),
-        byte_at(s, b + 2),
-        byte_at(s, b + 3),
-        byte_at(s, b + 4),
-        byte_at(s, b + 5),
-        byte_at(s, b + 6),
-        byte_at(s, b + 7),
+        byte_at(s, 0),
+        byte_at(s, 1),
+        byte_at(s, 2),
+        byte_at(s, 3),
+        byte_at(s, 4),
+        byte_at(s, 5),
+        byte_at(s, 6),
+        byte_at(s, 7),
     )
 }
 
+// Word w of a slice, 0 past its end. Where the slice ends in it, its last eight bytes are read and shifted down.
 fn word_at(s: &[u8], w: usize) -> u64
     requires { ⌜ w < carriedWords ⌝ }
     ensures { λ r. ⌜ r ≡ value 64 (λ j. coord (now (s .entry)) (w * 64 + j)) ⌝ }
 {
-    if w * 8 + 8 <= s.len() {
-        whole_word(s, w)
-    } else {
-        part_word(s, w)
+    let b = w * 8;
+    let n = s.len();
+    if n <= b {
+        return 0;
     }
+    if b + 8 <= n {
+        return eight(s, b);
+    }
+    if n < 8 {
+        return few(s);
+    }
+    eight(s, n - 8) >> (8 * (b + 8 - n))
 }
 
 // The coordinates of a slice, in the words of a carried operand.
@@ -85,5 +94,32 @@ pub fn slice_words(s: &[u8]) -> [u64; Operand::WORDS]
 pub fn to_words(x: [u8; Operand::BYTES]) -> [u64; Operand::WORDS]
     ensures { λ r. ⌜ r ≡ packWords carriedWords (coord x) ⌝ }
 {
-    slice_words(&x)
+    let mut out = [0u64; Operand::WORDS];
+    let mut w = 0;
+    while w < Operand::WORDS {
+        out[w] = eight(&x, w * 8);
+        w += 1;
+    }
+    out
+}
+
+// Byte j of a word.
+fn byte_of(word: u64, j: usize) -> u8
+    requires { ⌜ j < 8 ⌝ }
+    ensures { λ r. ⌜ r ≡ word / 2 ^ (8 * j) % 256 ⌝ }
+{
+    ((word >> (8 * j)) % 256) as u8
+}
+
+pub fn to_bytes(x: [u64; Operand::WORDS]) -> [u8; Operand::BYTES]
+    ensures { λ r. ⌜ r ≡ pack carriedBytes (wordCoord x) ⌝ }
+{
+    let mut out = [0u8; Operand::BYTES];
+    let mut b = 0;
+    while b < Operand::BYTES {
+        let word = x[b / 8];
+        out[b] = byte_of(word, b % 8);
+        b += 1;
+    }
+    out
 }

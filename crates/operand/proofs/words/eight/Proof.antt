@@ -1,12 +1,9 @@
--- `operand::words::whole_word` meets its contract.
+-- `operand::words::eight` meets its contract.
 use mathlib.Core.Path.{refl, _∙_}
 use Rattle.operand.proofs.WordCoords.{joined-bytes}
 use borrow.Author.Needs.{needs}
-use Rattle.operand.proofs.words.whole_word.Statement.{statement}
-use Rattle.operand.proofs.words.whole_word.Tie as tie
-
-mul-b : tie.Need-mul-b
-mul-b c = search needs
+use Rattle.operand.proofs.words.eight.Statement.{statement}
+use Rattle.operand.proofs.words.eight.Tie as tie
 
 shared-slice-read-joined : tie.Need-shared-slice-read-joined
 shared-slice-read-joined c = search needs
@@ -59,13 +56,12 @@ joined-requires c κs = search needs
 returns : tie.Need-returns
 returns c =
     let s = c .before .before .before .before .before .before .before .before .before .before in
-    c .joined .ensures ∙ joined-bytes (s .args .s .now) (s .args .w) (λ k. c .before .shared-slice-known9 .given k .fits) refl refl refl refl refl refl refl refl
+    c .joined .ensures ∙ joined-bytes (s .args .s .now) (s .args .b) (λ k. c .before .shared-slice-known9 .given k .fits) refl refl refl refl refl refl refl refl
 
-pub whole-word-spec : {M : Type 1} → statement M
-whole-word-spec =
+pub eight-spec : {M : Type 1} → statement M
+eight-spec =
     tie.close
     (tie.spec
-    mul-b
     shared-slice-read-joined
     add-joined
     shared-slice-read-joined-2
