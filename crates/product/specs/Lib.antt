@@ -2,10 +2,12 @@
 -- Judgements: the faults of a product and of an inverse.
 -- Calls: what each call answers, for every input.
 -- Kernels: what the kernels on operands without fault make.
+-- Cells: what the kernels on words make.
 -- ChainStates: the state that a step of the inverse's chain hands on.
 -- Statements: what is proved of them under an accepted table; the proofs are proofs/Theorems.antt.
 pub mod Judgements
 pub mod Calls
 pub mod Kernels
+pub mod Cells
 pub mod ChainStates
 pub mod Statements

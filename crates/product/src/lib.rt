@@ -11,6 +11,7 @@ mod judge;
 mod kernel;
 mod plain;
 mod reduced;
+mod words;
 
 // A fault, or none and an inverse with the number of products that it took.
 pub struct InverseAnswer {

@@ -1,13 +1,17 @@
 // The plain product of operands without fault under a table of the right shape, by the places of the ones in its rows:
 // row d meets the products of coordinates i and i + d.
 ghost use mathlib.Core.Path.{_≡_};
-ghost use Prim.Native.Nat.{_+_, _<_};
+ghost use Prim.Native.Nat.{_+_, _*_, _%_, _<_};
+ghost use Rattle.gf2.specs.Sums.{sum};
 ghost use Rattle.gf2.specs.Coordinates.{coord};
 ghost use Rattle.gf2.specs.Tables.{row};
 ghost use Rattle.gf2.specs.Products.{product};
+ghost use Rattle.operand.specs.Words.{wordCoord};
 ghost use Rattle.table.specs.Rows.{Shaped};
-ghost use Rattle.product.specs.Kernels.{Sound, carried, made, spreadAt, plainTerm};
+ghost use Rattle.product.specs.Kernels.{Sound, carried, made, spreadAt};
+ghost use Rattle.product.specs.Cells.{HasPlaces, Added, Clear};
 use crate::kernel;
+use crate::words;
 use operand::Operand;
 
 // `total` and e turned by each place of a one in row d.
@@ -21,26 +25,45 @@ pub(crate) fn gathered(width: usize, table: &[u8], total: Operand, e: Operand, d
     both.value
 }
 
-// `total` and what row d adds to the product.
-fn with_row(width: usize, table: &[u8], a: Operand, b: Operand, total: Operand, d: usize) -> Operand
-    requires { ⌜ Shaped width (now table) × Sound width a × Sound width b × Sound width total × (d < width) ⌝ }
-    ensures { λ r. ⌜ r ≡ made width (λ i. coord (total .bytes) i + plainTerm width (now (table .entry)) (a .bytes) (b .bytes) d i) ⌝ }
+// What all rows add at the places of their ones: row d the products of coordinates i and i + d.
+fn add_rows(
+    width: usize,
+    table: &[u8],
+    x: [u64; Operand::WORDS],
+    y: [u64; Operand::WORDS],
+    g: &mut [u64],
+)
+    requires { ⌜ Shaped width (now table) × Clear width x × Clear width y × HasPlaces (now g) ⌝ }
+    ensures { λ _. ⌜ Added (λ s i. sum width (λ d. coord (row width (now (table .entry)) d) s * (wordCoord x i * wordCoord y ((i + d) % width)))) (now (g .entry)) (now (g .exit)) ⌝ }
 {
-    let e = kernel::apart(a, b, d);
-    gathered(width, table, total, e, d)
+    let mut turned = y;
+    let mut d = 0;
+    while d < width {
+        let e = words::masked(x, turned);
+        words::add_line(width, table, d, e, g);
+        let next = words::back(turned, width);
+        turned = next;
+        d += 1;
+    }
 }
 
 pub(crate) fn times(width: usize, table: &[u8], a: Operand, b: Operand) -> Operand
     requires { ⌜ Shaped width (now table) × Sound width a × Sound width b ⌝ }
     ensures { λ r. ⌜ r ≡ carried width (product width (now (table .entry)) (a .bytes) (b .bytes)) ⌝ }
 {
-    let zero = Operand::zero(width);
-    let mut total = zero.value;
-    let mut d = 0;
-    while d < width {
-        let next = with_row(width, table, a, b, total, d);
-        total = next;
-        d += 1;
+    let x = a.bytes;
+    let y = b.bytes;
+    let mut g = [0u64; words::ROOM];
+    add_rows(
+        width,
+        table,
+        operand::to_words(x),
+        operand::to_words(y),
+        &mut g,
+    );
+    let total = words::gathered(width, &g);
+    Operand {
+        bytes: operand::to_bytes(total),
+        width: a.width,
     }
-    total
 }

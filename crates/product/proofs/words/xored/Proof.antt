@@ -1,0 +1,77 @@
+-- `product::words::xored` meets its contract.
+use mathlib.Core.Path.{_≡_, refl, sym, ap, _∙_}
+use Prim.Native.Nat.{ℕ, _+_, _-_, _*_, _/_, _%_, _^_, _≤_}
+use native.Mathlib.Omega.{arith}
+use lib.ListN.{length, getD}
+use mir.Val.{Fits}
+use mir.Syntax.{w64}
+use Rattle.operand.specs.Words.{carriedWords, wordCoord, packWords}
+use Rattle.gf2.proofs.Loops.{Filled, filled-none, filled-more, filled-all}
+use lib.Bits.{bitXor}
+use Rattle.operand.proofs.WordCoords.{word-digit}
+use Rattle.product.proofs.CellLaws.{xored-words}
+use borrow.Author.Needs.{needs}
+use Rattle.product.proofs.words.xored.Statement.{statement}
+use Rattle.product.proofs.words.xored.Tie as tie
+
+abbrev Inv-loop : tie.InvT-loop
+Inv-loop x y out₀ w₀ out w = Filled carriedWords (λ k. bitXor (getD x k 0) (getD y k 0)) out₀ out w
+
+abbrev μ-loop : tie.MeasureT-loop
+μ-loop x y out₀ w₀ out w = carriedWords - w
+
+loop-holds : tie.Need-loop-holds Inv-loop μ-loop
+loop-holds c = filled-none carriedWords _ _
+
+mul-out : tie.Need-mul-out Inv-loop μ-loop
+mul-out c = search needs
+
+array-read-out : tie.Need-array-read-out Inv-loop μ-loop
+array-read-out c = search needs
+
+mul-out-2 : tie.Need-mul-out-2 Inv-loop μ-loop
+mul-out-2 c = search needs
+
+array-read-out-2 : tie.Need-array-read-out-2 Inv-loop μ-loop
+array-read-out-2 c = search needs
+
+mul-out-3 : tie.Need-mul-out-3 Inv-loop μ-loop
+mul-out-3 c = search needs
+
+array-write-out : tie.Need-array-write-out Inv-loop μ-loop
+array-write-out c = search needs
+
+add-w : tie.Need-add-w Inv-loop μ-loop
+add-w c = search needs
+
+loop-less : tie.Need-loop-less Inv-loop μ-loop
+loop-less c = search needs
+
+loop-again : tie.Need-loop-again Inv-loop μ-loop
+loop-again c = filled-more (c .before .loop .inv) (omega arith) (omega arith) refl
+
+returns : tie.Need-returns Inv-loop μ-loop
+returns c =
+    let a = c .before .before .args in
+    let sx : (k : ℕ) → Fits w64 (getD (a .t1) k 0) = λ k. search needs in
+    let sy : (k : ℕ) → Fits w64 (getD (a .t2) k 0) = λ k. search needs in
+    filled-all (c .before .loop .inv) (omega arith) (omega arith)
+    ∙ xored-words carriedWords _ _ (wordCoord (a .t1)) (wordCoord (a .t2)) (λ k h. sx k .fits) (λ k h. sy k .fits) (λ w j h l. sym (word-digit (a .t1) w j l)) (λ w j h l. sym (word-digit (a .t2) w j l))
+
+pub xored-spec : {M : Type 1} → statement M
+xored-spec =
+    tie.close
+    (tie.spec
+    Inv-loop
+    μ-loop
+    loop-holds
+    mul-out
+    array-read-out
+    mul-out-2
+    array-read-out-2
+    mul-out-3
+    array-write-out
+    add-w
+    loop-less
+    loop-again
+    returns)
