@@ -7,6 +7,7 @@
 -- RowLaws: what a row of a table adds to a product.
 -- ScatterBytes: the sums that the product's loops make are the products of specs/.
 -- PlainWords: the plain product on words.
+-- ReducedWords: the reduced product by the places of the ones in half of the rows.
 -- ChainSteps: the steps of the inverse's chain.
 -- FaultOrder: the order of the faults, and what holds where there is none.
 -- Theorems: the proofs of the statements in specs/Statements.antt.
@@ -18,6 +19,7 @@ pub mod GatherLaws
 pub mod RowLaws
 pub mod ScatterBytes
 pub mod PlainWords
+pub mod ReducedWords
 pub mod ChainSteps
 pub mod FaultOrder
 pub mod Theorems

@@ -3,7 +3,7 @@ use mathlib.Core.Path.{_≡_}
 use mathlib.Core.List.{List}
 use Prim.Native.Nat.{ℕ, suc, _+_, _-_, _*_, _/_, _%_, _^_, _<_, _≤_}
 use lib.ListN.{length}
-use lib.Dec.{ltb}
+use lib.Dec.{ltb, eqb}
 use Rattle.gf2.specs.Sums.{sum}
 use Rattle.gf2.specs.Operands.{carriedBytes, maxWidth, minus, choose}
 use Rattle.operand.specs.Words.{carriedWords, wordCoord}
@@ -36,6 +36,10 @@ IsWidth m = (2 ≤ m) × (m ≤ maxWidth)
 pub record Back (m d : ℕ) (x r : List ℕ) : Type 0 where
   pub coords : (i : ℕ) → i < m → wordCoord r i ≡ wordCoord x ((i + d) % m)
   pub clear : Clear m r
+
+-- the products of the pair i, i + d both ways round; one way where d is m/2 and the other way gives the same pairs
+unfoldable pub pairWords : ℕ → ℕ → List ℕ → List ℕ → ℕ → ℕ
+pairWords m d x y i = wordCoord x i * wordCoord y ((i + d) % m) + choose (eqb (2 * d) m) 0 (wordCoord y i * wordCoord x ((i + d) % m))
 
 -- the bits of a word, for the places from `from` on
 unfoldable pub bitFrom : ℕ → ℕ → ℕ → ℕ
