@@ -1,22 +1,18 @@
 -- The laws of this crate's definitions.
 -- SoundOperands: what the calls on operands answer where there is no fault.
--- KernelLaws: products of coordinates, and an operand spread by the ones of a row.
 -- CellLaws: what the kernels on words make.
 -- OnesLaws: the ones of words, and what they add at their places.
 -- GatherLaws: the places gathered.
--- RowLaws: what a row of a table adds to a product.
--- ScatterBytes: the sums that the product's loops make are the products of specs/.
+-- ScatterBytes: the rows spread by the places of their ones are the plain product of specs/.
 -- PlainWords: the plain product on words.
 -- ReducedWords: the reduced product by the places of the ones in half of the rows.
 -- ChainSteps: the steps of the inverse's chain.
 -- FaultOrder: the order of the faults, and what holds where there is none.
 -- Theorems: the proofs of the statements in specs/Statements.antt.
 pub mod SoundOperands
-pub mod KernelLaws
 pub mod CellLaws
 pub mod OnesLaws
 pub mod GatherLaws
-pub mod RowLaws
 pub mod ScatterBytes
 pub mod PlainWords
 pub mod ReducedWords

@@ -1,11 +1,10 @@
 -- What the kernels on operands without fault make, coordinate by coordinate.
 use mathlib.Core.Path.{_≡_}
 use mathlib.Core.List.{List}
-use Prim.Native.Nat.{ℕ, _+_, _-_, _*_, _≤_}
-use lib.Dec.{eqb}
+use Prim.Native.Nat.{ℕ, _-_, _*_, _≤_}
 use Rattle.gf2.specs.Sums.{sum}
 use Rattle.gf2.specs.Coordinates.{coord}
-use Rattle.gf2.specs.Operands.{maxWidth, carriedBytes, minus, choose, below, fromCoords, IsOperand}
+use Rattle.gf2.specs.Operands.{maxWidth, carriedBytes, minus, fromCoords, IsOperand}
 use Rattle.gf2.specs.Tables.{row}
 use Rattle.operand.specs.declared.Operand.{Operand}
 
@@ -28,14 +27,6 @@ pub record Sound (m : ℕ) (a : Operand) : Type 0 where
 unfoldable pub apartAt : ℕ → ℕ → List ℕ → List ℕ → ℕ → ℕ
 apartAt m d a b i = coord a i * coord b (minus m i (m - d))
 
--- how many of the pairs i, i + d count: half of them where the other half is the same pairs
-unfoldable pub kept : ℕ → ℕ → ℕ
-kept m d = choose (eqb (2 * d) m) d m
-
--- the products of the pair i, i + d both ways round
-unfoldable pub acrossAt : ℕ → ℕ → List ℕ → List ℕ → ℕ → ℕ
-acrossAt m d a b = below (kept m d) (λ i. apartAt m d a b i + apartAt m d b a i)
-
 -- coordinate i of the sum of e turned s, for each coordinate s of a row that is 1
 unfoldable pub spreadAt : ℕ → List ℕ → List ℕ → ℕ → ℕ
 spreadAt m row e i = sum m (λ s. coord row s * coord e (minus m i s))
@@ -43,7 +34,3 @@ spreadAt m row e i = sum m (λ s. coord row s * coord e (minus m i s))
 -- what row d adds to coordinate i of the plain product
 abbrev pub plainTerm : ℕ → List ℕ → List ℕ → List ℕ → ℕ → ℕ → ℕ
 plainTerm m table a b d = spreadAt m (row m table d) (fromCoords carriedBytes m (apartAt m d a b))
-
--- what row d adds to coordinate i of the reduced product, for itself and row m - d
-abbrev pub reducedTerm : ℕ → List ℕ → List ℕ → List ℕ → ℕ → ℕ → ℕ
-reducedTerm m table a b d = spreadAt m (row m table d) (fromCoords carriedBytes m (acrossAt m d a b))

@@ -8,7 +8,6 @@ use operand::OperandAnswer;
 
 mod chain;
 mod judge;
-mod kernel;
 mod plain;
 mod reduced;
 mod words;

@@ -8,22 +8,10 @@ ghost use Rattle.gf2.specs.Tables.{row};
 ghost use Rattle.gf2.specs.Products.{product};
 ghost use Rattle.operand.specs.Words.{wordCoord};
 ghost use Rattle.table.specs.Rows.{Shaped};
-ghost use Rattle.product.specs.Kernels.{Sound, carried, made, spreadAt};
+ghost use Rattle.product.specs.Kernels.{Sound, carried};
 ghost use Rattle.product.specs.Cells.{HasPlaces, Added, Clear};
-use crate::kernel;
 use crate::words;
 use operand::Operand;
-
-// `total` and e turned by each place of a one in row d.
-pub(crate) fn gathered(width: usize, table: &[u8], total: Operand, e: Operand, d: usize) -> Operand
-    requires { ⌜ Shaped width (now table) × Sound width total × Sound width e × (d < width) ⌝ }
-    ensures { λ r. ⌜ r ≡ made width (λ i. coord (total .bytes) i + spreadAt width (row width (now (table .entry)) d) (e .bytes) i) ⌝ }
-{
-    let line = table::row(width, table, d);
-    let part = kernel::spread(line.value, e);
-    let both = total.sum(part);
-    both.value
-}
 
 // What all rows add at the places of their ones: row d the products of coordinates i and i + d.
 fn add_rows(

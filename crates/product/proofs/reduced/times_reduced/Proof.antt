@@ -1,71 +1,70 @@
 -- `product::reduced::times_reduced` meets its contract.
-use mathlib.Core.Path.{_≡_, ap, _∙_}
-use Prim.Native.Nat.{_+_, _-_, _/_, _≤_}
-use native.Mathlib.Omega.{arith}
-use Rattle.product.specs.Kernels.{carried, made}
-use Rattle.product.proofs.SoundOperands.{made-sound, more-made, remade}
-use Rattle.product.proofs.KernelLaws.{diagonal-made}
-use Rattle.product.proofs.ScatterBytes.{reducedTo, reduced-none, reduced-more, reduced-all}
+use mathlib.Core.Path.{_≡_, ap₂, _∙_}
+use Prim.Native.Nat.{_*_}
+use Rattle.operand.specs.Words.{carriedWords}
+use Rattle.product.specs.Kernels.{carried}
+use Rattle.product.specs.Cells.{places}
+use Rattle.product.proofs.PlainWords.{words-clear}
+use Rattle.product.proofs.ReducedWords.{halved-size, halved-clear, halved-made}
 use borrow.Author.Needs.{needs}
 use Rattle.product.proofs.reduced.times_reduced.Statement.{statement}
 use Rattle.product.proofs.reduced.times_reduced.Tie as tie
 
-abbrev Inv-loop : tie.InvT-loop
-Inv-loop width table a b total₀ d₀ total d = (1 ≤ d) × (d ≤ width / 2 + 1) × (total ≡ made width (reducedTo width table (a .bytes) (b .bytes) (d - 1)))
+to-words-requires : tie.Need-to-words-requires
+to-words-requires c κs = search needs
 
-abbrev μ-loop : tie.MeasureT-loop
-μ-loop width table a b total₀ d₀ total d = width / 2 + 1 - d
+to-words-requires-2 : tie.Need-to-words-requires-2
+to-words-requires-2 c κs = search needs
 
-masked-requires : tie.Need-masked-requires Inv-loop μ-loop
+slice-aggregate-add-at : tie.Need-slice-aggregate-add-at
+slice-aggregate-add-at c = search needs
+
+masked-requires : tie.Need-masked-requires
 masked-requires c κs = search needs
 
-turn-requires : tie.Need-turn-requires Inv-loop μ-loop
-turn-requires c κs = search needs
+add-at-requires : tie.Need-add-at-requires
+add-at-requires c κs = search needs
 
-loop-holds : tie.Need-loop-holds Inv-loop μ-loop
-loop-holds c =
-    let s = c .before .before .before .before in
-    let diagonal = diagonal-made (s .pre .2) (s .args .b .bytes) (c .before .before .masked .ensures) (c .before .turn .ensures) in
-    (omega arith, omega arith, remade (s .args .width) _ _ (λ i l. omega (arith, reduced-none (s .args .width) (s .args .table .now) (s .args .a .bytes) (s .args .b .bytes) i)) diagonal)
+slice-aggregate-add-halves : tie.Need-slice-aggregate-add-halves
+slice-aggregate-add-halves c = search needs
 
-with-rows-requires : tie.Need-with-rows-requires Inv-loop μ-loop
-with-rows-requires c κs =
-    let s = c .before .before .before .before .before .before in
-    (s .pre .0, s .pre .2, s .pre .3, made-sound (s .pre .2) _ (c .before .loop .inv .2), omega arith)
+add-halves-requires : tie.Need-add-halves-requires
+add-halves-requires c κs =
+    let s = c .before .before .before .before .before .before .before .before .before .before in
+    (s .pre .0, words-clear (s .pre .2) (c .before .before .before .before .before .before .to-words .ensures), words-clear (s .pre .3) (c .before .before .before .before .before .to-words2 .ensures), c .before .before .add-at .ensures .size)
 
-add-d : tie.Need-add-d Inv-loop μ-loop
-add-d c = search needs
+slice-aggregate-gathered : tie.Need-slice-aggregate-gathered
+slice-aggregate-gathered c = search needs
 
-loop-less : tie.Need-loop-less Inv-loop μ-loop
-loop-less c = search needs
-
-loop-again : tie.Need-loop-again Inv-loop μ-loop
-loop-again c =
-    let s = c .before .before .before .before .before .before .before in (
-      omega arith,
-      omega arith,
-      more-made (s .args .width) (s .pre .2 .greatest) _ _ _ (c .before .before .loop .inv .2) (c .with-rows .ensures)
-          (λ i l. omega (arith, reduced-more (s .args .width) (s .args .table .now) (s .args .a .bytes) (s .args .b .bytes) (c .before .before .loop .d) i (c .before .before .loop .inv .0))),
+gathered-requires : tie.Need-gathered-requires
+gathered-requires c κs =
+    let s = c .before .before .before .before .before .before .before .before .before .before .before .before .before in (
+      (s .pre .0 .least, s .pre .0 .greatest),
+      halved-size (places * carriedWords) (s .pre .0) (s .pre .2) (s .pre .3) (c .before .before .before .before .before .before .before .before .before .to-words .ensures) (c .before .before .before .before .before .before .before .before .to-words2 .ensures) (c .before .before .before .before .before .before .masked .ensures) (c .before .before .before .before .before .add-at .ensures) (c .before .before .add-halves .ensures),
+      halved-clear (places * carriedWords) (s .pre .0) (s .pre .2) (s .pre .3) (c .before .before .before .before .before .before .before .before .before .to-words .ensures) (c .before .before .before .before .before .before .before .before .to-words2 .ensures) (c .before .before .before .before .before .before .masked .ensures) (c .before .before .before .before .before .add-at .ensures) (c .before .before .add-halves .ensures),
     )
 
-returns : tie.Need-returns Inv-loop μ-loop
+to-bytes-requires : tie.Need-to-bytes-requires
+to-bytes-requires c κs = search needs
+
+returns : tie.Need-returns
 returns c =
-    let s = c .before .before .before .before .before .before in
-    let all : c .before .loop .d - 1 ≡ s .args .width / 2 = omega arith in
-    c .before .loop .inv .2 ∙ ap (λ d. made (s .args .width) (reducedTo (s .args .width) (s .args .table .now) (s .args .a .bytes) (s .args .b .bytes) d)) all
-    ∙ ap (carried (s .args .width)) (reduced-all (s .args .width) (s .args .table .now) (s .args .a .bytes) (s .args .b .bytes) (s .pre .0 .least) (s .pre .0 .greatest) (s .pre .0 .isTable) (s .pre .1) (s .pre .2 .operand .size))
+    let s = c .before .before .before .before .before .before .before .before .before .before .before .before .before .before .before in
+    ap₂ carried (s .pre .2 .width) (c .to-bytes .ensures
+    ∙ halved-made (places * carriedWords) (s .pre .0) (s .pre .2) (s .pre .3) (c .before .before .before .before .before .before .before .before .before .before .before .to-words .ensures) (c .before .before .before .before .before .before .before .before .before .before .to-words2 .ensures) (c .before .before .before .before .before .before .before .before .masked .ensures) (c .before .before .before .before .before .before .before .add-at .ensures) (c .before .before .before .before .add-halves .ensures) (s .pre .1) (c .before .gathered .ensures))
 
 pub times-reduced-spec : {M : Type 1} → statement M
 times-reduced-spec =
     tie.close
     (tie.spec
-    Inv-loop
-    μ-loop
+    to-words-requires
+    to-words-requires-2
+    slice-aggregate-add-at
     masked-requires
-    turn-requires
-    loop-holds
-    with-rows-requires
-    add-d
-    loop-less
-    loop-again
+    add-at-requires
+    slice-aggregate-add-halves
+    add-halves-requires
+    slice-aggregate-gathered
+    gathered-requires
+    to-bytes-requires
     returns)
