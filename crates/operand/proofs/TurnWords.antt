@@ -12,7 +12,7 @@ use Rattle.gf2.specs.Coordinates.{coord, pack}
 use Rattle.gf2.specs.Operands.{carriedBytes, minus, IsOperand, below, fromCoords, turned}
 use Rattle.gf2.proofs.Coordinates.{digit-front, digit-back, digit-none}
 use Rattle.gf2.proofs.Operands.{from-ext, minus-below, minus-round}
-use Rattle.operand.specs.Words.{carriedWords, wordCoord, packWords, turnedWords}
+use Rattle.operand.specs.Words.{carriedWords, wordCoord, packWords}
 use Rattle.operand.proofs.WordCoords.{word-past, word-pack, words-below, words-coord, bytes-words}
 
 -- n zeros before x and after it

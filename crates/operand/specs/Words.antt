@@ -4,7 +4,7 @@ use mathlib.Core.List.{List}
 use Prim.Native.Nat.{ℕ, _+_, _*_, _/_, _%_, _^_, _<_}
 use lib.ListN.{length, getD}
 use Rattle.gf2.specs.Coordinates.{value, tabulate}
-use Rattle.gf2.specs.Operands.{carriedBytes, below, minus}
+use Rattle.gf2.specs.Operands.{carriedBytes}
 
 -- the words of `carriedBytes` bytes
 abbrev pub carriedWords : ℕ
@@ -17,10 +17,6 @@ wordCoord words i = getD words (i / 64) 0 / 2 ^ (i % 64) % 2
 -- the n words whose coordinates are f 0, f 1, .., each modulo 2
 unfoldable pub packWords : ℕ → (ℕ → ℕ) → List ℕ
 packWords n f = tabulate n (λ w. value 64 (λ j. f (w * 64 + j)))
-
--- "turned k places, coordinate i of the result is coordinate i-k of the old", on words
-unfoldable pub turnedWords : ℕ → ℕ → List ℕ → List ℕ
-turnedWords m k words = packWords carriedWords (below m (λ i. wordCoord words (minus m i k)))
 
 -- the first t bytes of a word, in a list from place b on as far as that goes; what stands before them is as it was
 pub record Put (t word b : ℕ) (before after : List ℕ) : Type 0 where

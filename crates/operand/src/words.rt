@@ -1,5 +1,5 @@
 // A carried operand in words of 64 bits: coordinate i is bit i % 64 of word i / 64.
-// The way from bytes to words and back, by whole words where the bytes reach, and the turns by one place.
+// The way from bytes to words and back, by whole words where the bytes reach; sums, and the coordinates below a width.
 ghost use mathlib.Core.Path.{_≡_};
 ghost use Prim.Native.Nat.{ℕ, _+_, _-_, _*_, _/_, _%_, _^_, _<_, _≤_};
 ghost use lib.ListN.{length, getD};

@@ -19,10 +19,10 @@ use Rattle.operand.specs.declared.Operand.{Operand}
 use Rattle.operand.specs.Words.{carriedWords, wordCoord, packWords}
 use Rattle.operand.proofs.WordCoords.{word-lt, word-past, length-words, word-pack}
 use Rattle.table.specs.Rows.{Shaped}
-use Rattle.product.specs.Kernels.{Sound, apartAt, spreadAt}
+use Rattle.product.specs.Kernels.{Sound}
 use Rattle.product.specs.Cells.{places, cell, Added, Clear, IsWidth, Back, Gathered}
 use Rattle.product.proofs.SoundOperands.{fits}
-use Rattle.product.proofs.ScatterBytes.{plainTo, plain-all}
+use Rattle.product.proofs.ScatterBytes.{apartAt, spreadAt, plainTo, plain-all}
 use Rattle.product.proofs.CellLaws.{bit-mul, added-none, added-more}
 use Rattle.product.proofs.GatherLaws.{word-none, minus-is, gathered-rows, bytes-made}
 

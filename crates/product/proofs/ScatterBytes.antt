@@ -2,12 +2,12 @@
 use mathlib.Core.Path.{_≡_, refl, sym, ap, fun-ext, _∙_}
 use mathlib.Core.Bool.{_&&_}
 use mathlib.Core.List.{List}
-use Prim.Native.Nat.{ℕ, zero, suc, _-_, _≤_}
+use Prim.Native.Nat.{ℕ, zero, suc, _-_, _*_, _≤_}
 use native.Mathlib.Omega.{arith}
 use lib.ListN.{length}
 use Rattle.gf2.specs.Sums.{sum}
 use Rattle.gf2.specs.Coordinates.{coord}
-use Rattle.gf2.specs.Operands.{carriedBytes, maxWidth, fromCoords}
+use Rattle.gf2.specs.Operands.{carriedBytes, maxWidth, minus, fromCoords}
 use Rattle.gf2.specs.Tables.{row, IsTable}
 use Rattle.gf2.specs.Products.{product}
 use Rattle.gf2.proofs.Operands.{coord-from}
@@ -19,8 +19,19 @@ use Rattle.gf2.proofs.VectorProduct.{_·_ as mul}
 use Rattle.gf2.proofs.VectorForms.{apart, scatter, mul-scatter}
 use Rattle.gf2.proofs.OperandVectors.{vec, bytes, from-vec}
 use Rattle.gf2.proofs.TableVectors.{rows, product-vec}
-use Rattle.product.specs.Kernels.{apartAt, spreadAt, plainTerm}
 use Rattle.product.proofs.SoundOperands.{fits}
+
+-- coordinate i of a times coordinate i + d of b; modulo m, i + d is i - (m - d)
+unfoldable pub apartAt : ℕ → ℕ → List ℕ → List ℕ → ℕ → ℕ
+apartAt m d a b i = coord a i * coord b (minus m i (m - d))
+
+-- coordinate i of the sum of e turned s, for each coordinate s of a row that is 1
+unfoldable pub spreadAt : ℕ → List ℕ → List ℕ → ℕ → ℕ
+spreadAt m row e i = sum m (λ s. coord row s * coord e (minus m i s))
+
+-- what row d adds to coordinate i of the plain product
+abbrev pub plainTerm : ℕ → List ℕ → List ℕ → List ℕ → ℕ → ℕ → ℕ
+plainTerm m table a b d = spreadAt m (row m table d) (fromCoords carriedBytes m (apartAt m d a b))
 
 -- coordinate r after the rows 0 .. n - 1
 unfoldable pub plainTo : ℕ → List ℕ → List ℕ → List ℕ → ℕ → ℕ → ℕ

@@ -9,7 +9,11 @@ use Rattle.operand.specs.declared.Operand.{Operand}
 use Rattle.operand.specs.declared.OperandAnswer.{OperandAnswer}
 use Rattle.operand.specs.Calls.{turnCall}
 use Rattle.operand.proofs.FaultFree.{IsWidth, turn-done}
-use Rattle.product.specs.Kernels.{Sound, carried, made}
+use Rattle.product.specs.Kernels.{Sound, carried}
+
+-- the operand of width m with the coordinates f 0, .., f (m - 1), each modulo 2
+abbrev pub made : ℕ → (ℕ → ℕ) → Operand
+made m f = carried m (fromCoords carriedBytes m f)
 
 -- a width's operand has room in the carried bytes
 pub fits : (m : ℕ) → m ≤ maxWidth → m ≤ 8 * carriedBytes

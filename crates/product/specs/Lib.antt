@@ -1,7 +1,7 @@
 -- The definitions that the contracts of this crate cite.
 -- Judgements: the faults of a product and of an inverse.
 -- Calls: what each call answers, for every input.
--- Kernels: what the kernels on operands without fault make.
+-- Kernels: operands without fault, as the kernels take and make them.
 -- Cells: what the kernels on words make.
 -- ChainStates: the state that a step of the inverse's chain hands on.
 -- Statements: what is proved of them under an accepted table; the proofs are proofs/Theorems.antt.

@@ -33,7 +33,7 @@ fn across(
     if 2 * d == m {
         return one;
     }
-    words::xored(one, words::masked(y, xd))
+    operand::xored_words(one, words::masked(y, xd))
 }
 
 // What the rows 1 to m/2 add at the places of their ones.

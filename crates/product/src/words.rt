@@ -1,4 +1,4 @@
-// Kernels in words of 64 bits: coordinates multiplied and added, a turn back by one place,
+// Kernels in words of 64 bits: coordinates multiplied, a turn back by one place,
 // and places of words, at which what the ones of a row ask for is added up and which are gathered in the end.
 ghost use mathlib.Core.Path.{_≡_};
 ghost use Prim.Native.Nat.{ℕ, _+_, _*_, _/_, _%_, _^_, _<_, _≤_};
@@ -23,19 +23,6 @@ pub(crate) fn masked(x: [u64; Operand::WORDS], y: [u64; Operand::WORDS]) -> [u64
     let mut w = 0;
     while w < Operand::WORDS {
         out[w] = x[w] & y[w];
-        w += 1;
-    }
-    out
-}
-
-// The sums of the coordinates.
-pub(crate) fn xored(x: [u64; Operand::WORDS], y: [u64; Operand::WORDS]) -> [u64; Operand::WORDS]
-    ensures { λ r. ⌜ r ≡ packWords carriedWords (λ i. wordCoord x i + wordCoord y i) ⌝ }
-{
-    let mut out = [0u64; Operand::WORDS];
-    let mut w = 0;
-    while w < Operand::WORDS {
-        out[w] = x[w] ^ y[w];
         w += 1;
     }
     out

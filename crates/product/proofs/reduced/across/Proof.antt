@@ -19,14 +19,14 @@ returns c =
 masked-requires-2 : tie.Need-masked-requires-2
 masked-requires-2 c κs = search needs
 
-xored-requires : tie.Need-xored-requires
-xored-requires c κs = search needs
+xored-words-requires : tie.Need-xored-words-requires
+xored-words-requires c κs = search needs
 
 returns-2 : tie.Need-returns-2
 returns-2 c =
     let a = c .before .before .before .before .args in
-    pair-twice (a .m) (a .d) _ _ (c .before .before .if1 .left) (c .before .before .before .masked .ensures) (c .before .masked2 .ensures) (c .xored .ensures)
+    pair-twice (a .m) (a .d) _ _ (c .before .before .if1 .left) (c .before .before .before .masked .ensures) (c .before .masked2 .ensures) (c .xored-words .ensures)
 
 pub across-spec : {M : Type 1} → statement M
 across-spec =
-    tie.close (tie.spec masked-requires mul-if1 returns masked-requires-2 xored-requires returns-2)
+    tie.close (tie.spec masked-requires mul-if1 returns masked-requires-2 xored-words-requires returns-2)
