@@ -5,18 +5,24 @@
 use mathlib.Core.Path.{_≡_, refl, sym, ap, _∙_}
 use mathlib.Core.List.{List, [], _∷_, _++_}
 use mathlib.Core.Bool.{true, false}
-use Prim.Native.Nat.{ℕ, zero, suc, _+_, _-_, _*_, _/_, _%_, _<_, _≤_}
-use native.Mathlib.Nat.{suc-mul, mul-le-mul}
+use Prim.Native.Nat.{ℕ, zero, suc, _+_, _-_, _*_, _/_, _%_, _^_, _<_, _≤_}
+use native.Mathlib.Nat.{add-zero, zero-div, suc-mul, mul-le-mul, lt-of-le-of-lt}
 use native.Mathlib.Numerals.{add-one}
-use native.Mathlib.Decide.{decLt}
+use native.Mathlib.Decide.{decLt, ℕ-discrete}
 use native.Mathlib.Omega.{arith}
-use lib.ListN.{length, take, drop, set, length-append}
+use lib.ListN.{length, getD, take, drop, set, length-append}
 use lib.Seq.{sets}
 use lib.Dec.{ltb}
+use lib.Pow.{shr-shr, shr-le}
+use lib.Count.{trailingZeros}
 use borrow.Author.Tests.{lt-ltb, le-ltb}
-use Rattle.gf2.specs.Coordinates.{coord}
-use Rattle.gf2.specs.Operands.{maxWidth, bytesFor}
+use Rattle.gf2.specs.Coordinates.{coord, pack}
+use Rattle.gf2.specs.Operands.{maxWidth, carriedBytes, bytesFor}
 use Rattle.gf2.specs.Tables.{row}
+use Rattle.gf2.proofs.Coordinates.{coord-lt, coord-pack}
+use Rattle.gf2.proofs.TrailingZeros.{trailing-low, trailing-one, one-below}
+use Rattle.operand.specs.Words.{carriedWords, wordCoord, packWords}
+use Rattle.operand.proofs.WordCoords.{word-digit, word-pack}
 use Rattle.operand.specs.declared.fault.Fault.{Fault}
 use Rattle.operand.specs.declared.fault.Fault.the-variants.{None, OutputShort}
 use Rattle.operand.specs.Faults.{isNone, when}
@@ -28,7 +34,7 @@ use Rattle.card.specs.Numbers.{number}
 use Rattle.card.specs.Rows.{places, steps, onesOf, rowCard, rowsCard}
 use Rattle.card.specs.Cards.{card}
 use Rattle.card.specs.Calls.{writeFault, writeCall, writeCard}
-use Rattle.card.specs.Steps.{longest}
+use Rattle.card.specs.Steps.{longest, Begins}
 use Rattle.card.proofs.Places.{places-zero, places-one, places-ascend, count-le}
 use Rattle.card.proofs.Stores.{sets-append, sets-front}
 
@@ -74,71 +80,113 @@ all-left m f = let z : m - 0 ≡ m = omega arith in rw z
 pub ones-le : (m : ℕ) (f : ℕ → ℕ) → length (places f 0 m) ≤ m
 ones-le m f = omega (arith, count-le (places-ascend f 0 m m (omega arith)))
 
+-- n places from i on where f is 0 are passed over
+pub places-skip : (m : ℕ) (f : ℕ → ℕ) (i n : ℕ) → ((j : ℕ) → j < n → f (i + j) ≡ 0) → places f (i + n) (m - (i + n)) ≡ places f i (m - i)
+places-skip m f i zero z = ap (λ k. places f k (m - k)) (add-zero i)
+places-skip m f i (suc n) z = ap (λ k. places f k (m - k)) (omega arith) ∙ last ∙ places-skip m f i n (λ j l. z j (omega arith))
+  where
+    last : places f (i + n + 1) (m - (i + n + 1)) ≡ places f (i + n) (m - (i + n))
+    last = elim (decLt (i + n) m) [
+      | yes h ↦ sym (left-zero m f (i + n) h (z n (omega arith)))
+      | no h ↦ left-none m f (i + n + 1) (omega arith) ∙ sym (left-none m f (i + n) (omega arith))
+    ]
+
+-- what is left of the word that place i stands in
+module _ (row : List ℕ) (i : ℕ) where
+  abbrev pub leftOf : ℕ
+  leftOf = getD row (i / 64) 0 / 2 ^ (i % 64)
+
+  left-bit : (j : ℕ) → i % 64 + j < 64 → leftOf / 2 ^ j % 2 ≡ wordCoord row (i + j)
+  left-bit j l =
+      let e : i / 64 * 64 + (i % 64 + j) ≡ i + j = omega arith in
+      ap (λ y. y % 2) (shr-shr (getD row (i / 64) 0) (i % 64) j) ∙ sym (word-digit row (i / 64) (i % 64 + j) l) ∙ ap (wordCoord row) e
+
+  pub left-skip : (m : ℕ) → leftOf ≡ 0 → places (wordCoord row) ((i / 64 + 1) * 64) (m - (i / 64 + 1) * 64) ≡ places (wordCoord row) i (m - i)
+  left-skip m z =
+      let e : (i / 64 + 1) * 64 ≡ i + (64 - i % 64) = omega arith in
+      ap (λ k. places (wordCoord row) k (m - k)) e
+      ∙ places-skip m (wordCoord row) i (64 - i % 64) (λ j l. sym (left-bit j (omega arith)) ∙ ap (λ y. y / 2 ^ j % 2) z ∙ ap (λ y. y % 2) (zero-div (2 ^ j)))
+
+  module _ (small : (w : ℕ) → getD row w 0 < 2 ^ 64) (some : leftOf ≡ 0 → ⊥) where
+    abbrev pub zeros : ℕ
+    zeros = trailingZeros 64 leftOf
+
+    first-one : leftOf / 2 ^ zeros % 2 ≡ 1
+    first-one = trailing-one 64 leftOf (positive leftOf some) (lt-of-le-of-lt (shr-le (getD row (i / 64) 0) (i % 64)) (small (i / 64)))
+      where
+        positive : (n : ℕ) → (n ≡ 0 → ⊥) → 0 < n
+        positive zero n = absurd (n refl)
+        positive (suc k) n = omega arith
+
+    pub zeros-lt : i % 64 + zeros < 64
+    zeros-lt = one-below (getD row (i / 64) 0) 64 (i % 64 + zeros) (small (i / 64)) (sym (ap (λ y. y % 2) (shr-shr (getD row (i / 64) 0) (i % 64) zeros)) ∙ first-one)
+
+    pub begins-here : (m : ℕ) → Begins m (wordCoord row) i (i + zeros)
+    begins-here m = record {
+      above = omega arith;
+      same = places-skip m (wordCoord row) i zeros (λ j l. sym (left-bit j (omega (arith, zeros-lt))) ∙ trailing-low 64 leftOf j l);
+      isOne = λ l z. apart _ (sym (left-bit zeros zeros-lt) ∙ first-one) z;
+    }
+      where
+        apart : (n : ℕ) → n ≡ 1 → n ≡ 0 → ⊥
+        apart n e z = omega arith
+
+pub begins-from : {m : ℕ} {f : ℕ → ℕ} {from i r : ℕ} → from ≤ i → places f i (m - i) ≡ places f from (m - from) → Begins m f i r → Begins m f from r
+begins-from {from = from} {r = r} h e b = record { above = omega (arith, b .above); same = b .same ∙ e; isOne = b .isOne }
+
 -- the loop that counts the ones: n of them stand below i
 pub record OnesTo (m : ℕ) (f : ℕ → ℕ) (n i : ℕ) : Type 0 where
-  pub within : i ≤ m
   pub few : n ≤ i
+  pub isOne : i < m → f i ≡ 0 → ⊥
   pub counted : n + length (places f i (m - i)) ≡ length (places f 0 m)
 
-pub ones-none : (m : ℕ) (f : ℕ → ℕ) → OnesTo m f 0 0
-ones-none m f = record { within = omega arith; few = omega arith; counted = omega (arith, ap length (all-left m f)) }
+pub ones-none : {m : ℕ} {f : ℕ → ℕ} {i : ℕ} → Begins m f 0 i → OnesTo m f 0 i
+ones-none {m} {f} b = record { few = omega arith; isOne = b .isOne; counted = omega (arith, ap length (b .same ∙ all-left m f)) }
 
 module _ {m : ℕ} {f : ℕ → ℕ} {n i : ℕ} (to : OnesTo m f n i) where
-  pub ones-zero : i < m → f i ≡ 0 → OnesTo m f n (i + 1)
-  ones-zero h z =
-      let few = to .few in
-      record { within = omega arith; few = omega arith; counted = omega (arith, to .counted, ap length (left-zero m f i h z)) }
-
-  pub ones-one : i < m → (f i ≡ 0 → ⊥) → OnesTo m f (n + 1) (i + 1)
-  ones-one h z =
-      let few = to .few in
-      record { within = omega arith; few = omega arith; counted = omega (arith, to .counted, ap length (left-one m f i h z)) }
+  pub ones-more : {r : ℕ} → i < m → Begins m f (i + 1) r → OnesTo m f (n + 1) r
+  ones-more {r} h b = record {
+    few = omega (arith, to .few, b .above);
+    isOne = b .isOne;
+    counted = omega (arith, to .counted, ap length (left-one m f i h (to .isOne h)), ap length (b .same));
+  }
 
   pub ones-done : m ≤ i → n ≡ length (places f 0 m)
   ones-done h = omega (arith, to .counted, ap length (left-none m f i h))
 
 -- the loop that puts the places: those below i are stored, and what is left is put at `next`
 pub record StepsTo (m : ℕ) (f : ℕ → ℕ) (at : ℕ) (old new : List ℕ) (next free i : ℕ) : Type 0 where
-  pub within : i ≤ m
   pub below : free ≤ i
+  pub isOne : i < m → f i ≡ 0 → ⊥
   pub ends : next + length (steps free (places f i (m - i))) ≡ at + length (steps 0 (places f 0 m))
   pub stored : sets new next (steps free (places f i (m - i))) ≡ sets old at (steps 0 (places f 0 m))
   pub kept : length new ≡ length old
 
-pub steps-none : (m : ℕ) (f : ℕ → ℕ) (at : ℕ) (old : List ℕ) → StepsTo m f at old old at 0 0
-steps-none m f at old = record {
-  within = omega arith;
+pub steps-none : {m : ℕ} {f : ℕ → ℕ} (at : ℕ) (old : List ℕ) {i : ℕ} → Begins m f 0 i → StepsTo m f at old old at 0 i
+steps-none {m} {f} at old b = record {
   below = omega arith;
-  ends = ap (λ ps. at + length (steps 0 ps)) (all-left m f);
-  stored = ap (λ ps. sets old at (steps 0 ps)) (all-left m f);
+  isOne = b .isOne;
+  ends = ap (λ ps. at + length (steps 0 ps)) (b .same ∙ all-left m f);
+  stored = ap (λ ps. sets old at (steps 0 ps)) (b .same ∙ all-left m f);
   kept = refl;
 }
 
 module _ {m : ℕ} {f : ℕ → ℕ} {at : ℕ} {old new : List ℕ} {next free i : ℕ} (to : StepsTo m f at old new next free i) where
-  pub steps-zero : i < m → f i ≡ 0 → StepsTo m f at old new next free (i + 1)
-  steps-zero h z =
-      let e = left-zero m f i h z in
-      let b = to .below in record {
-        within = omega arith;
-        below = omega arith;
-        ends = ap (λ ps. next + length (steps free ps)) (sym e) ∙ to .ends;
-        stored = ap (λ ps. sets new next (steps free ps)) (sym e) ∙ to .stored;
-        kept = to .kept;
-      }
-
-  steps-split : i < m → (f i ≡ 0 → ⊥) → steps free (places f i (m - i)) ≡ number (i - free) ++ steps (i + 1) (places f (i + 1) (m - (i + 1)))
+  steps-split : i < m → steps free (places f i (m - i)) ≡ number (i - free) ++ steps (i + 1) (places f (i + 1) (m - (i + 1)))
   unfolding steps
-  steps-split h n = rw (left-one m f i h n)
+  steps-split h = rw (left-one m f i h (to .isOne h))
 
-  pub steps-one : {then : ℕ} {put : List ℕ} → i < m → (f i ≡ 0 → ⊥) → then ≡ next + length (number (i - free)) → put ≡ sets new next (number (i - free)) →
-      length put ≡ length new → StepsTo m f at old put then (i + 1) (i + 1)
-  steps-one h n t p k =
-      let e = steps-split h n in
-      let rest = steps (i + 1) (places f (i + 1) (m - (i + 1))) in record {
-        within = omega arith;
-        below = omega arith;
-        ends = omega (arith, t, to .ends, ap length e, length-append (number (i - free)) rest);
-        stored = rw (p, t) (sym (sets-append new next (number (i - free)) rest) ∙ ap (sets new next) (sym e) ∙ to .stored);
+  pub steps-more : {then r : ℕ} {put : List ℕ} → i < m → then ≡ next + length (number (i - free)) → put ≡ sets new next (number (i - free)) →
+      length put ≡ length new → Begins m f (i + 1) r → StepsTo m f at old put then (i + 1) r
+  steps-more {r = r} h t p k b =
+      let e = steps-split h in
+      let rest = steps (i + 1) (places f (i + 1) (m - (i + 1))) in
+      let s = ap (steps (i + 1)) (b .same) in record {
+        below = b .above;
+        isOne = b .isOne;
+        ends = omega (arith, t, to .ends, ap length e, length-append (number (i - free)) rest, ap length s);
+        stored = rw (p, t) (ap (sets (sets new next (number (i - free))) (next + length (number (i - free)))) s
+            ∙ sym (sets-append new next (number (i - free)) rest) ∙ ap (sets new next) (sym e) ∙ to .stored);
         kept = k ∙ to .kept;
       }
 
@@ -149,14 +197,37 @@ module _ {m : ℕ} {f : ℕ → ℕ} {at : ℕ} {old new : List ℕ} {next free 
   pub steps-done : m ≤ i → (next ≡ at + length (steps 0 (places f 0 m))) × (new ≡ sets old at (steps 0 (places f 0 m)))
   steps-done h = (omega (arith, to .ends, ap length (steps-all h)), ap (sets new next) (sym (steps-all h)) ∙ to .stored)
 
-pub row-length : (m : ℕ) (x : List ℕ) → length (rowCard m x) ≡ length (number (length (onesOf m x))) + length (steps 0 (onesOf m x))
-unfolding rowCard
-row-length m x = length-append (number (length (onesOf m x))) (steps 0 (onesOf m x))
+-- a row in words has the places of the row
+pub places-ext : (f g : ℕ → ℕ) (start count : ℕ) → ((i : ℕ) → start ≤ i → i < start + count → f i ≡ g i) → places f start count ≡ places g start count
+places-ext f g start zero e = unfold places in refl
+places-ext f g start (suc count) e = go (e start (omega arith) (omega arith)) (places-ext f g (start + 1) count (λ i h l. e i (omega arith) (omega arith)))
+  where
+    go : f start ≡ g start → places f (start + 1) count ≡ places g (start + 1) count → places f start (suc count) ≡ places g start (suc count)
+    go here rest = unfold places in rw (here, rest)
 
-pub row-put : (m : ℕ) (x old : List ℕ) (at : ℕ) {mid new : List ℕ} {next : ℕ} → next ≡ at + length (number (length (onesOf m x))) →
-    mid ≡ sets old at (number (length (onesOf m x))) → new ≡ sets mid next (steps 0 (onesOf m x)) → new ≡ sets old at (rowCard m x)
-unfolding rowCard
-row-put m x old at e p q = q ∙ rw (e, p) (sym (sets-append old at (number (length (onesOf m x))) (steps 0 (onesOf m x))))
+pub row-places : (m : ℕ) (x : List ℕ) → m ≤ maxWidth → {y words : List ℕ} → y ≡ pack carriedBytes (coord x) → words ≡ packWords carriedWords (coord y)
+    → places (wordCoord words) 0 m ≡ onesOf m x
+row-places m x h {y} p q = places-ext _ (coord x) 0 m (λ i a l. ap (λ s. wordCoord s i) q ∙ word-pack carriedWords (coord y) i (omega arith)
+    ∙ ap (λ s. coord s i % 2) p ∙ ap (λ k. k % 2) (coord-pack carriedBytes (coord x) i (omega arith)) ∙ twice (coord x i) (coord-lt x i))
+  where
+    twice : (k : ℕ) → k < 2 → k % 2 % 2 ≡ k
+    twice k l = omega arith
+
+-- a row is put: its n ones, and the steps to their places
+module _ (m : ℕ) (x : List ℕ) {ps : List ℕ} {n : ℕ} (p : ps ≡ onesOf m x) (e : n ≡ length ps) where
+  row-is : rowCard m x ≡ number n ++ steps 0 ps
+  unfolding rowCard
+  row-is = rw (e, p)
+
+  pub row-length : length (rowCard m x) ≡ length (number n) + length (steps 0 ps)
+  row-length = ap length row-is ∙ length-append (number n) (steps 0 ps)
+
+  pub row-ones : n ≤ m
+  row-ones = omega (arith, e, ap length p, ones-le m (coord x))
+
+  pub row-put : (old : List ℕ) (at : ℕ) {mid new : List ℕ} {next end : ℕ} → next ≡ at + length (number n) → mid ≡ sets old at (number n) → end ≡ next + length (steps 0 ps)
+      → new ≡ sets mid next (steps 0 ps) → (end ≡ at + length (rowCard m x)) × (new ≡ sets old at (rowCard m x))
+  row-put old at a b c d = (omega (arith, a, c, row-length), d ∙ rw (a, b, row-is) (sym (sets-append old at (number n) (steps 0 ps))))
 
 -- row d, as it is lent
 pub lent-row : (m d size : ℕ) (t : List ℕ) → size ≡ bytesFor m → take (d * size + size - d * size) (drop (d * size) t) ≡ row m t d
@@ -215,7 +286,7 @@ steps-le free [] = omega arith
 steps-le free (p ∷ ps) = omega (arith, length-append (number (p - free)) (steps (p + 1) ps), number-le (p - free), steps-le (p + 1) ps)
 
 row-le : (m : ℕ) (x : List ℕ) → length (rowCard m x) ≤ 2 * m + 2
-row-le m x = omega (arith, row-length m x, number-le (length (onesOf m x)), steps-le 0 (onesOf m x), ones-le m (coord x))
+row-le m x = omega (arith, row-length m x {ps = onesOf m x} refl refl, number-le (length (onesOf m x)), steps-le 0 (onesOf m x), ones-le m (coord x))
 
 rows-le : (m : ℕ) (table : List ℕ) (start count : ℕ) → length (rowsCard m table start count) ≤ count * (2 * m + 2)
 unfolding rowsCard

@@ -3,13 +3,13 @@ ghost use mathlib.Core.Path.{_≡_};
 ghost use Prim.Native.Nat.{_+_, _*_, _<_, _≤_};
 ghost use lib.ListN.{length};
 ghost use lib.Seq.{sets};
-ghost use Rattle.gf2.specs.Coordinates.{coord};
 ghost use Rattle.gf2.specs.Operands.{maxWidth, bytesFor};
 ghost use Rattle.card.specs.Numbers.{number, numberLimit};
-ghost use Rattle.card.specs.Rows.{onesOf, steps, rowCard, rowsCard};
+ghost use Rattle.operand.specs.Words.{wordCoord};
+ghost use Rattle.card.specs.Rows.{places, steps, rowCard, rowsCard};
 ghost use Rattle.card.specs.Cards.{card};
 ghost use Rattle.card.specs.Calls.{writeCall, writeCard};
-ghost use Rattle.card.specs.Steps.{longest};
+ghost use Rattle.card.specs.Steps.{longest, Begins};
 use crate::CardAnswer;
 use crate::refused;
 use crate::store;
@@ -28,42 +28,47 @@ fn put_number(out: &mut [u8], at: usize, n: usize) -> usize
     at + 2
 }
 
-fn bit_at(row: &[u8], i: usize) -> u8
-    requires { ⌜ i < 8 * length (now row) ⌝ }
-    ensures { λ r. ⌜ r ≡ coord (now (row .entry)) i ⌝ }
+// The first place from `from` on whose coordinate isn't 0, or one at the width or above. Words of zeros are passed over at once.
+fn next_place(row: &[u64], from: usize, width: usize) -> usize
+    requires { ⌜ (from ≤ width) × (width ≤ maxWidth) × (width ≤ 64 * length (now row)) ⌝ }
+    ensures { λ r. ⌜ Begins width (wordCoord (now (row .entry))) from r ⌝ }
 {
-    (row[i / 8] >> (i % 8)) % 2
+    let mut i = from;
+    while i < width {
+        let left = row[i / 64] >> (i % 64);
+        if left != 0 {
+            return i + u64::trailing_zeros(left) as usize;
+        }
+        i = (i / 64 + 1) * 64;
+    }
+    i
 }
 
-fn ones(row: &[u8], width: usize) -> usize
-    requires { ⌜ (width ≤ 8 * length (now row)) × (width ≤ maxWidth) ⌝ }
-    ensures { λ r. ⌜ r ≡ length (onesOf width (now (row .entry))) ⌝ }
+fn ones(row: &[u64], width: usize) -> usize
+    requires { ⌜ (width ≤ maxWidth) × (width ≤ 64 * length (now row)) ⌝ }
+    ensures { λ r. ⌜ r ≡ length (places (wordCoord (now (row .entry))) 0 width) ⌝ }
 {
     let mut n = 0;
-    let mut i = 0;
+    let mut i = next_place(row, 0, width);
     while i < width {
-        if bit_at(row, i) != 0 {
-            n += 1;
-        }
-        i += 1;
+        n += 1;
+        i = next_place(row, i + 1, width);
     }
     n
 }
 
-fn put_places(out: &mut [u8], at: usize, row: &[u8], width: usize) -> usize
-    requires { ⌜ (width ≤ 8 * length (now row)) × (width ≤ maxWidth) × (at + length (steps 0 (onesOf width (now row))) ≤ longest) ⌝ }
-    ensures { λ r. ⌜ (r ≡ at + length (steps 0 (onesOf width (now (row .entry))))) × (now (out .exit) ≡ sets (now (out .entry)) at (steps 0 (onesOf width (now (row .entry))))) ⌝ }
+fn put_places(out: &mut [u8], at: usize, row: &[u64], width: usize) -> usize
+    requires { ⌜ (width ≤ maxWidth) × (width ≤ 64 * length (now row)) × (at + length (steps 0 (places (wordCoord (now row)) 0 width)) ≤ longest) ⌝ }
+    ensures { λ r. ⌜ (r ≡ at + length (steps 0 (places (wordCoord (now (row .entry))) 0 width))) × (now (out .exit) ≡ sets (now (out .entry)) at (steps 0 (places (wordCoord (now (row .entry))) 0 width))) ⌝ }
 {
     let mut next = at;
     let mut free = 0;
-    let mut i = 0;
+    let mut i = next_place(row, 0, width);
     while i < width {
-        if bit_at(row, i) != 0 {
-            let then = put_number(out, next, i - free);
-            next = then;
-            free = i + 1;
-        }
-        i += 1;
+        let then = put_number(out, next, i - free);
+        next = then;
+        free = i + 1;
+        i = next_place(row, i + 1, width);
     }
     next
 }
@@ -72,9 +77,10 @@ fn put_row(out: &mut [u8], at: usize, row: &[u8], width: usize) -> usize
     requires { ⌜ (width ≤ 8 * length (now row)) × (width ≤ maxWidth) × (at + length (rowCard width (now row)) ≤ longest) ⌝ }
     ensures { λ r. ⌜ (r ≡ at + length (rowCard width (now (row .entry)))) × (now (out .exit) ≡ sets (now (out .entry)) at (rowCard width (now (row .entry)))) ⌝ }
 {
-    let n = ones(row, width);
+    let words = operand::to_words(operand::carried(row));
+    let n = ones(&words, width);
     let next = put_number(out, at, n);
-    put_places(out, next, row, width)
+    put_places(out, next, &words, width)
 }
 
 // The rows from `start` on, `count` of them.
