@@ -1,8 +1,8 @@
 // Running a gate list on two operands: the values of its wires, then the result. All is judged before anything is written.
 ghost use mathlib.Core.Path.{_≡_};
 ghost use mathlib.Core.Bool.{true};
-ghost use Prim.Native.Nat.{_+_, _*_, _%_, _<_, _≤_};
-ghost use lib.ListN.{length, take};
+ghost use Prim.Native.Nat.{_+_, _-_, _*_, _%_, _<_, _≤_};
+ghost use lib.ListN.{length, getD, take};
 ghost use lib.Seq.{sets};
 ghost use Rattle.gf2.specs.Sums.{every};
 ghost use Rattle.gf2.specs.Coordinates.{coord, tabulate, value};
@@ -35,26 +35,38 @@ fn gate_value(kind: usize, x: u8, y: u8) -> u8
     if kind == 0 { x & y } else { x ^ y }
 }
 
-// The wires of the gates, each from two that are filled already.
+// The value on a wire below `own`, of which the last one is at hand.
+fn on_wire(wires: &[u8], wire: usize, own: usize, last: u8) -> u8
+    requires { ⌜ (wire < own) × (own ≤ length (now wires)) × (last ≡ getD (now wires) (own - 1) 0) ⌝ }
+    ensures { λ r. ⌜ r ≡ getD (now (wires .entry)) wire 0 ⌝ }
+{
+    if wire + 1 == own { last } else { wires[wire] }
+}
+
+// The wires of the gates, each from two that are filled already. The last wire is kept: a sum's next gate reads it at once.
 fn fill_gates(width: usize, list: &[u32], g: usize, wires: &mut [u8])
-    requires { ⌜ (width ≤ maxWidth) × (g < wordLimit) × (length (now wires) ≡ 2 * width + g) × (every g (isGate width (now list)) ≡ true) × AreBits (2 * width) (now wires) ⌝ }
+    requires { ⌜ (1 ≤ width) × (width ≤ maxWidth) × (g < wordLimit) × (length (now wires) ≡ 2 * width + g) × (every g (isGate width (now list)) ≡ true) × AreBits (2 * width) (now wires) ⌝ }
     ensures { λ _. ⌜ now (wires .exit) ≡ runGates (gatesTo (now (list .entry)) g) (take (2 * width) (now (wires .entry))) ⌝ }
 {
+    let mut last = wires[2 * width - 1];
     let mut k = 0;
     while k < g {
+        let own = 2 * width + k;
         let at = 2 + 3 * k;
         let kind = words::word(list, at);
         let left = words::word(list, at + 1);
         let right = words::word(list, at + 2);
-        let x = wires[left];
-        let y = wires[right];
-        wires[2 * width + k] = gate_value(kind, x, y);
+        let x = on_wire(wires, left, own, last);
+        let y = on_wire(wires, right, own, last);
+        let next = gate_value(kind, x, y);
+        wires[own] = next;
+        last = next;
         k += 1;
     }
 }
 
 fn fill_wires(width: usize, list: &[u32], a: &[u8], b: &[u8], wires: &mut [u8])
-    requires { ⌜ (width ≤ maxWidth) × (length (now wires) ≡ 2 * width + gateCount (now list)) × (every (gateCount (now list)) (isGate width (now list)) ≡ true) ⌝ }
+    requires { ⌜ (1 ≤ width) × (width ≤ maxWidth) × (length (now wires) ≡ 2 * width + gateCount (now list)) × (every (gateCount (now list)) (isGate width (now list)) ≡ true) ⌝ }
     ensures { λ _. ⌜ now (wires .exit) ≡ wiresOf width (readList (now (list .entry)) width) (now (a .entry)) (now (b .entry)) ⌝ }
 {
     fill_operand(width, a, 0, wires);

@@ -1,9 +1,10 @@
--- `netlist::runner::fill_gates` meets its contract. The invariant: the wires of the first k gates are filled.
-use mathlib.Core.Path.{_≡_, refl, ap, _∙_}
+-- `netlist::runner::fill_gates` meets its contract. The invariant: the wires of the first k gates are filled, and the last one is at hand.
+use mathlib.Core.Path.{_≡_, refl, sym, ap, ap₂, _∙_}
 use mathlib.Core.List.{append-nil, _++_}
 use Prim.Native.Nat.{ℕ, _+_, _-_, _*_, _≤_, _<_}
 use native.Mathlib.Omega.{arith}
-use lib.ListN.{length, length-set, getD, drop-of-length-le}
+use lib.ListN.{length, length-set, getD, set, drop-of-length-le}
+use lib.Seq.{getD-set-same}
 use Rattle.netlist.specs.Running.{applied}
 use Rattle.netlist.proofs.RunLaws.{ranTo, filledTo, gate-wires, filled-start, filled-bit, filled-more}
 use borrow.Author.Needs.{needs}
@@ -11,15 +12,31 @@ use Rattle.netlist.proofs.runner.fill_gates.Statement.{statement}
 use Rattle.netlist.proofs.runner.fill_gates.Tie as tie
 
 abbrev Inv-loop : tie.InvT-loop
-Inv-loop width list g wires₀ k₀ wires k = (k ≤ g) × (wires ≡ filledTo width list wires₀ k) × (length wires ≡ length wires₀)
+Inv-loop width list g wires₀ last₀ k₀ wires last k = (k ≤ g) × (wires ≡ filledTo width list wires₀ k) × (length wires ≡ length wires₀) × (last ≡ getD wires (2 * width + k - 1) 0)
 
 abbrev μ-loop : tie.MeasureT-loop
-μ-loop width list g wires₀ k₀ wires k = g - k
+μ-loop width list g wires₀ last₀ k₀ wires last k = g - k
+
+mul-last : tie.Need-mul-last Inv-loop μ-loop
+mul-last c = search needs
+
+sub-last : tie.Need-sub-last Inv-loop μ-loop
+sub-last c = search needs
+
+slice-read-last : tie.Need-slice-read-last Inv-loop μ-loop
+slice-read-last c = omega (arith, c .before .before .before .pre)
 
 loop-holds : tie.Need-loop-holds Inv-loop μ-loop
 loop-holds c =
-    let s = c .before .before in
-    (omega arith, filled-start (s .args .width) (s .args .list .now) (s .args .wires .now) (omega (arith, s .pre .2)) (s .pre .4), refl)
+    let s = c .before .before .before in
+    let e : 2 * s .args .width - 1 ≡ 2 * s .args .width + 0 - 1 = omega arith in
+    (omega arith, filled-start (s .args .width) (s .args .list .now) (s .args .wires .now) (omega (arith, s .pre .3)) (s .pre .5), refl, ap (λ n. getD (s .args .wires .now) n 0) e)
+
+mul-own : tie.Need-mul-own Inv-loop μ-loop
+mul-own c = search needs
+
+add-own : tie.Need-add-own Inv-loop μ-loop
+add-own c = search needs
 
 mul-at : tie.Need-mul-at Inv-loop μ-loop
 mul-at c = search needs
@@ -42,35 +59,33 @@ add-word-2 c = search needs
 word-requires-3 : tie.Need-word-requires-3 Inv-loop μ-loop
 word-requires-3 c κs = search needs
 
-slice-read-x : tie.Need-slice-read-x Inv-loop μ-loop
-slice-read-x c =
-    let s = c .before .before .before .before .before .before .before .before in
-    let x = gate-wires (s .args .width) (s .args .list .now) (s .args .g) (s .pre .3) (c .before .before .before .before .before .loop .k) (omega arith) in
-    omega (arith, x .0, c .before .before .word2 .ensures .0, c .before .before .before .before .before .loop .inv .2, s .pre .2)
-
-slice-read-y : tie.Need-slice-read-y Inv-loop μ-loop
-slice-read-y c =
+on-wire-requires : tie.Need-on-wire-requires Inv-loop μ-loop
+on-wire-requires c κs =
     let s = c .before .before .before .before .before .before .before .before .before in
-    let x = gate-wires (s .args .width) (s .args .list .now) (s .args .g) (s .pre .3) (c .before .before .before .before .before .before .loop .k) (omega arith) in
-    omega (arith, x .1, c .before .before .word3 .ensures .0, c .before .before .before .before .before .before .loop .inv .2, s .pre .2)
+    let w = c .before .before .before .before .before .loop in
+    let x = gate-wires (s .args .width) (s .args .list .now) (s .args .g) (s .pre .4) (w .k) (omega arith) in
+    (omega (arith, x .0, c .before .before .word2 .ensures .0), omega (arith, w .inv .2, s .pre .3), w .inv .3)
+
+on-wire-requires-2 : tie.Need-on-wire-requires-2 Inv-loop μ-loop
+on-wire-requires-2 c κs =
+    let s = c .before .before .before .before .before .before .before .before .before .before .before in
+    let w = c .before .before .before .before .before .before .before .loop in
+    let x = gate-wires (s .args .width) (s .args .list .now) (s .args .g) (s .pre .4) (w .k) (omega arith) in
+    (omega (arith, x .1, c .before .before .before .word3 .ensures .0), omega (arith, w .inv .2, s .pre .3), w .inv .3)
 
 gate-value-requires : tie.Need-gate-value-requires Inv-loop μ-loop
 gate-value-requires c κs =
-    let s = c .before .before .before .before .before .before .before .before .before in
-    let w = c .before .before .before .before .before .before .loop in
-    let x = gate-wires (s .args .width) (s .args .list .now) (s .args .g) (s .pre .3) (w .k) (omega arith) in
+    let s = c .before .before .before .before .before .before .before .before .before .before .before .before in
+    let w = c .before .before .before .before .before .before .before .before .loop in
+    let x = gate-wires (s .args .width) (s .args .list .now) (s .args .g) (s .pre .4) (w .k) (omega arith) in
     let small : (l : ℕ) → l < 2 * s .args .width + w .k → getD (w .wires) l 0 < 2 = λ l h.
-    rw (w .inv .1) (filled-bit (s .args .width) (s .args .list .now) (s .args .wires .now) (omega (arith, s .pre .2)) (s .pre .4) (w .k) l h) in
-    (small _ (omega (arith, x .0, c .before .before .before .word2 .ensures .0)), small _ (omega (arith, x .1, c .before .before .word3 .ensures .0)))
-
-mul-wires : tie.Need-mul-wires Inv-loop μ-loop
-mul-wires c = search needs
-
-add-wires : tie.Need-add-wires Inv-loop μ-loop
-add-wires c = search needs
+    rw (w .inv .1) (filled-bit (s .args .width) (s .args .list .now) (s .args .wires .now) (omega (arith, s .pre .3)) (s .pre .5) (w .k) l h) in (
+      rw (c .before .before .on-wire .ensures) (small _ (omega (arith, x .0, c .before .before .before .before .before .word2 .ensures .0))),
+      rw (c .on-wire2 .ensures) (small _ (omega (arith, x .1, c .before .before .before .before .word3 .ensures .0))),
+    )
 
 slice-write-wires : tie.Need-slice-write-wires Inv-loop μ-loop
-slice-write-wires c = omega (arith, c .before .before .before .before .before .before .before .loop .inv .2, c .before .before .before .before .before .before .before .before .before .before .pre .2)
+slice-write-wires c = omega (arith, c .before .before .before .before .before .before .before .before .before .loop .inv .2, c .before .before .before .before .before .before .before .before .before .before .before .before .before .pre .3)
 
 add-k : tie.Need-add-k Inv-loop μ-loop
 add-k c = search needs
@@ -80,15 +95,20 @@ loop-less c = search needs
 
 loop-again : tie.Need-loop-again Inv-loop μ-loop
 loop-again c =
-    let s = c .before .before .before .before .before .before .before .before .before .before in
-    let w = c .before .before .before .before .before .before .before .loop in
-    let x = gate-wires (s .args .width) (s .args .list .now) (s .args .g) (s .pre .3) (w .k) (omega arith) in
+    let s = c .before .before .before .before .before .before .before .before .before .before .before .before .before in
+    let w = c .before .before .before .before .before .before .before .before .before .loop in
+    let x = gate-wires (s .args .width) (s .args .list .now) (s .args .g) (s .pre .4) (w .k) (omega arith) in
+    let kind = c .before .before .before .before .before .before .before .word in
+    let left = c .before .before .before .before .before .before .word2 in
+    let right = c .before .before .before .before .before .word3 in
+    let n : 2 * s .args .width + (w .k + 1) - 1 ≡ 2 * s .args .width + w .k = omega arith in
     let list = s .args .list .now in (
       omega arith,
-      rw (w .inv .1) (filled-more (s .args .width) list (s .args .wires .now) (omega (arith, s .pre .2)) (s .pre .4) (w .k) (omega (arith, s .pre .2)) (x .0) (x .1) _
-          (c .gate-value .ensures ∙ ap (λ v. applied (c .before .before .before .before .before .word .result) (getD v (c .before .before .before .before .word2 .result) 0) (getD v (c .before .before .before .word3 .result) 0)) (w .inv .1)
-          ∙ rw (c .before .before .before .before .before .word .ensures .0, c .before .before .before .before .word2 .ensures .0, c .before .before .before .word3 .ensures .0))),
+      rw (w .inv .1) (filled-more (s .args .width) list (s .args .wires .now) (omega (arith, s .pre .3)) (s .pre .5) (w .k) (omega (arith, s .pre .3)) (x .0) (x .1) _
+          (c .gate-value .ensures ∙ ap₂ (applied (kind .result)) (c .before .before .before .on-wire .ensures) (c .before .on-wire2 .ensures)
+          ∙ ap (λ v. applied (kind .result) (getD v (left .result) 0) (getD v (right .result) 0)) (w .inv .1) ∙ rw (kind .ensures .0, left .ensures .0, right .ensures .0))),
       simp length-set (w .inv .2),
+      sym (ap (λ i. getD (set (w .wires) (2 * s .args .width + w .k) (c .gate-value .result)) i 0) n ∙ getD-set-same (w .wires) (2 * s .args .width + w .k) (c .gate-value .result) 0 (omega (arith, w .inv .2, s .pre .3))),
     )
 
 same-length : tie.Need-same-length Inv-loop μ-loop
@@ -97,11 +117,11 @@ same-length c = c .before .loop .inv .2
 returns : tie.Need-returns Inv-loop μ-loop
 unfolding filledTo ranTo
 returns c =
-    let s = c .before .before .before .before in
+    let s = c .before .before .before .before .before in
     let w = c .before .loop in
     let e : w .k ≡ s .args .g = omega arith in
     w .inv .1 ∙ ap (filledTo (s .args .width) (s .args .list .now) (s .args .wires .now)) e
-    ∙ ap (λ z. ranTo (s .args .width) (s .args .list .now) (s .args .wires .now) (s .args .g) ++ z) (drop-of-length-le (s .args .wires .now) {i = 2 * s .args .width + s .args .g} (omega (arith, s .pre .2)))
+    ∙ ap (λ z. ranTo (s .args .width) (s .args .list .now) (s .args .wires .now) (s .args .g) ++ z) (drop-of-length-le (s .args .wires .now) {i = 2 * s .args .width + s .args .g} (omega (arith, s .pre .3)))
     ∙ append-nil _
 
 pub fill-gates-spec : {M : Type 1} → statement M
@@ -110,7 +130,12 @@ fill-gates-spec =
     (tie.spec
     Inv-loop
     μ-loop
+    mul-last
+    sub-last
+    slice-read-last
     loop-holds
+    mul-own
+    add-own
     mul-at
     add-at
     word-requires
@@ -118,11 +143,9 @@ fill-gates-spec =
     word-requires-2
     add-word-2
     word-requires-3
-    slice-read-x
-    slice-read-y
+    on-wire-requires
+    on-wire-requires-2
     gate-value-requires
-    mul-wires
-    add-wires
     slice-write-wires
     add-k
     loop-less

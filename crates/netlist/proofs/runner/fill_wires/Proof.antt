@@ -26,10 +26,11 @@ fill-gates-requires c κs =
     let m = s .args .width in
     let e = c .before .before .before .before .fill-operand2 .ensures ∙ ap (λ z. sets z m (tabulate m (coord (s .args .b .now)))) (c .before .before .before .before .before .before .before .before .fill-operand .ensures) in (
       s .pre .0,
+      s .pre .1,
       c .before .word .ensures .1,
-      c .before .before .before .before .fill-operand2 .kept .1 .1 .1 .0 ∙ c .before .before .before .before .before .before .before .before .fill-operand .kept .1 .1 .1 .0 ∙ s .pre .1 ∙ ap (λ g. 2 * m + g) (sym (c .before .word .ensures .0)),
-      ap (λ g. every g (isGate m (s .args .list .now))) (c .before .word .ensures .0) ∙ s .pre .2,
-      rw e (bits-inputs m (s .args .a .now) (s .args .b .now) (s .args .wires .now) (omega (arith, s .pre .1))),
+      c .before .before .before .before .fill-operand2 .kept .1 .1 .1 .0 ∙ c .before .before .before .before .before .before .before .before .fill-operand .kept .1 .1 .1 .0 ∙ s .pre .2 ∙ ap (λ g. 2 * m + g) (sym (c .before .word .ensures .0)),
+      ap (λ g. every g (isGate m (s .args .list .now))) (c .before .word .ensures .0) ∙ s .pre .3,
+      rw e (bits-inputs m (s .args .a .now) (s .args .b .now) (s .args .wires .now) (omega (arith, s .pre .2))),
     )
 
 same-length : tie.Need-same-length
@@ -39,7 +40,7 @@ returns : tie.Need-returns
 returns c =
     let s = c .before .before .before .before .before .before .before .before .before .before .before .before .before .before .before .before .before in
     let m = s .args .width in
-    wires-filled m (s .args .a .now) (s .args .b .now) (s .args .wires .now) (omega (arith, s .pre .1)) (s .args .list .now) _ _ _
+    wires-filled m (s .args .a .now) (s .args .b .now) (s .args .wires .now) (omega (arith, s .pre .2)) (s .args .list .now) _ _ _
     (c .before .before .before .before .before .before .before .fill-operand2 .ensures ∙ ap (λ z. sets z m (tabulate m (coord (s .args .b .now)))) (c .before .before .before .before .before .before .before .before .before .before .before .fill-operand .ensures)) (c .before .before .fill-gates .ensures) (c .before .before .before .before .word .ensures .0)
 
 pub fill-wires-spec : {M : Type 1} → statement M

@@ -1,5 +1,6 @@
 -- `netlist::runner::run` meets its contract.
 use mathlib.Core.Path.{sym, ap, _∙_}
+use native.Mathlib.Omega.{arith}
 use Rattle.gf2.specs.Operands.{bytesFor, fromCoords}
 use Rattle.operand.proofs.FaultLaws.{judged}
 use Rattle.netlist.specs.Running.{valueOn, outputAt}
@@ -24,7 +25,7 @@ slice-aggregate-fill-wires-2 c = search needs
 fill-wires-requires : tie.Need-fill-wires-requires
 fill-wires-requires c κs =
     let f = run-fine _ _ _ _ _ _ (judged (c .before .before .before .before .before .judge-run .ensures) (c .before .before .before .before .is-none .ensures) (c .before .before .before .if1 .taken)) in
-    (f .greatest, f .bytePerWire, f .gates)
+    (omega (arith, f .least), f .greatest, f .bytePerWire, f .gates)
 
 fill-result-requires : tie.Need-fill-result-requires
 fill-result-requires c κs =
