@@ -1,4 +1,4 @@
-//! Links the proved library, target/staticlib/libnb.a, and makes same.rs: the Rattle source without its contracts, which is
+//! Links the proved library, target/staticlib/libnb.a or the one that NB_ARCHIVE names, and makes same.rs: the Rattle source without its contracts, which is
 //! Rust. The benchmark compares the two compilers on that one text.
 
 use std::path::{Path, PathBuf};
@@ -55,7 +55,8 @@ fn module(folder: &Path, name: &str) -> String {
 
 fn main() {
     let root = PathBuf::from(env::var("CARGO_MANIFEST_DIR").unwrap()).join("..");
-    let archive = root.join("target/staticlib/libnb.a");
+    println!("cargo:rerun-if-env-changed=NB_ARCHIVE");
+    let archive = env::var("NB_ARCHIVE").map_or(root.join("target/staticlib/libnb.a"), PathBuf::from);
     println!("cargo:rerun-if-changed={}", archive.display());
     assert!(archive.exists(), "no {}: run `rt staticlib nb` first", archive.display());
     println!("cargo:rustc-link-search=native={}", archive.parent().unwrap().display());

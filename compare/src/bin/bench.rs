@@ -3,7 +3,8 @@
 //!     rt staticlib nb && cargo run --release --offline --manifest-path compare/Cargo.toml --bin bench
 //!
 //! Prints a table in Markdown, the ratio proved / Rust last. With the argument `growth` it prints how each cost grows from
-//! width 64 to 255 instead. Every time is of a whole call, with every judgement in it; lent buffers are not cleared before a call.
+//! width 64 to 255 instead, with `calls` the times at 233, type 2, which compare/before-after reads. Every time is of a whole
+//! call, with every judgement in it; lent buffers are not cleared before a call.
 
 use compare::inputs::{dense, Source};
 use compare::same::nb as same;
@@ -138,6 +139,12 @@ fn compared(cases: &[Case]) {
     println!("By definition (compare/src/field.rs), product at {}: {}; the proved call is {:.0} times as quick.", case.label, shown(theirs), theirs / ours);
 }
 
+fn calls() {
+    for (name, ours, theirs) in measure(&Case::drawn(233)) {
+        println!("{name},{ours:.1},{theirs:.1}");
+    }
+}
+
 fn growth() {
     println!("width,call,nanoseconds");
     for m in [65, 81, 97, 113, 130, 146, 163, 178, 194, 210, 226, 233, 243, 255] {
@@ -148,10 +155,13 @@ fn growth() {
 }
 
 fn main() {
-    if std::env::args().nth(1).as_deref() == Some("growth") {
-        return growth();
+    match std::env::args().nth(1).as_deref() {
+        Some("growth") => return growth(),
+        Some("calls") => return calls(),
+        _ => (),
     }
-    let sparse = Case::drawn(233);
-    let dense = Case::new("233, dense", 233, dense(&mut Source::new(5), 233, &sparse.table));
-    compared(&[Case::drawn(163), sparse, Case::drawn(255), dense]);
+    let of = |m: usize, table: &[u8]| Case::new(&format!("{m}, dense"), m, dense(&mut Source::new(5), m, table));
+    let (at_233, at_255) = (Case::drawn(233), Case::drawn(255));
+    let (dense_233, dense_255) = (of(233, &at_233.table), of(255, &at_255.table));
+    compared(&[Case::drawn(163), at_233, at_255, dense_233, dense_255]);
 }
