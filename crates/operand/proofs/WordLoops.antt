@@ -3,7 +3,7 @@
 use mathlib.Core.Path.{_≡_, refl, sym, ap, ap₂, _∙_}
 use mathlib.Core.List.{List, [], _∷_}
 use Prim.Native.Nat.{ℕ, zero, suc, _+_, _-_, _*_, _/_, _%_, _^_, _<_, _≤_, min}
-use native.Mathlib.Nat.{min-zero, add-mul, mul-comm, mul-assoc, mod-add-div', add-mul-mod-self-right, mod-lt, mod-le, div-eq-of-lt, lt-of-le-of-lt, lt-of-lt-of-le}
+use native.Mathlib.Nat.{min-zero, add-mul, mul-comm, mul-assoc, mod-add-div', add-mul-mod-self-right, mod-lt, mod-le, zero-div, div-eq-of-lt, lt-of-le-of-lt, lt-of-lt-of-le}
 use native.Mathlib.Decide.{decLt, ℕ-discrete}
 use native.Mathlib.Numerals.{add-one}
 use native.Mathlib.Omega.{arith}
@@ -146,7 +146,7 @@ pub ored-more : (f : ℕ → ℕ) (w high : ℕ) → high ≡ ored w f → bitOr
 unfolding ored
 ored-more f w high e = rw (e, add-one)
 
-ored-at : (n : ℕ) (f : ℕ → ℕ) → ored n f ≡ 0 → (i : ℕ) → i < n → f i ≡ 0
+pub ored-at : (n : ℕ) (f : ℕ → ℕ) → ored n f ≡ 0 → (i : ℕ) → i < n → f i ≡ 0
 unfolding ored
 ored-at zero f e i h = absurd (omega arith)
 ored-at (suc n) f e i h =
@@ -158,10 +158,15 @@ ored-at (suc n) f e i h =
       | no q ↦ ored-at n f (omega arith) i (omega arith)
     ]
 
-ored-of : (n : ℕ) (f : ℕ → ℕ) → ((i : ℕ) → i < n → f i ≡ 0) → ored n f ≡ 0
+pub ored-of : (n : ℕ) (f : ℕ → ℕ) → ((i : ℕ) → i < n → f i ≡ 0) → ored n f ≡ 0
 unfolding ored
 ored-of zero f e = refl
 ored-of (suc n) f e = ap₂ bitOr (ored-of n f (λ i h. e i (omega arith))) (e n (omega arith)) ∙ or-zero-l 0
+
+pub ored-shr : (n : ℕ) (f : ℕ → ℕ) (k : ℕ) → ored n f / 2 ^ k ≡ ored n (λ i. f i / 2 ^ k)
+unfolding ored
+ored-shr zero f k = zero-div (2 ^ k)
+ored-shr (suc n) f k = or-shr (ored n f) (f n) k ∙ ap (λ x. bitOr x (f n / 2 ^ k)) (ored-shr n f k)
 
 -- the coordinates of words at m and above, word by word
 abbrev pub above : ℕ → List ℕ → ℕ → ℕ
