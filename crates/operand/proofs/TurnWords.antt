@@ -1,6 +1,6 @@
 -- A turn made of two moves of words, and the way from it to bytes.
 -- Counts: words moved up or down by steps of 1, 2, 4, ..; then the bits of two words in a row.
-use mathlib.Core.Path.{_≡_, refl, sym, ap, ap₂, _∙_}
+use mathlib.Core.Path.{_≡_, sym, ap, ap₂, _∙_}
 use mathlib.Core.List.{List, [], _∷_}
 use Prim.Native.Nat.{ℕ, _+_, _-_, _*_, _/_, _%_, _^_, _<_, _≤_}
 use native.Mathlib.Nat.{add-zero, add-comm, mod-one, mod-eq-of-lt, zero-div}

@@ -91,34 +91,6 @@ raise-pair low high skip hl hs =
     ∙ ap₂ (λ x k. bitOr x (high * 2 ^ k % 2 ^ 64)) (shr-shr low 1 (63 - skip) ∙ ap (λ k. low / 2 ^ k) d) e
     ∙ pair-word low high (64 - skip) hl (omega arith)
 
--- two words in a row, from bit `skip` of the first on
-pub straddle-word : (low high skip : ℕ) → low < 2 ^ 64 → skip < 64
-    → bitXor (low / 2 ^ skip) (high * 2 ^ 1 % 2 ^ 64 * 2 ^ (63 - skip) % 2 ^ 64) ≡ value 64 (λ j. wordCoord (low ∷ high ∷ []) (skip + j))
-straddle-word low high skip hl hs =
-    value-eq 64 _ _ (xor-lt 64 _ _ (lt-of-le-of-lt (shr-le low skip) hl) (mod-lt _ (pow-pos 64))) (λ j l.
-    xor-bit (low / 2 ^ skip) _ j ∙ ap (λ y. (y % 2 + up / 2 ^ j % 2) % 2) (shr-shr low skip j) ∙ bits j l)
-  where
-    up : ℕ
-    up = high * 2 ^ 1 % 2 ^ 64 * 2 ^ (63 - skip) % 2 ^ 64
-
-    none : (j : ℕ) → skip + j < 64 → up / 2 ^ j % 2 ≡ 0
-    none j q = elim (decLt j (63 - skip)) [
-      | yes r ↦ shl-bit-out (high * 2 ^ 1 % 2 ^ 64) 64 (63 - skip) j r (omega arith)
-      | no r ↦ shl-bit (high * 2 ^ 1 % 2 ^ 64) 64 (63 - skip) j (omega arith) (omega arith) ∙ shl-bit-out high 64 1 (j - (63 - skip)) (omega arith) (omega arith)
-    ]
-
-    some : (j : ℕ) → j < 64 → 64 ≤ skip + j → up / 2 ^ j % 2 ≡ high / 2 ^ (skip + j - 64) % 2
-    some j l q = shl-bit (high * 2 ^ 1 % 2 ^ 64) 64 (63 - skip) j (omega arith) l ∙ shl-bit high 64 1 (j - (63 - skip)) (omega arith) (omega arith)
-        ∙ ap (λ k. high / 2 ^ k % 2) (omega arith)
-
-    bits : (j : ℕ) → j < 64 → (low / 2 ^ (skip + j) % 2 + up / 2 ^ j % 2) % 2 ≡ wordCoord (low ∷ high ∷ []) (skip + j) % 2
-    bits j l = elim (decLt (skip + j) 64) [
-      | yes q ↦ omega (arith, none j q, pair-low low high (skip + j) q)
-      | no q ↦
-          let z = div-eq-of-lt (lt-of-lt-of-le hl (pow-mono {i = 64} {j = skip + j} (omega arith))) in
-          omega (arith, some j l (omega arith), pair-high low high (skip + j) (omega arith) (omega arith), z)
-    ]
-
 -- the coordinates of a list from first * 64 + skip on
 pub window-words : (n first skip : ℕ) (x : List ℕ) → skip < 64
     → tabulate n (λ w. value 64 (λ j. wordCoord (getD x (first + w) 0 ∷ getD x (first + w + 1) 0 ∷ []) (skip + j))) ≡ packWords n (λ i. wordCoord x (first * 64 + skip + i))

@@ -1,6 +1,4 @@
 -- `operand::turn::word_below` meets its contract.
-use mathlib.Core.Path.{sym, ap}
-use Rattle.gf2.specs.Operands.{choose}
 use borrow.Author.Tests.{le-leb, lt-leb}
 use borrow.Author.Needs.{needs}
 use Rattle.operand.proofs.turn.word_below.Statement.{statement}
