@@ -6,14 +6,13 @@
 -- Bitwise operations: their bits, modulo 2.
 use mathlib.Core.Path.{_≡_, refl, sym, ap, ap₂, _∙_}
 use mathlib.Core.List.{List, [], _∷_, _++_}
-use mathlib.Core.Bool.{Bool, true, false}
 use Prim.Native.Nat.{ℕ, zero, suc, _+_, _-_, _*_, _/_, _%_, _^_, _<_, _≤_, min}
-use native.Mathlib.Nat.{zero-min, min-zero, suc-min-suc, add-zero, add-suc, add-comm, add-mul, mul-comm, add-mul-div-right, add-mul-mod-self-right, div-add-mod', div-eq-of-lt, div-lt-iff-lt-mul, zero-div, mod-eq-of-lt, mod-lt, lt-of-lt-of-le, pow-suc, pow-succ', mul-assoc}
+use native.Mathlib.Nat.{zero-min, min-zero, suc-min-suc, add-zero, add-suc, add-mul, mul-comm, add-mul-div-right, div-add-mod', div-eq-of-lt, div-lt-iff-lt-mul, zero-div, mod-eq-of-lt, mod-lt, lt-of-lt-of-le, pow-suc, pow-succ', mul-assoc}
 use native.Mathlib.Decide.{ℕ-discrete, decLt}
 use native.Mathlib.Omega.{arith}
 use lib.Arith.{digits-lt, digits-div, digits-mod}
 use lib.ListN.{length, getD, replicate, length-append, length-replicate, getD-replicate, List·getD-append, List·getD-eq-default}
-use lib.Seq.{getD-at, getD-append-add, ext-getD}
+use lib.Seq.{getD-at, ext-getD}
 use lib.Bits.{bitAnd, and-shr, and-step, bitXor, xor-shr, xor-add-and, xor-lt}
 use lib.Pow.{pow-pos, pow-mono, pow-add, shl-shr, shr-shr, mod-pow-add, mod-mod-pow, field}
 use Rattle.gf2.specs.Sums.{sum}
@@ -123,13 +122,6 @@ module _ (d : ℕ) (some : 0 < d) where
       ext-getD 0 l (tabulate n (λ b. getD l b 0)) (size ∙ sym (length-tabulate n _)) (λ b h. sym (getD-tabulate n (λ b. getD l b 0) b (omega arith)))
       ∙ packed-of n _ f (λ b h. small b) (λ b j h l'. sym (digit-at l b j l') ∙ e (b * d + j) (digits-lt h l'))
 
-  -- two lists in a row
-  pub digit-front : (a b : List ℕ) (i : ℕ) → i / d < length a → digit d (a ++ b) i ≡ digit d a i
-  digit-front a b i h = rw (List·getD-append a b 0 (i / d) h)
-
-  pub digit-back : (a b : List ℕ) (i : ℕ) → digit d (a ++ b) (i + length a * d) ≡ digit d b i
-  digit-back a b i = rw (add-mul-div-right i (length a) some, add-mul-mod-self-right i (length a) d, add-comm (i / d) (length a), getD-append-add)
-
   pub digit-none : (n i : ℕ) → digit d (replicate n 0) i ≡ 0
   digit-none n i = elim (decLt (i / d) n) [
     | yes h ↦ rw (getD-replicate {A = ℕ} n (i / d) 0 0 h, zero-div)
@@ -219,15 +211,6 @@ shl-bit-out x n k j h l =
   where
     even : x * 2 ^ (k - suc j + suc j) ≡ x * 2 ^ (k - suc j) * 2 * 2 ^ j
     even = simp (pow-add, pow-succ', mul-assoc)
-
--- the coordinates of two lists in a row
-pub coord-front : (a b : List ℕ) (i : ℕ) → i < 8 * length a → coord (a ++ b) i ≡ coord a i
-unfolding coord
-coord-front a b i h = digit-front 8 (omega arith) a b i (omega arith)
-
-pub coord-back : (a b : List ℕ) (i : ℕ) → coord (a ++ b) (8 * length a + i) ≡ coord b i
-unfolding coord
-coord-back a b i = let e : 8 * length a + i ≡ i + length a * 8 = omega arith in rw e (digit-back 8 (omega arith) a b i)
 
 pub coord-none : (n i : ℕ) → coord (replicate n 0) i ≡ 0
 unfolding coord

@@ -1,5 +1,5 @@
 -- What `same` and `firstFrom` decide, and the steps of a loop that searches.
--- same-correct: the same bytes are equal lists.
+-- same-correct: the same bytes are equal lists. same-words: they are compared as words.
 -- three-none: no fault of three is given just where there is none.
 -- first-none, first-at, first-is: no fault is found just where there is none; else it is that of the least number.
 use mathlib.Core.Path.{_≡_, refl, sym, ap, ap₂, _∙_}
@@ -7,16 +7,25 @@ use mathlib.Core.Logic.{_↔_}
 use mathlib.Core.Bool.{Bool, true, false, not, true≢false}
 use mathlib.Core.List.{List, [], _∷_}
 use Prim.Native.Nat.{ℕ, zero, suc, _+_, _-_, _<_, _≤_}
+use native.Mathlib.Nat.{mod-eq-of-lt}
 use native.Mathlib.Decide.{ℕ-discrete}
 use native.Mathlib.Omega.{arith}
 use lib.Dec.{eqb}
 use lib.ListN.{length, getD}
 use lib.Seq.{ext-getD}
+use lib.Bits.{bitXor, xor-add-and, xor-self, and-le-l, and-le-r}
 use borrow.Author.Tests.{eqb-true, eq-eqb}
+use Rattle.gf2.specs.Coordinates.{coord}
+use Rattle.gf2.specs.Operands.{carriedBytes}
 use Rattle.gf2.proofs.Parity.{and-both, bool-ext}
+use Rattle.gf2.proofs.Coordinates.{coord-lt, pack-eq}
 use Rattle.operand.specs.declared.fault.Fault.{Fault}
 use Rattle.operand.specs.declared.fault.Fault.the-variants.{None, HighBit}
 use Rattle.operand.specs.Faults.{isNone, when, orElse, firstOf, firstFrom}
+use Rattle.operand.specs.Words.{carriedWords, wordCoord, packWords}
+use Rattle.operand.proofs.ByteLoops.{Bytes}
+use Rattle.operand.proofs.WordCoords.{length-words, words-coord}
+use Rattle.operand.proofs.WordLoops.{ored, ored-at, ored-of}
 use Rattle.operand.proofs.FaultLaws.{none-is, or-first, or-second, or-both, first-two, first-more}
 use Rattle.table.specs.Judgements.{same}
 
@@ -40,40 +49,28 @@ pub same-both : (a b c d : List ℕ) → (a ≡ b → c ≡ d) → (c ≡ d → 
 same-both a b c d f g =
     bool-ext _ _ (λ e. same-correct c d .1 (f (same-correct a b .0 e))) (λ e. same-correct a b .1 (g (same-correct c d .0 e)))
 
--- a loop over two lists: the first b bytes agree
-pub record AgreeTo (x y : List ℕ) (b : ℕ) : Type 0 where
-  pub at : (k : ℕ) → k < b → getD x k 0 ≡ getD y k 0
+-- where words w of two lists differ
+abbrev pub apart : List ℕ → List ℕ → ℕ → ℕ
+apart p q w = bitXor (getD p w 0) (getD q w 0)
 
-pub agree-none : (x y : List ℕ) → AgreeTo x y 0
-agree-none x y = record { at = λ k l. absurd (omega arith) }
+apart-none : (a b : ℕ) → bitXor a b ≡ 0 → a ≡ b
+apart-none a b e = omega (arith, xor-add-and a b, and-le-l a b, and-le-r a b)
 
-module _ {x y : List ℕ} {b : ℕ} (agree : AgreeTo x y b) where
-  pub agree-more : getD x b 0 ≡ getD y b 0 → AgreeTo x y (b + 1)
-  agree-more e = record { at = λ k l. elim (ℕ-discrete k b) [ yes q ↦ rw q e | no q ↦ agree .at k (omega arith) ] }
+-- bytes compared as words
+pub same-words : (x y : List ℕ) → length x ≡ carriedBytes → length y ≡ carriedBytes → Bytes x → Bytes y
+    → eqb (ored carriedWords (apart (packWords carriedWords (coord x)) (packWords carriedWords (coord y)))) 0 ≡ same x y
+same-words x y sx sy bx by = bool-ext _ _
+    (λ e. same-correct x y .1 (bytes (ext-getD 0 (words x) (words y) (length-words carriedWords (coord x) ∙ sym (length-words carriedWords (coord y))) (λ w h.
+    apart-none _ _ (ored-at carriedWords _ (eqb-true _ 0 e) w (omega (arith, length-words carriedWords (coord x))))))))
+    (λ e. eq-eqb _ 0 (ored-of carriedWords _ (λ w h. ap (λ l. apart (words x) (words l) w) (sym (same-correct x y .0 e)) ∙ xor-self (getD (words x) w 0))))
+  where
+    words : List ℕ → List ℕ
+    words l = packWords carriedWords (coord l)
 
-  pub agree-all : length x ≡ length y → length x ≤ b → true ≡ same x y
-  agree-all e h = sym (same-correct x y .1 (ext-getD 0 x y e (λ k l. agree .at k (omega arith))))
-
-pub agree-stop : (x y : List ℕ) (b : ℕ) → (getD x b 0 ≡ getD y b 0 → ⊥) → false ≡ same x y
-agree-stop x y b n = bool-ext _ _ (λ e. absurd (true≢false (sym e))) (λ e. absurd (n (ap (λ l. getD l b 0) (same-correct x y .0 e))))
-
--- a loop that looks at every byte: r says whether the first b agree
-pub record Compared (x y : List ℕ) (b : ℕ) (r : Bool) : Type 0 where
-  pub agree : r ≡ true → AgreeTo x y b
-  pub differ : r ≡ false → same x y ≡ false
-
-pub compared-none : (x y : List ℕ) → Compared x y 0 true
-compared-none x y = record { agree = λ e. agree-none x y; differ = λ e. absurd (true≢false e) }
-
-pub compared-stop : (x y : List ℕ) (b : ℕ) → (getD x b 0 ≡ getD y b 0 → ⊥) → Compared x y (b + 1) false
-compared-stop x y b n = record { agree = λ e. absurd (true≢false (sym e)); differ = λ e. sym (agree-stop x y b n) }
-
-pub compared-more : {x y : List ℕ} {b : ℕ} {r : Bool} → Compared x y b r → getD x b 0 ≡ getD y b 0 → Compared x y (b + 1) r
-compared-more c e = record { agree = λ q. agree-more (c .agree q) e; differ = c .differ }
-
-pub compared-all : {x y : List ℕ} {b : ℕ} (r : Bool) → Compared x y b r → length x ≡ length y → length x ≤ b → r ≡ same x y
-compared-all true c e h = agree-all (c .agree refl) e h
-compared-all false c e h = sym (c .differ refl)
+    bytes : words x ≡ words y → x ≡ y
+    bytes e =
+        pack-eq carriedBytes (coord y) x sx bx (λ i h. sym (words-coord x sx i) ∙ ap (λ l. wordCoord l i) e ∙ words-coord y sy i ∙ sym (mod-eq-of-lt (coord-lt y i)))
+        ∙ sym (pack-eq carriedBytes (coord y) y sy by (λ i h. sym (mod-eq-of-lt (coord-lt y i))))
 
 -- a fault that is given where a test fails
 pub when-passes : (b : Bool) (f : Fault) → b ≡ true → when (not b) f ≡ None

@@ -5,7 +5,6 @@ use mathlib.Core.Bool.{Bool, true, false, true≢false}
 use mathlib.Core.List.{List, [], _∷_}
 use Prim.Native.Nat.{ℕ, _+_, _-_, _*_, _/_, _%_, _^_, _<_, _≤_}
 use native.Mathlib.Nat.{suc-mul, mul-le-mul-right, mul-le-mul, mod-lt, lt-of-le-of-lt, lt-of-lt-of-le, div-eq-of-lt, zero-div}
-use native.Mathlib.Numerals.{add-one}
 use native.Mathlib.Decide.{decLt}
 use native.Mathlib.Omega.{arith}
 use lib.ListN.{length, getD, drop, length-drop, List·getD-eq-default}
@@ -25,6 +24,7 @@ use Rattle.operand.specs.Faults.{isNone, orElse, firstOf}
 use Rattle.operand.specs.Judgements.{widthFault, lengthFault, highFault, bytesFault}
 use Rattle.operand.specs.Calls.{answer}
 use Rattle.operand.proofs.ByteLoops.{Bytes}
+use Rattle.operand.proofs.WordLoops.{ored, ored-at, ored-of, ored-shr}
 use Rattle.operand.proofs.CallLaws.{coord-carried}
 use Rattle.operand.proofs.FaultLaws.{or-second, or-assoc, first-two, first-more, two-fine, width-fine, length-fine}
 use Rattle.operand.proofs.FaultFree.{IsWidth, done, width-none, length-none, high-none}
@@ -127,24 +127,16 @@ module _ (m : ℕ) (t : List ℕ) where
   abbrev pub clearRow : ℕ → Bool
   clearRow d = isClear m (row m t d)
 
-  pub every-more : (d : ℕ) → every d clearRow ≡ true → clearRow d ≡ true → every (d + 1) clearRow ≡ true
-  unfolding every
-  every-more d e q = rw (add-one, e, q)
-
   pub rows-done : every m clearRow ≡ true → rowsFault m t ≡ None
   unfolding rowsFault
   rows-done e = when-passes _ HighBit e
-
-  pub rows-broken : (d : ℕ) → d < m → clearRow d ≡ false → rowsFault m t ≡ HighBit
-  unfolding rowsFault
-  rows-broken d l e = when-fails _ HighBit (bool-ext _ _ (λ z. sym e ∙ every-at m clearRow z d l) (λ z. absurd (true≢false (sym z))))
 
 -- the bits at m and above of m/8 bytes, rounded up
 module _ (m : ℕ) (x : List ℕ) (size : length x ≡ bytesFor m) where
   pub clear-whole : m % 8 ≡ 0 → isClear m x ≡ true
   clear-whole e = clear-of m x (λ i l. coord-past x i (omega (arith, size)))
 
-  pub clear-end : getD x (m / 8) 0 / 2 ^ (m % 8) ≡ 0 → isClear m x ≡ true
+  clear-end : getD x (m / 8) 0 / 2 ^ (m % 8) ≡ 0 → isClear m x ≡ true
   clear-end e = clear-of m x (λ i l. elim (decLt i (8 * length x)) [
     | yes q ↦ let d : i ≡ m / 8 * 8 + (i - m / 8 * 8) = omega arith in
         let k : i - m / 8 * 8 ≡ m % 8 + (i - m / 8 * 8 - m % 8) = omega arith in
@@ -154,18 +146,38 @@ module _ (m : ℕ) (x : List ℕ) (size : length x ≡ bytesFor m) where
     | no q ↦ coord-past x i (omega arith)
   ])
 
-  pub clear-broken : Bytes x → (getD x (m / 8) 0 / 2 ^ (m % 8) ≡ 0 → ⊥) → isClear m x ≡ false
-  clear-broken small n = go (isClear m x) refl
+  clear-last : Bytes x → isClear m x ≡ true → getD x (m / 8) 0 / 2 ^ (m % 8) ≡ 0
+  clear-last small e = value-eq 8 (λ j. 0) _ (lt-of-le-of-lt (shr-le (getD x (m / 8) 0) (m % 8)) (small (m / 8))) bits ∙ (unfold value sum in refl)
     where
-      bits : isClear m x ≡ true → (j : ℕ) → j < 8 → getD x (m / 8) 0 / 2 ^ (m % 8) / 2 ^ j % 2 ≡ 0
-      bits e j l = ap (λ y. y % 2) (shr-shr (getD x (m / 8) 0) (m % 8) j) ∙ elim (decLt (m % 8 + j) 8) [
+      bits : (j : ℕ) → j < 8 → getD x (m / 8) 0 / 2 ^ (m % 8) / 2 ^ j % 2 ≡ 0
+      bits j l = ap (λ y. y % 2) (shr-shr (getD x (m / 8) 0) (m % 8) j) ∙ elim (decLt (m % 8 + j) 8) [
         | yes q ↦ sym (coord-digit x (m / 8) (m % 8 + j) q) ∙ clear-at m x e (m / 8 * 8 + (m % 8 + j)) (omega arith)
         | no q ↦ ap (λ y. y % 2) (div-eq-of-lt (lt-of-lt-of-le (small (m / 8)) (pow-mono {i = 8} (omega arith))))
       ]
 
-      go : (b : Bool) → isClear m x ≡ b → isClear m x ≡ false
-      go true e = absurd (n (value-eq 8 (λ j. 0) _ (lt-of-le-of-lt (shr-le (getD x (m / 8) 0) (m % 8)) (small (m / 8))) (bits e) ∙ (unfold value sum in refl)))
-      go false e = e
+-- the last byte of row d, where the width is no multiple of 8
+abbrev pub lastByte : ℕ → List ℕ → ℕ → ℕ
+lastByte m t d = getD t (d * bytesFor m + m / 8) 0
+
+module _ (m : ℕ) (t : List ℕ) (size : length t ≡ m * bytesFor m) (part : m % 8 ≡ 0 → ⊥) where
+  pub last-within : (d : ℕ) → d < m → d * bytesFor m + m / 8 < length t
+  last-within d l = omega (arith, row-within m d t size l)
+
+  last-row : (d : ℕ) → d < m → getD (row m t d) (m / 8) 0 / 2 ^ (m % 8) ≡ lastByte m t d / 2 ^ (m % 8)
+  last-row d l = ap (λ y. y / 2 ^ (m % 8)) (row-getD m d t size l (m / 8) (omega arith))
+
+  -- the last bytes together tell whether some row has a bit at m or above
+  pub ends-clear : ored m (lastByte m t) / 2 ^ (m % 8) ≡ 0 → rowsFault m t ≡ None
+  ends-clear e = rows-done m t (every-of m (clearRow m t) (λ d l.
+      clear-end m (row m t d) (row-length m d t size l) (last-row d l ∙ ored-at m _ (sym (ored-shr m (lastByte m t) (m % 8)) ∙ e) d l)))
+
+  pub ends-broken : Bytes t → (ored m (lastByte m t) / 2 ^ (m % 8) ≡ 0 → ⊥) → rowsFault m t ≡ HighBit
+  unfolding rowsFault
+  ends-broken small n = when-fails _ HighBit (bool-ext (every m (clearRow m t)) false (λ e. absurd (n (each e))) (λ e. absurd (true≢false (sym e))))
+    where
+      each : every m (clearRow m t) ≡ true → ored m (lastByte m t) / 2 ^ (m % 8) ≡ 0
+      each e = ored-shr m (lastByte m t) (m % 8) ∙ ored-of m _ (λ d l.
+          sym (last-row d l) ∙ clear-last m (row m t d) (row-length m d t size l) (row-byte m d t size l small) (every-at m (clearRow m t) e d l))
 
 -- a table of bytes has no fault of shape just where it is shaped
 pub shape-fine : (m : ℕ) (t : List ℕ) → Bytes t → (shapeFault m t ≡ None) ↔ Shaped m t

@@ -49,6 +49,7 @@ pub fn row(width: usize, table: &[u8], d: usize) -> OperandAnswer
 }
 
 // Bits at the width and above can stand only in the last byte of a row, and in none where the width is a multiple of 8.
+// The last bytes of all rows are looked at together.
 fn judge_ends(width: usize, table: &[u8]) -> Fault
     requires { ⌜ (width ≤ maxWidth) × (length (now table) ≡ width * bytesFor width) ⌝ }
     ensures { λ r. ⌜ r ≡ rowsFault width (now (table .entry)) ⌝ }
@@ -58,13 +59,14 @@ fn judge_ends(width: usize, table: &[u8]) -> Fault
         return Fault::None;
     }
     let size = operand::bytes_for(width);
+    let mut all: u8 = 0;
     let mut d = 0;
     while d < width {
-        let last = table[d * size + width / 8];
-        if last >> used != 0 {
-            return Fault::HighBit;
-        }
+        all = all | table[d * size + width / 8];
         d += 1;
+    }
+    if all >> used != 0 {
+        return Fault::HighBit;
     }
     Fault::None
 }

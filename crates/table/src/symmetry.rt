@@ -9,19 +9,19 @@ use crate::rows;
 use operand::Fault;
 use operand::Operand;
 
-// Every byte is looked at, which is compiled to a few comparisons of many bytes.
+// Compared as words: bytes just stored word by word are read the same way.
 pub(crate) fn same_bytes(x: [u8; Operand::BYTES], y: [u8; Operand::BYTES]) -> bool
     ensures { λ r. ⌜ r ≡ same x y ⌝ }
 {
-    let mut same = true;
-    let mut b = 0;
-    while b < Operand::BYTES {
-        if x[b] != y[b] {
-            same = false;
-        }
-        b += 1;
+    let p = operand::to_words(x);
+    let q = operand::to_words(y);
+    let mut apart: u64 = 0;
+    let mut w = 0;
+    while w < Operand::WORDS {
+        apart = apart | (p[w] ^ q[w]);
+        w += 1;
     }
-    same
+    apart == 0
 }
 
 // The bytes of the basis operand whose only coordinate is k, in the first byte.

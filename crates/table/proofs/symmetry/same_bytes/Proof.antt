@@ -1,43 +1,68 @@
 -- `table::symmetry::same_bytes` meets its contract.
-use mathlib.Core.Logic.{⊎-elim}
-use Prim.Native.Nat.{_-_}
+use mathlib.Core.Path.{_≡_, ap, ap₂, _∙_}
+use Prim.Native.Nat.{ℕ, _-_, _≤_}
 use native.Mathlib.Omega.{arith}
+use lib.Dec.{eqb}
+use lib.ListN.{length, getD}
+use mir.Val.{Fits}
+use mir.Syntax.{w8}
 use Rattle.gf2.specs.Operands.{carriedBytes}
-use Rattle.table.proofs.Searches.{Compared, compared-none, compared-stop, compared-more, compared-all}
+use Rattle.operand.specs.Words.{carriedWords}
+use Rattle.operand.proofs.WordLoops.{ored, ored-none, ored-more}
+use Rattle.table.proofs.Searches.{apart, same-words}
 use borrow.Author.Needs.{needs}
 use Rattle.table.proofs.symmetry.same_bytes.Statement.{statement}
 use Rattle.table.proofs.symmetry.same_bytes.Tie as tie
 
 abbrev Inv-loop : tie.InvT-loop
-Inv-loop x y same₀ b₀ same b = Compared x y b same
+Inv-loop p q apart₀ w₀ done w = (w ≤ carriedWords) × (done ≡ ored w (apart p q))
 
 abbrev μ-loop : tie.MeasureT-loop
-μ-loop x y same₀ b₀ same b = carriedBytes - b
+μ-loop p q apart₀ w₀ done w = carriedWords - w
+
+to-words-requires : tie.Need-to-words-requires Inv-loop μ-loop
+to-words-requires c κs = search needs
+
+to-words-requires-2 : tie.Need-to-words-requires-2 Inv-loop μ-loop
+to-words-requires-2 c κs = search needs
 
 loop-holds : tie.Need-loop-holds Inv-loop μ-loop
-loop-holds c = compared-none _ _
+loop-holds c = (omega arith, ored-none _)
 
-array-read-if1 : tie.Need-array-read-if1 Inv-loop μ-loop
-array-read-if1 c = search needs
+mul-apart : tie.Need-mul-apart Inv-loop μ-loop
+mul-apart c = search needs
 
-array-read-if1-2 : tie.Need-array-read-if1-2 Inv-loop μ-loop
-array-read-if1-2 c = search needs
+array-read-apart : tie.Need-array-read-apart Inv-loop μ-loop
+array-read-apart c = search needs
 
-add-b : tie.Need-add-b Inv-loop μ-loop
-add-b c = search needs
+mul-apart-2 : tie.Need-mul-apart-2 Inv-loop μ-loop
+mul-apart-2 c = search needs
+
+array-read-apart-2 : tie.Need-array-read-apart-2 Inv-loop μ-loop
+array-read-apart-2 c = search needs
+
+add-w : tie.Need-add-w Inv-loop μ-loop
+add-w c = search needs
 
 loop-less : tie.Need-loop-less Inv-loop μ-loop
 loop-less c = search needs
 
 loop-again : tie.Need-loop-again Inv-loop μ-loop
-loop-again c =
-    ⊎-elim
-    (λ q. rw (q .1) (compared-stop _ _ _ (q .0 .taken)))
-    (λ q. rw (q .1) (compared-more (c .before .before .loop .inv) (q .0 .left)))
-    (c .if1 .came)
+loop-again c = (omega arith, ored-more _ _ _ (c .before .loop .inv .1))
 
 returns : tie.Need-returns Inv-loop μ-loop
-returns c = compared-all _ (c .before .loop .inv) (omega arith) (omega arith)
+returns c =
+    let l = c .before .loop in
+    let p = c .before .before .before in
+    let s = p .before .args in
+    let e : l .w ≡ carriedWords = omega arith in
+    let sx : length (s .x) ≡ carriedBytes = search needs in
+    let sy : length (s .y) ≡ carriedBytes = search needs in
+    let bx : (k : ℕ) → Fits w8 (getD (s .x) k 0) = λ k. search needs in
+    let by : (k : ℕ) → Fits w8 (getD (s .y) k 0) = λ k. search needs in
+    ap (λ n. eqb n 0) (l .inv .1 ∙ ap (λ n. ored n (apart (p .to-words .result) (c .before .before .to-words2 .result))) e
+    ∙ ap₂ (λ x y. ored carriedWords (apart x y)) (p .to-words .ensures) (c .before .before .to-words2 .ensures))
+    ∙ same-words (s .x) (s .y) sx sy (λ k. bx k .fits) (λ k. by k .fits)
 
 pub same-bytes-spec : {M : Type 1} → statement M
 same-bytes-spec =
@@ -45,10 +70,14 @@ same-bytes-spec =
     (tie.spec
     Inv-loop
     μ-loop
+    to-words-requires
+    to-words-requires-2
     loop-holds
-    array-read-if1
-    array-read-if1-2
-    add-b
+    mul-apart
+    array-read-apart
+    mul-apart-2
+    array-read-apart-2
+    add-w
     loop-less
     loop-again
     returns)
