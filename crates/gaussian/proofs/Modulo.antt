@@ -2,18 +2,12 @@
 use mathlib.Core.Path.{_≡_, sym, ap, ap₂, _∙_, subst}
 use mathlib.Core.Logic.{_≢_, _⊎_, inl, inr}
 use Prim.Native.Nat.{ℕ, zero, suc, _+_, _*_, _/_, _%_, _^_, _≤_, _<_, zero-le, suc-le-suc}
-use native.Mathlib.Nat.{mul-zero, mul-suc, mul-comm, mul-right-comm, mul-one, add-mul, mod-add-div', mod-add-div, add-mul-mod-self-right, mod-eq-of-lt, mod-lt, pow-zero, pow-suc, mul-mul-mul-comm, eq-zero-or-pos, eq-or-lt-of-le, le-of-suc-le-suc, le-trans, not-suc-le-zero}
+use native.Mathlib.Nat.{mul-zero, mul-suc, mul-comm, mul-one, mod-add-div, mod-eq-of-lt, mod-lt, pow-zero, pow-suc, mul-mul-mul-comm, eq-zero-or-pos, eq-or-lt-of-le, le-of-suc-le-suc, le-trans, not-suc-le-zero}
 use native.Mathlib.Decide.{ℕ-discrete}
 use native.Mathlib.Omega.{arith}
 use lib.Pow.{pow-add}
+use Rattle.gf2.proofs.Remainders.{mul-mod-left}
 use Rattle.gaussian.specs.Types.{IsOrder}
-
--- a factor may be replaced by its remainder
-pub mul-mod-left : (a b p : ℕ) → a * b % p ≡ (a % p) * b % p
-mul-mod-left a b p =
-    ap (λ (x : ℕ). x % p)
-    (ap (λ (x : ℕ). x * b) (sym (mod-add-div' a p)) ∙ add-mul (a % p) (a / p * p) b ∙ ap (λ (x : ℕ). a % p * b + x) (mul-right-comm (a / p) p b))
-    ∙ add-mul-mod-self-right (a % p * b) (a / p * b) p
 
 pub mul-mod-right : (a b p : ℕ) → a * b % p ≡ a * (b % p) % p
 mul-mod-right a b p = ap (λ (x : ℕ). x % p) (mul-comm a b) ∙ mul-mod-left b a p ∙ ap (λ (x : ℕ). x % p) (mul-comm (b % p) a)

@@ -12,7 +12,7 @@ use Rattle.gf2.specs.Operands.{bytesFor}
 use Rattle.gaussian.specs.Types.{modulus}
 use Rattle.gaussian.specs.Table.{inK, gives, term, rowCoord, rowsOf, drawn}
 use Rattle.gaussian.specs.Drawing.{Residue, inRow, Adds}
-use Rattle.gaussian.proofs.Modulo.{mul-mod-left}
+use Rattle.gf2.proofs.Remainders.{mul-mod-left}
 use Rattle.gaussian.proofs.ResidueLaws.{residue-mod}
 use Rattle.gaussian.proofs.RowLaws.{zero-rows}
 use Rattle.gaussian.proofs.AddLaws.{adds-none, upTo, rows-none, rows-more, rows-all}

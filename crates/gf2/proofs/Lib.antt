@@ -3,6 +3,7 @@
 -- Parity: bits added modulo 2, and the parity of a number.
 -- Sums: laws of sums of numbers and of tests of every number below a bound.
 -- Coordinates: laws of bytes and their coordinates.
+-- Remainders: the remainder of a product.
 -- TrailingZeros: the zeros below the lowest one of a number.
 -- Loops: the invariant of a loop that fills a list.
 -- Operands: laws of operands as bytes, by their coordinates.
@@ -23,6 +24,7 @@ pub mod Monoid
 pub mod Parity
 pub mod Sums
 pub mod Coordinates
+pub mod Remainders
 pub mod TrailingZeros
 pub mod Loops
 pub mod Operands

@@ -13,7 +13,7 @@ use Rattle.gf2.specs.Tables.{row, basis}
 use Rattle.gf2.specs.Products.{product}
 use Rattle.gf2.specs.Check.{rowSum}
 use Rattle.operand.specs.declared.fault.Fault.{Fault}
-use Rattle.operand.specs.declared.fault.Fault.the-variants.{None, Width, Length, HighBit, RowZero, RowPair, Triple, RowSum, TurnCount, InverseOfZero, TraceOne, OutputShort, CardEnds, CardNumber, CardForm, CardPlace, CardTail, NoType, BadGate}
+use Rattle.operand.specs.declared.fault.Fault.the-variants.{None, Width, Length, HighBit, RowZero, RowPair, Triple, RowSum, TurnCount, InverseOfZero, TraceOne, OutputShort, NoType, BadGate}
 use Rattle.operand.specs.Faults.{numberOf, isNone, when, orElse, firstOf, firstFrom}
 use Rattle.operand.specs.Judgements.{widthFault, lengthFault, highFault, turnFault, traceFault, bytesFault}
 use Rattle.operand.proofs.FaultLaws.{or-first, or-second, or-both, width-fine}
@@ -24,27 +24,6 @@ use Rattle.gaussian.specs.Types.{typeOf}
 use Rattle.gaussian.specs.Calls.{typeFault}
 use Rattle.nb.specs.Packing.{packedAnswer, Small}
 use Rattle.nb.specs.Judgements.{turnBytesFault, sumBytesFault, solveBytesFault, productBytesFault, reducedBytesFault, zeroBytesFault, inverseBytesFault, runBytesFault}
-
-pub number-small : (f : Fault) → numberOf f .0 < 2 ^ 8
-number-small None = omega arith
-number-small Width = omega arith
-number-small Length = omega arith
-number-small HighBit = omega arith
-number-small RowZero = omega arith
-number-small (RowPair d) = omega arith
-number-small (Triple i j) = omega arith
-number-small RowSum = omega arith
-number-small TurnCount = omega arith
-number-small InverseOfZero = omega arith
-number-small TraceOne = omega arith
-number-small OutputShort = omega arith
-number-small CardEnds = omega arith
-number-small CardNumber = omega arith
-number-small CardForm = omega arith
-number-small CardPlace = omega arith
-number-small CardTail = omega arith
-number-small NoType = omega arith
-number-small BadGate = omega arith
 
 -- equal faults and, where these are none, equal values make equal answers
 pub answer-same : {f g : Fault} {x y u v : ℕ} → f ≡ g → (isNone g ≡ true → (x ≡ y) × (u ≡ v)) → packedAnswer f x u ≡ packedAnswer g y v

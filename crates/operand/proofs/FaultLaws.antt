@@ -1,5 +1,5 @@
 -- Laws of faults and judgements.
--- Faults: none is the only fault with number 0; the first of two.
+-- Faults: none is the only fault with number 0, and no number is above 18; the first of two.
 -- Answers: what an answer is, with and without a fault.
 -- Judgements: what holds of a width, a length, an operand that is given no fault.
 use mathlib.Core.Path.{_≡_, refl, sym, ap, ap₂, _∙_}
@@ -16,7 +16,7 @@ use Rattle.operand.specs.declared.Operand.{Operand}
 use Rattle.operand.specs.declared.OperandAnswer.{OperandAnswer}
 use Rattle.operand.specs.declared.fault.Fault.{Fault}
 use Rattle.operand.specs.declared.fault.Fault.the-variants.{None, Width, Length, HighBit, RowZero, RowPair, Triple, RowSum, TurnCount, InverseOfZero, TraceOne, OutputShort, CardEnds, CardNumber, CardForm, CardPlace, CardTail, NoType, BadGate}
-use Rattle.operand.specs.Faults.{isNone, when, chooseFault, orElse, firstOf}
+use Rattle.operand.specs.Faults.{numberOf, isNone, when, chooseFault, orElse, firstOf}
 use Rattle.operand.specs.Judgements.{widthFault, lengthFault, highFault, turnFault, traceFault, operandFault, pairFault, bytesFault, roomFault}
 use Rattle.operand.specs.Calls.{noOperand, answer}
 
@@ -44,6 +44,28 @@ none-is CardPlace e = never e
 none-is CardTail e = never e
 none-is NoType e = never e
 none-is BadGate e = never e
+
+-- the greatest number of the table
+pub number-most : (f : Fault) → numberOf f .0 ≤ 18
+number-most None = omega arith
+number-most Width = omega arith
+number-most Length = omega arith
+number-most HighBit = omega arith
+number-most RowZero = omega arith
+number-most (RowPair d) = omega arith
+number-most (Triple i j) = omega arith
+number-most RowSum = omega arith
+number-most TurnCount = omega arith
+number-most InverseOfZero = omega arith
+number-most TraceOne = omega arith
+number-most OutputShort = omega arith
+number-most CardEnds = omega arith
+number-most CardNumber = omega arith
+number-most CardForm = omega arith
+number-most CardPlace = omega arith
+number-most CardTail = omega arith
+number-most NoType = omega arith
+number-most BadGate = omega arith
 
 pub or-first : (f g : Fault) → isNone f ≡ false → orElse f g ≡ f
 unfolding orElse

@@ -3,7 +3,7 @@
 use mathlib.Core.Path.{_≡_, refl, sym, ap, ap₂, _∙_}
 use mathlib.Core.List.{List, [], _∷_}
 use Prim.Native.Nat.{ℕ, zero, suc, _+_, _-_, _*_, _/_, _%_, _^_, _<_, _≤_, min}
-use native.Mathlib.Nat.{min-zero, add-mul, mul-comm, mul-assoc, mod-add-div', add-mul-mod-self-right, mod-lt, mod-le, zero-div, div-eq-of-lt, lt-of-le-of-lt, lt-of-lt-of-le}
+use native.Mathlib.Nat.{min-zero, mul-assoc, mod-lt, mod-le, zero-div, div-eq-of-lt, lt-of-le-of-lt, lt-of-lt-of-le}
 use native.Mathlib.Decide.{decLt, ℕ-discrete}
 use native.Mathlib.Numerals.{add-one}
 use native.Mathlib.Omega.{arith}
@@ -14,6 +14,7 @@ use lib.Pow.{pow-pos, pow-mono, pow-add, shr-shr, shr-le}
 use borrow.Author.Tests.{eq-eqb, eqb-true}
 use Rattle.gf2.specs.Coordinates.{coord, value, tabulate}
 use Rattle.gf2.specs.Operands.{carriedBytes, below, isClear}
+use Rattle.gf2.proofs.Remainders.{mul-mod-left}
 use Rattle.gf2.proofs.Parity.{bool-ext}
 use Rattle.gf2.proofs.Coordinates.{value-ext, value-eq, tabulate-ext, mod-bit, mod-bit-out, xor-bit, shl-bit, shl-bit-out}
 use Rattle.gf2.proofs.Operands.{below-in, below-out, clear-at, clear-of}
@@ -67,19 +68,12 @@ pair-word low high t hl ht = value-eq 64 _ _ (or-lt 64 _ _ (lt-of-le-of-lt (shr-
     up : ℕ
     up = high * 2 ^ (64 - t) % 2 ^ 64
 
-mod-mul : (x y n : ℕ) → x % n * y % n ≡ x * y % n
-mod-mul x y n =
-    sym (ap (λ z. z * y % n) (sym (mod-add-div' x n)) ∙ ap (λ z. z % n) (add-mul (x % n) (x / n * n) y ∙ ap (λ z. x % n * y + z) swap) ∙ add-mul-mod-self-right (x % n * y) (x / n * y) n)
-  where
-    swap : x / n * n * y ≡ x / n * y * n
-    swap = mul-assoc (x / n) n y ∙ ap (λ z. x / n * z) (mul-comm n y) ∙ sym (mul-assoc (x / n) y n)
-
 -- the same by shifts below 64, one of them made of two
 pub lower-pair : (low high skip : ℕ) → low < 2 ^ 64 → skip < 64
     → bitOr (low / 2 ^ skip) (high * 2 ^ 1 % 2 ^ 64 * 2 ^ (63 - skip) % 2 ^ 64) ≡ value 64 (λ j. wordCoord (low ∷ high ∷ []) (skip + j))
 lower-pair low high skip hl hs =
     let e : 1 + (63 - skip) ≡ 64 - skip = omega arith in
-    ap (bitOr (low / 2 ^ skip)) (mod-mul (high * 2 ^ 1) (2 ^ (63 - skip)) (2 ^ 64) ∙ ap (λ x. x % 2 ^ 64) (mul-assoc high (2 ^ 1) (2 ^ (63 - skip)) ∙ ap (λ x. high * x) (sym (pow-add 2 1 (63 - skip)) ∙ ap (λ k. 2 ^ k) e)))
+    ap (bitOr (low / 2 ^ skip)) (sym (mul-mod-left (high * 2 ^ 1) (2 ^ (63 - skip)) (2 ^ 64)) ∙ ap (λ x. x % 2 ^ 64) (mul-assoc high (2 ^ 1) (2 ^ (63 - skip)) ∙ ap (λ x. high * x) (sym (pow-add 2 1 (63 - skip)) ∙ ap (λ k. 2 ^ k) e)))
     ∙ pair-word low high skip hl (omega arith)
 
 pub raise-pair : (low high skip : ℕ) → low < 2 ^ 64 → skip < 64

@@ -10,9 +10,9 @@ use lib.Dec.{ltb}
 use Rattle.gf2.specs.Operands.{maxWidth, choose}
 use Rattle.gf2.specs.Tables.{onesIn}
 use Rattle.operand.specs.declared.fault.Fault.{Fault}
-use Rattle.operand.specs.declared.fault.Fault.the-variants.{None, Width, Length, HighBit, RowZero, RowPair, Triple, RowSum, TurnCount, InverseOfZero, TraceOne, OutputShort, CardEnds, CardNumber, CardForm, CardPlace, CardTail, NoType, BadGate}
+use Rattle.operand.specs.declared.fault.Fault.the-variants.{None, Length}
 use Rattle.operand.specs.Faults.{numberOf, isNone}
-use Rattle.operand.proofs.FaultLaws.{none-is}
+use Rattle.operand.proofs.FaultLaws.{none-is, number-most}
 use Rattle.io.specs.Counts.{Counts}
 use Rattle.io.proofs.Counting.{counts}
 use Rattle.table.specs.Rows.{Shaped}
@@ -38,27 +38,6 @@ use Rattle.report.proofs.Decimals.{decimal-length}
 abbrev great : ℕ
 great = 1000000000
 
-number-small : (f : Fault) → numberOf f .0 < great
-number-small None = omega arith
-number-small Width = omega arith
-number-small Length = omega arith
-number-small HighBit = omega arith
-number-small RowZero = omega arith
-number-small (RowPair d) = omega arith
-number-small (Triple i j) = omega arith
-number-small RowSum = omega arith
-number-small TurnCount = omega arith
-number-small InverseOfZero = omega arith
-number-small TraceOne = omega arith
-number-small OutputShort = omega arith
-number-small CardEnds = omega arith
-number-small CardNumber = omega arith
-number-small CardForm = omega arith
-number-small CardPlace = omega arith
-number-small CardTail = omega arith
-number-small NoType = omega arith
-number-small BadGate = omega arith
-
 line-one : (word : List ℕ) (n : ℕ) → n < great → length (line word (n ∷ [])) ≤ length word + 11
 unfolding line spaced
 line-one word n h = simp length-append (omega (arith, decimal-length n 8 h))
@@ -69,7 +48,7 @@ line-two word a x h k = simp length-append (omega (arith, decimal-length a 8 h, 
 
 refusal-length : (f : Fault) → length (refusal f) ≤ 18
 unfolding refusal
-refusal-length f = line-one (ascii "refused") _ (number-small f)
+refusal-length f = line-one (ascii "refused") _ (omega (arith, number-most f))
 
 choose-small : (b : Bool) (x : ℕ) → x < great → choose b x 0 < great
 choose-small true x h = h

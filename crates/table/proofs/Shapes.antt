@@ -21,13 +21,13 @@ use Rattle.gf2.proofs.Operands.{clear-at, clear-of}
 use Rattle.operand.specs.declared.fault.Fault.{Fault}
 use Rattle.operand.specs.declared.fault.Fault.the-variants.{None, HighBit}
 use Rattle.operand.specs.Faults.{isNone, orElse, firstOf}
-use Rattle.operand.specs.Judgements.{widthFault, lengthFault, highFault, bytesFault}
+use Rattle.operand.specs.Judgements.{widthFault, lengthFault, bytesFault}
 use Rattle.operand.specs.Calls.{answer}
 use Rattle.operand.proofs.ByteLoops.{Bytes}
 use Rattle.operand.proofs.WordLoops.{ored, ored-at, ored-of, ored-shr}
 use Rattle.operand.proofs.CallLaws.{coord-carried}
 use Rattle.operand.proofs.FaultLaws.{or-second, or-assoc, first-two, first-more, two-fine, width-fine, length-fine}
-use Rattle.operand.proofs.FaultFree.{IsWidth, done, width-none, length-none, high-none}
+use Rattle.operand.proofs.FaultFree.{IsWidth, width-none, length-none}
 use Rattle.table.specs.Rows.{Shaped, carriedBy, carriedRow}
 use Rattle.table.specs.Judgements.{rowsFault, shapeFault}
 use Rattle.table.specs.Calls.{rowCall}
@@ -110,17 +110,6 @@ row-read m d t s = ap (λ f. answer f m (carriedRow m t (d % m)))
     fine : isNone (firstOf (widthFault m ∷ lengthFault (length (row m t (d % m))) (bytesFor m) ∷ [])) ≡ true
     fine = none-true (first-two _ _ ∙ or-second _ _ (none-true (width-none m (width-of s)))
         ∙ length-none _ _ (row-length m (d % m) t (s .exact) (mod-lt d (let l = s .least in omega arith))))
-
--- a row of a table without fault of shape is an operand
-pub row-done : {m : ℕ} {t : List ℕ} (s : Shaped m t) (d : ℕ) → rowCall m t d ≡ done m (carriedRow m t (d % m))
-unfolding rowCall answer isNone
-row-done {m} {t} s d = rw none
-  where
-    fine : IsOperand (bytesFor m) m (row m t (d % m))
-    fine = s .isTable .rows (d % m) (mod-lt d (let l = s .least in omega arith))
-
-    none : firstOf (widthFault m ∷ lengthFault (length t) (m * bytesFor m) ∷ highFault m (row m t (d % m)) ∷ []) ≡ None
-    none = first-three _ _ _ ∙ or-second _ _ (size-none (sized s)) ∙ high-none m _ fine
 
 -- the fault of shape, row after row
 module _ (m : ℕ) (t : List ℕ) where

@@ -3,7 +3,7 @@ use mathlib.Core.Path.{sym, ap, _∙_}
 use native.Mathlib.Omega.{arith}
 use Rattle.operand.specs.declared.fault.FaultNumber.{FaultNumber}
 use Rattle.nb.specs.Packing.{packed, packedFault, packedAnswer}
-use Rattle.nb.proofs.PackLaws.{number-small}
+use Rattle.operand.proofs.FaultLaws.{number-most}
 use borrow.Author.Needs.{needs}
 use Rattle.nb.proofs.packing.answer.Statement.{statement}
 use Rattle.nb.proofs.packing.answer.Tie as tie
@@ -22,7 +22,7 @@ number-requires : tie.Need-number-requires
 number-requires c κs = search needs
 
 pack-requires-2 : tie.Need-pack-requires-2
-pack-requires-2 c κs = rw (c .number .ensures) (number-small (c .before .before .before .args .fault), c .before .before .before .pre .0 .first, c .before .before .before .pre .0 .second)
+pack-requires-2 c κs = rw (c .number .ensures) (omega (arith, number-most (c .before .before .before .args .fault)), c .before .before .before .pre .0 .first, c .before .before .before .pre .0 .second)
 
 returns-2 : tie.Need-returns-2
 unfolding packedAnswer packedFault
