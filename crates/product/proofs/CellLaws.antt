@@ -7,7 +7,7 @@ use Prim.Native.Nat.{ℕ, zero, suc, _+_, _-_, _*_, _/_, _%_, _^_, _<_, _≤_}
 use native.Mathlib.Nat.{add-zero, mul-mod-left, zero-div, zero-mul, mul-add, mod-eq-of-lt, mod-self, div-eq-of-lt, pow-suc, lt-of-lt-of-le}
 use native.Mathlib.Decide.{decLt, ℕ-discrete}
 use native.Mathlib.Omega.{arith}
-use lib.ListN.{length, getD, set, length-set}
+use lib.ListN.{length, getD, set, length-set, replicate}
 use lib.Seq.{getD-set-same, getD-set-other}
 use lib.Dec.{eqb, ltb}
 use lib.Bits.{bitAnd, and-lt, bitXor, xor-lt}
@@ -16,7 +16,7 @@ use borrow.Author.Tests.{eq-eqb, ne-eqb}
 use Rattle.gf2.specs.Sums.{sum}
 use Rattle.gf2.specs.Coordinates.{value, tabulate}
 use Rattle.gf2.specs.Operands.{carriedBytes, maxWidth, choose, below}
-use Rattle.gf2.proofs.Coordinates.{value-bit, value-eq, value-split, and-bit, xor-bit}
+use Rattle.gf2.proofs.Coordinates.{value-bit, value-eq, value-split, digit-none, and-bit, xor-bit}
 use Rattle.gf2.proofs.Operands.{below-in, below-out}
 use Rattle.operand.specs.Words.{carriedWords, wordCoord, packWords}
 use Rattle.operand.proofs.WordCoords.{word-lt, word-past, word-digit, length-words, word-pack, words-of}
@@ -24,6 +24,10 @@ use Rattle.product.specs.Cells.{places, HasPlaces, cell, Added, Clear, I
 
 abbrev pub Words : List ℕ → Type 0
 Words x = (k : ℕ) → getD x k 0 < 2 ^ 64
+
+pub word-none : (n i : ℕ) → wordCoord (replicate n 0) i ≡ 0
+unfolding wordCoord
+word-none n i = digit-none 64 (omega arith) n i
 
 pub bit-mul : (x y : ℕ) → x < 2 → y < 2 → x * y ≡ x * y % 2
 bit-mul zero y h l = omega arith
@@ -144,7 +148,7 @@ back-words m x width clear small {r} e = record { coords = inside; clear = outsi
     ]
 
 -- one word changed
-set-coord : (g : List ℕ) (p x k : ℕ) → p < length g →
+pub set-coord : (g : List ℕ) (p x k : ℕ) → p < length g →
     wordCoord (set g p (bitXor (getD g p 0) x)) k ≡ (wordCoord g k + choose (eqb (k / 64) p) (x / 2 ^ (k % 64) % 2) 0) % 2
 unfolding wordCoord
 set-coord g p x k h = elim (ℕ-discrete (k / 64) p) [

@@ -12,18 +12,15 @@ use Rattle.gf2.specs.Coordinates.{coord, pack}
 use Rattle.gf2.specs.Operands.{carriedBytes, maxWidth, minus, below, fromCoords}
 use Rattle.gf2.proofs.Sums.{sum-ext, sum-split, sum-swap, sum-mod}
 use Rattle.gf2.specs.Tables.{row}
-use Rattle.gf2.proofs.Coordinates.{digit-none, pack-ext, coord-lt, coord-past}
+use Rattle.gf2.proofs.Coordinates.{pack-ext, length-pack}
 use Rattle.table.specs.Rows.{Shaped}
 use Rattle.table.proofs.Shapes.{row-short, sized}
-use Rattle.product.proofs.CellLaws.{added-same}
+use Rattle.product.proofs.CellLaws.{word-none, added-same}
 use Rattle.gf2.proofs.Operands.{minus-below, below-in, below-out}
 use Rattle.operand.specs.Words.{carriedWords, wordCoord, packWords}
-use Rattle.operand.proofs.WordCoords.{word-lt, word-past, length-words, word-pack}
+use Rattle.operand.proofs.WordCoords.{word-lt, word-past, length-words, word-pack, words-same}
+use Rattle.operand.proofs.CallLaws.{coord-carried}
 use Rattle.product.specs.Cells.{places, cell, Added, Clear, IsWidth, Back, gatheredTo, Gathered}
-
-pub word-none : (n i : ℕ) → wordCoord (replicate n 0) i ≡ 0
-unfolding wordCoord
-word-none n i = digit-none 64 (omega arith) n i
 
 sum-one : (f : ℕ → ℕ) → sum 1 f ≡ f 0
 unfolding sum
@@ -119,13 +116,10 @@ bytes-made m f r clear e = pack-ext carriedBytes (wordCoord r) (below m f) (λ i
     twice : (x : ℕ) → x % 2 % 2 ≡ x % 2
     twice x = omega arith
 
--- a row of a table in words
-pub line-added : {m : ℕ} {t : List ℕ} → Shaped m t → (d : ℕ) → d < m → (e : List ℕ) {line a b : List ℕ} → line ≡ packWords carriedWords (coord (row m t d))
+-- a row of a table, carried and in words
+pub line-added : {m : ℕ} {t : List ℕ} → Shaped m t → (d : ℕ) → d < m → (e : List ℕ) {bytes line a b : List ℕ} → bytes ≡ pack carriedBytes (coord (row m t d)) → line ≡ packWords carriedWords (coord bytes)
     → Added (λ s i. wordCoord line s * wordCoord e i) a b → Added (λ s i. coord (row m t d) s * wordCoord e i) a b
-line-added {m} {t} shaped d l e {line} q p = added-same _ _ p (λ s i h. ap (λ y. y * wordCoord e i % 2) (same s))
+line-added {m} {t} shaped d l e {bytes} {line} q r p = added-same _ _ p (λ s i h. ap (λ y. y * wordCoord e i % 2) (same s))
   where
     same : (s : ℕ) → wordCoord line s ≡ coord (row m t d) s
-    same s = ap (λ z. wordCoord z s) q ∙ elim (decLt s (64 * carriedWords)) [
-      | yes h ↦ word-pack carriedWords (coord (row m t d)) s h ∙ mod-eq-of-lt (coord-lt (row m t d) s)
-      | no h ↦ word-past _ s (omega (arith, length-words carriedWords (coord (row m t d)))) ∙ sym (coord-past (row m t d) s (omega (arith, row-short m d t (sized shaped) l)))
-    ]
+    same s = ap (λ f. f s) (words-same bytes r (ap length q ∙ length-pack carriedBytes _)) ∙ ap (λ z. coord z s) q ∙ coord-carried carriedBytes (row m t d) (row-short m d t (sized shaped) l) s

@@ -2,6 +2,7 @@
 -- SoundOperands: what the calls on operands answer where there is no fault.
 -- CellLaws: what the kernels on words make.
 -- OnesLaws: the ones of words, and what they add at their places.
+-- SpreadLaws: coordinates moved up, and the sum of all places by Horner's rule.
 -- GatherLaws: the places gathered.
 -- ScatterBytes: the rows spread by the places of their ones are the plain product of specs/.
 -- PlainWords: the plain product on words.
@@ -12,6 +13,7 @@
 pub mod SoundOperands
 pub mod CellLaws
 pub mod OnesLaws
+pub mod SpreadLaws
 pub mod GatherLaws
 pub mod ScatterBytes
 pub mod PlainWords

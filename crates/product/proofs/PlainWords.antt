@@ -23,8 +23,8 @@ use Rattle.product.specs.Kernels.{Sound}
 use Rattle.product.specs.Cells.{places, cell, Added, Clear, IsWidth, Back, Gathered}
 use Rattle.product.proofs.SoundOperands.{fits}
 use Rattle.product.proofs.ScatterBytes.{apartAt, spreadAt, plainTo, plain-all}
-use Rattle.product.proofs.CellLaws.{bit-mul, added-none, added-more}
-use Rattle.product.proofs.GatherLaws.{word-none, minus-is, gathered-rows, bytes-made}
+use Rattle.product.proofs.CellLaws.{bit-mul, word-none, added-none, added-more}
+use Rattle.product.proofs.GatherLaws.{minus-is, gathered-rows, bytes-made}
 
 -- turned back once more
 pub back-none : {m : ℕ} {x : List ℕ} → Clear m x → Back m 0 x x

@@ -3,14 +3,18 @@ use mathlib.Core.Path.{_≡_}
 use mathlib.Core.List.{List}
 use Prim.Native.Nat.{ℕ, suc, _+_, _-_, _*_, _/_, _%_, _^_, _<_, _≤_}
 use lib.ListN.{length}
-use lib.Dec.{ltb, eqb}
+use lib.Dec.{ltb, leb, eqb}
 use Rattle.gf2.specs.Sums.{sum}
-use Rattle.gf2.specs.Operands.{carriedBytes, maxWidth, minus, choose}
+use Rattle.gf2.specs.Operands.{carriedBytes, maxWidth, minus, choose, below}
 use Rattle.operand.specs.Words.{carriedWords, wordCoord}
 
 -- the coordinates of an operand's words, and as many places
 abbrev pub places : ℕ
 places = 8 * carriedBytes
+
+-- room for an operand's words twice, and one more
+abbrev pub twiceWords : ℕ
+twiceWords = 2 * carriedWords + 1
 
 -- a list of words has all places
 abbrev pub HasPlaces : List ℕ → Type 0
@@ -19,6 +23,14 @@ HasPlaces g = length g ≡ places * carriedWords
 -- coordinate i of the words at place s
 abbrev pub cell : List ℕ → ℕ → ℕ → ℕ
 cell g s i = wordCoord g (s * places + i)
+
+-- f moved up by k places: coordinate i is that of i - k, and 0 below k
+unfoldable pub up : ℕ → (ℕ → ℕ) → ℕ → ℕ
+up k f i = choose (leb k i) (f (i - k)) 0
+
+-- coordinate i of the words at place s moved up by k places
+abbrev pub cellUp : List ℕ → ℕ → ℕ → ℕ → ℕ
+cellUp g s k = up k (below places (cell g s))
 
 -- h is g with f s i added to coordinate i at place s, modulo 2
 pub record Added (f : ℕ → ℕ → ℕ) (g h : List ℕ) : Type 0 where

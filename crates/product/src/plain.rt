@@ -10,6 +10,7 @@ ghost use Rattle.operand.specs.Words.{wordCoord};
 ghost use Rattle.table.specs.Rows.{Shaped};
 ghost use Rattle.product.specs.Kernels.{Sound, carried};
 ghost use Rattle.product.specs.Cells.{HasPlaces, Added, Clear};
+use crate::places;
 use crate::words;
 use operand::Operand;
 
@@ -28,7 +29,7 @@ fn add_rows(
     let mut d = 0;
     while d < width {
         let e = words::masked(x, turned);
-        words::add_line(width, table, d, e, g);
+        places::add_line(width, table, d, e, g);
         let next = words::back(turned, width);
         turned = next;
         d += 1;
@@ -41,7 +42,7 @@ pub(crate) fn times(width: usize, table: &[u8], a: Operand, b: Operand) -> Opera
 {
     let x = a.bytes;
     let y = b.bytes;
-    let mut g = [0u64; words::ROOM];
+    let mut g = [0u64; places::ROOM];
     add_rows(
         width,
         table,

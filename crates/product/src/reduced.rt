@@ -13,6 +13,7 @@ ghost use Rattle.operand.specs.Words.{carriedWords, wordCoord, packWords};
 ghost use Rattle.table.specs.Rows.{Shaped};
 ghost use Rattle.product.specs.Kernels.{Sound, carried};
 ghost use Rattle.product.specs.Cells.{HasPlaces, Added, Clear, pairWords};
+use crate::places;
 use crate::words;
 use operand::Operand;
 
@@ -54,7 +55,7 @@ fn add_halves(
         let next_x = words::back(xd, width);
         let next_y = words::back(yd, width);
         let e = across(width, d, x, y, next_x, next_y);
-        words::add_line(width, table, d, e, g);
+        places::add_line(width, table, d, e, g);
         xd = next_x;
         yd = next_y;
         d += 1;
@@ -69,8 +70,8 @@ pub(crate) fn times_reduced(width: usize, table: &[u8], a: Operand, b: Operand) 
     let q = b.bytes;
     let x = operand::to_words(p);
     let y = operand::to_words(q);
-    let mut g = [0u64; words::ROOM];
-    words::add_at(&mut g, 1, words::masked(x, y));
+    let mut g = [0u64; places::ROOM];
+    places::add_at(&mut g, 1, words::masked(x, y));
     add_halves(width, table, x, y, &mut g);
     let total = words::gathered(width, &g);
     Operand {

@@ -12,8 +12,8 @@ ghost use Rattle.table.specs.Rows.{Shaped};
 ghost use Rattle.product.specs.Cells.{places, HasPlaces, cell, Added, Clear, IsWidth, Back, bitFrom, Gathered};
 use operand::Operand;
 
-// The words of a place for each coordinate.
-pub(crate) const ROOM: usize = 8 * Operand::BYTES * Operand::WORDS;
+// Room for an operand's words twice, and one more to read past a word's end.
+pub(crate) const TWICE: usize = 2 * Operand::WORDS + 1;
 
 // The products of the coordinates.
 pub(crate) fn masked(x: [u64; Operand::WORDS], y: [u64; Operand::WORDS]) -> [u64; Operand::WORDS]
@@ -64,65 +64,6 @@ pub(crate) fn back(x: [u64; Operand::WORDS], m: usize) -> [u64; Operand::WORDS]
         w += 1;
     }
     out
-}
-
-// e is added at place s.
-pub(crate) fn add_at(g: &mut [u64], s: usize, e: [u64; Operand::WORDS])
-    requires { ⌜ HasPlaces (now g) × (s < places) ⌝ }
-    ensures { λ _. ⌜ Added (λ t i. choose (eqb t s) 1 0 * wordCoord e i) (now (g .entry)) (now (g .exit)) ⌝ }
-{
-    let from = s * Operand::WORDS;
-    let mut w = 0;
-    while w < Operand::WORDS {
-        g[from + w] = g[from + w] ^ e[w];
-        w += 1;
-    }
-}
-
-// e is added at the place of each one of a word, whose bits stand for the places from `from` on.
-fn add_word(g: &mut [u64], e: [u64; Operand::WORDS], word: u64, from: usize)
-    requires { ⌜ HasPlaces (now g) × (from + 64 ≤ places) ⌝ }
-    ensures { λ _. ⌜ Added (λ s i. bitFrom word from s * wordCoord e i) (now (g .entry)) (now (g .exit)) ⌝ }
-{
-    let mut rest = word;
-    let mut at = from;
-    while rest != 0 {
-        let zeros = u64::trailing_zeros(rest) as usize;
-        at += zeros;
-        add_at(g, at, e);
-        rest = (rest >> zeros) >> 1;
-        at += 1;
-    }
-}
-
-// e is added at the place of each one of a row.
-fn add_row(g: &mut [u64], e: [u64; Operand::WORDS], row: [u64; Operand::WORDS])
-    requires { ⌜ HasPlaces (now g) ⌝ }
-    ensures { λ _. ⌜ Added (λ s i. wordCoord row s * wordCoord e i) (now (g .entry)) (now (g .exit)) ⌝ }
-{
-    let mut w = 0;
-    while w < Operand::WORDS {
-        let word = row[w];
-        add_word(g, e, word, w * 64);
-        w += 1;
-    }
-}
-
-// The same with row d of a table.
-pub(crate) fn add_line(
-    width: usize,
-    table: &[u8],
-    d: usize,
-    e: [u64; Operand::WORDS],
-    g: &mut [u64],
-)
-    requires { ⌜ Shaped width (now table) × (d < width) × HasPlaces (now g) ⌝ }
-    ensures { λ _. ⌜ Added (λ s i. coord (row width (now (table .entry)) d) s * wordCoord e i) (now (g .entry)) (now (g .exit)) ⌝ }
-{
-    let size = operand::bytes_for(width);
-    let from = d * size;
-    let line = operand::slice_words(&table[from..from + size]);
-    add_row(g, e, line);
 }
 
 // x and the words at place s.

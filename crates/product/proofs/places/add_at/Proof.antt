@@ -1,4 +1,4 @@
--- `product::words::add_at` meets its contract.
+-- `product::places::add_at` meets its contract.
 use mathlib.Core.Path.{_≡_, refl, sym, ap, _∙_}
 use Prim.Native.Nat.{ℕ, _+_, _-_, _*_, _/_, _%_, _^_, _≤_}
 use native.Mathlib.Omega.{arith}
@@ -9,8 +9,8 @@ use Rattle.operand.specs.Words.{carriedWords, wordCoord, packWords}
 use Rattle.product.specs.Cells.{Added}
 use Rattle.product.proofs.CellLaws.{atPlace, place-none, place-more, place-all}
 use borrow.Author.Needs.{needs}
-use Rattle.product.proofs.words.add_at.Statement.{statement}
-use Rattle.product.proofs.words.add_at.Tie as tie
+use Rattle.product.proofs.places.add_at.Statement.{statement}
+use Rattle.product.proofs.places.add_at.Tie as tie
 
 abbrev Inv-loop : tie.InvT-loop
 Inv-loop g₀ s e from w₀ g w = (w ≤ carriedWords) × Added (atPlace s e w) g₀ g × (length g ≡ length g₀)

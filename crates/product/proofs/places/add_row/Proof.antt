@@ -1,4 +1,4 @@
--- `product::words::add_row` meets its contract.
+-- `product::places::add_row` meets its contract.
 use mathlib.Core.Path.{_≡_, refl, _∙_}
 use Prim.Native.Nat.{ℕ, _-_, _≤_}
 use native.Mathlib.Omega.{arith}
@@ -9,8 +9,8 @@ use Rattle.operand.specs.Words.{carriedWords}
 use Rattle.product.specs.Cells.{Added}
 use Rattle.product.proofs.OnesLaws.{wordsTo, row-none, row-more, row-all}
 use borrow.Author.Needs.{needs}
-use Rattle.product.proofs.words.add_row.Statement.{statement}
-use Rattle.product.proofs.words.add_row.Tie as tie
+use Rattle.product.proofs.places.add_row.Statement.{statement}
+use Rattle.product.proofs.places.add_row.Tie as tie
 
 abbrev Inv-loop : tie.InvT-loop
 Inv-loop g₀ e row w₀ g w = (w ≤ carriedWords) × Added (wordsTo row e w) g₀ g × (length g ≡ length g₀)
