@@ -1,89 +1,173 @@
--- A turn made of two shifts of words that are padded with zeros, and the way from it to bytes.
-use mathlib.Core.Path.{_≡_, sym, ap, _∙_}
-use mathlib.Core.List.{List, _++_, append-assoc}
-use Prim.Native.Nat.{ℕ, _+_, _-_, _*_, _/_, _%_, _<_, _≤_}
-use native.Mathlib.Nat.{mod-eq-of-lt, mod-lt}
-use native.Mathlib.Decide.{decLt}
+-- A turn made of two moves of words, and the way from it to bytes.
+-- Counts: words moved up or down by steps of 1, 2, 4, ..; then the bits of two words in a row.
+use mathlib.Core.Path.{_≡_, refl, sym, ap, ap₂, _∙_}
+use mathlib.Core.List.{List, [], _∷_}
+use Prim.Native.Nat.{ℕ, _+_, _-_, _*_, _/_, _%_, _^_, _<_, _≤_}
+use native.Mathlib.Nat.{add-zero, add-comm, mod-one, mod-eq-of-lt, zero-div}
+use native.Mathlib.Decide.{decLt, ℕ-discrete}
 use native.Mathlib.Omega.{arith}
-use lib.ListN.{length, getD, set, take, drop, replicate, length-replicate, replicate-append-replicate}
-use lib.Seq.{paste, paste-zero, paste-suc, take-at, drop-at, take-all}
-use native.Mathlib.Numerals.{add-one}
-use Rattle.gf2.specs.Coordinates.{coord, pack}
-use Rattle.gf2.specs.Operands.{carriedBytes, minus, IsOperand, below, fromCoords, turned}
-use Rattle.gf2.proofs.Coordinates.{digit-front, digit-back, digit-none}
+use lib.Arith.{mod-mul}
+use lib.Dec.{eqb}
+use lib.ListN.{length, getD, List·getD-eq-default}
+use lib.Seq.{ext-getD}
+use borrow.Author.Tests.{le-leb, lt-leb, eq-eqb, ne-eqb}
+use Rattle.gf2.specs.Coordinates.{coord, value, tabulate, pack}
+use Rattle.gf2.specs.Operands.{carriedBytes, minus, choose, below, fromCoords, turned}
+use Rattle.gf2.proofs.Coordinates.{value-ext, length-tabulate, getD-tabulate, tabulate-ext}
 use Rattle.gf2.proofs.Operands.{from-ext, minus-below, minus-round}
-use Rattle.operand.specs.Words.{carriedWords, wordCoord, packWords}
-use Rattle.operand.proofs.WordCoords.{word-past, word-pack, words-below, words-coord, bytes-words}
+use Rattle.operand.specs.Words.{carriedWords, wordCoord, packWords, raised}
+use Rattle.operand.proofs.WordCoords.{word-digit, word-pack, words-ext, words-below, words-coord, bytes-words}
+use Rattle.operand.proofs.WordLoops.{pair-low, pair-high, window-words}
 
--- n zeros before x and after it
-abbrev pub padding : ℕ → List ℕ → List ℕ
-padding n x = replicate n 0 ++ x ++ replicate n 0
+raised-in : (n : ℕ) (f : ℕ → ℕ) (i : ℕ) → n ≤ i → raised n f i ≡ f (i - n)
+raised-in n f i h = ap (λ t. choose t (f (i - n)) 0) (le-leb n i h)
 
--- the loop that copies x into the middle: its first b elements are there
-pub record Pasted (n : ℕ) (x l₀ l : List ℕ) (b : ℕ) : Type 0 where
-  pub within : b ≤ n
-  pub content : l ≡ paste l₀ n x b
+raised-out : (n : ℕ) (f : ℕ → ℕ) (i : ℕ) → i < n → raised n f i ≡ 0
+raised-out n f i h = ap (λ t. choose t (f (i - n)) 0) (lt-leb n i h)
 
-pub pasted-none : (n : ℕ) (x l : List ℕ) → Pasted n x l l 0
-pasted-none n x l = record { within = omega arith; content = paste-zero l n x }
+-- only the distance from the count to the place matters
+raised-same : (f : ℕ → ℕ) (n i k j : ℕ) → n + j ≡ k + i → raised n f i ≡ raised k f j
+raised-same f n i k j e = elim (decLt i n) [
+  | yes h ↦ raised-out n f i h ∙ sym (raised-out k f j (omega arith))
+  | no h ↦ let d : i - n ≡ j - k = omega arith in raised-in n f i (omega arith) ∙ ap f d ∙ sym (raised-in k f j (omega arith))
+]
 
-pub pasted-more : {n : ℕ} {x l₀ l : List ℕ} {b : ℕ} → Pasted n x l₀ l b → b < n → length x ≡ n → n + n ≤ length l₀ → Pasted n x l₀ (set l (n + b) (getD x b 0)) (b + 1)
-pasted-more {n} {x} {l₀} {l} {b} done h size room = record {
-  within = omega arith;
-  content = ap (λ k. set k (n + b) (getD x b 0)) (done .content) ∙ paste-suc l₀ n x b 0 (omega arith) (omega arith) ∙ ap (paste l₀ n x) (sym (add-one b));
+-- f moved n down
+abbrev pub lowered : ℕ → (ℕ → ℕ) → ℕ → ℕ
+lowered n f i = f (i + n)
+
+-- the words of a list
+abbrev pub wordOf : List ℕ → ℕ → ℕ
+wordOf x w = getD x w 0
+
+-- a way to move the n words of x by a count: by 0 nothing moves, and two moves are one by the sum
+pub record Moves (n : ℕ) (x : List ℕ) (by : ℕ → (ℕ → ℕ) → ℕ → ℕ) : Type 0 where
+  pub none : (f : ℕ → ℕ) (w : ℕ) → by 0 f w ≡ f w
+  pub twice : (j k w : ℕ) → w < n → by k (wordOf (tabulate n (by j (wordOf x)))) w ≡ by (j + k) (wordOf x) w
+
+pub moves-down : (n : ℕ) (x : List ℕ) → length x ≡ n → Moves n x lowered
+moves-down n x size = record {
+  none = λ f w. ap f (add-zero w);
+  twice = λ j k w h. elim (decLt (w + k) n) [
+    | yes q ↦ getD-tabulate n (lowered j (wordOf x)) (w + k) q ∙ ap (wordOf x) (omega arith)
+    | no q ↦
+        List·getD-eq-default (tabulate n (lowered j (wordOf x))) 0 {n = w + k} (omega (arith, length-tabulate n (lowered j (wordOf x))))
+        ∙ sym (List·getD-eq-default x 0 {n = w + (j + k)} (omega arith))
+  ];
 }
 
-pub pasted-all : (n : ℕ) {x l : List ℕ} {b : ℕ} → Pasted n x (replicate (3 * n) 0) l b → n ≤ b → length x ≡ n → l ≡ padding n x
-pasted-all n {x} {l} {b} done h size =
-    let e : b ≡ n = omega (arith, done .within) in
-    done .content ∙ ap (paste zeros n x) e
-    ∙ ap (λ s. s ++ take n x ++ drop (n + n) zeros) (ap (take n) (cut n (n + n) (omega arith)) ∙ take-at (replicate n 0) (replicate (n + n) 0) n (length-replicate n 0))
-    ∙ ap (λ s. replicate n 0 ++ s ++ drop (n + n) zeros) (take-all n x (omega arith))
-    ∙ ap (λ s. replicate n 0 ++ x ++ s) (ap (drop (n + n)) (cut (n + n) n (omega arith)) ∙ drop-at (replicate (n + n) 0) (replicate n 0) (n + n) (length-replicate (n + n) 0))
-  where
-    zeros : List ℕ
-    zeros = replicate (3 * n) 0
+pub moves-up : (n : ℕ) (x : List ℕ) → Moves n x raised
+moves-up n x = record {
+  none = λ f w. let d : w - 0 ≡ w = omega arith in raised-in 0 f w (omega arith) ∙ ap f d;
+  twice = λ j k w h. elim (decLt w k) [
+    | yes q ↦ raised-out k (wordOf (tabulate n (raised j (wordOf x)))) w q ∙ sym (raised-out (j + k) (wordOf x) w (omega arith))
+    | no q ↦
+        raised-in k (wordOf (tabulate n (raised j (wordOf x)))) w (omega arith)
+        ∙ getD-tabulate n (raised j (wordOf x)) (w - k) (omega arith) ∙ raised-same (wordOf x) j (w - k) (j + k) w (omega arith)
+  ];
+}
 
-    cut : (i j : ℕ) → 3 * n ≡ i + j → zeros ≡ replicate i 0 ++ replicate j 0
-    cut i j e = ap (λ k. replicate k 0) e ∙ sym (replicate-append-replicate i j 0)
+-- the loop that moves words by steps: those below `step` are made
+pub record Moved (n : ℕ) (by : ℕ → (ℕ → ℕ) → ℕ → ℕ) (x : List ℕ) (count : ℕ) (l : List ℕ) (step : ℕ) : Type 0 where
+  pub some : 0 < step
+  pub content : l ≡ tabulate n (by (count % step) (wordOf x))
 
-padding-before : (n : ℕ) (x : List ℕ) (i : ℕ) → i < 64 * n → wordCoord (padding n x) i ≡ 0
-unfolding wordCoord
-padding-before n x i h =
-    ap (λ l. wordCoord l i) (append-assoc (replicate n 0) x (replicate n 0))
-    ∙ digit-front 64 (omega arith) (replicate n 0) (x ++ replicate n 0) i (omega (arith, length-replicate {A = ℕ} n 0)) ∙ digit-none 64 (omega arith) n i
+module _ {n : ℕ} {x : List ℕ} {by : ℕ → (ℕ → ℕ) → ℕ → ℕ} (moves : Moves n x by) (count : ℕ) where
+  pub moved-none : length x ≡ n → Moved n by x count x 1
+  moved-none size = record {
+    some = omega arith;
+    content =
+        ext-getD 0 x (tabulate n (by (count % 1) (wordOf x))) (size ∙ sym (length-tabulate n _)) (λ w h.
+        sym (getD-tabulate n (by (count % 1) (wordOf x)) w (omega arith) ∙ ap (λ k. by k (wordOf x) w) (mod-one count) ∙ moves .none (wordOf x) w));
+  }
 
-padding-in : (n : ℕ) (x : List ℕ) (i : ℕ) → length x ≡ n → wordCoord (padding n x) (64 * n + i) ≡ wordCoord x i
-unfolding wordCoord
-padding-in n x i size =
-    let s : 64 * n + i ≡ i + length {A = ℕ} (replicate n 0) * 64 = omega (arith, length-replicate {A = ℕ} n 0) in
-    ap (λ l. wordCoord l (64 * n + i)) (append-assoc (replicate n 0) x (replicate n 0))
-    ∙ ap (wordCoord (replicate n 0 ++ (x ++ replicate n 0))) s
-    ∙ digit-back 64 (omega arith) (replicate n 0) (x ++ replicate n 0) i
-    ∙ elim (decLt (i / 64) (length x)) [
-      | yes h ↦ digit-front 64 (omega arith) x (replicate n 0) i h
-      | no h ↦ let e : i ≡ (i - length x * 64) + length x * 64 = omega arith in
-          ap (wordCoord (x ++ replicate n 0)) e ∙ digit-back 64 (omega arith) x (replicate n 0) (i - length x * 64) ∙ digit-none 64 (omega arith) n _ ∙ sym (word-past x i (omega arith))
-    ]
+  pub moved-more : {l : List ℕ} {step : ℕ} {next : List ℕ} → Moved n by x count l step
+      → next ≡ tabulate n (λ w. choose (eqb (count / step % 2) 1) (by step (wordOf l) w) (wordOf l w)) → Moved n by x count next (2 * step)
+  moved-more {l} {step} {next} done e = record {
+    some = omega (arith, done .some);
+    content = e ∙ tabulate-ext n _ _ (λ w h. elim (ℕ-discrete (count / step % 2) 1) [
+      | yes q ↦
+          let d : count % step + step ≡ count % (2 * step) = omega (arith, digits, ap (λ k. k * step) q) in
+          ap (λ t. choose t (by step (wordOf l) w) (wordOf l w)) (eq-eqb _ 1 q) ∙ ap (λ s. by step (wordOf s) w) (done .content)
+          ∙ moves .twice (count % step) step w h ∙ ap (λ k. by k (wordOf x) w) d
+      | no q ↦
+          let z : count / step % 2 ≡ 0 = omega arith in
+          let d : count % step ≡ count % (2 * step) = omega (arith, digits, ap (λ k. k * step) z) in
+          ap (λ t. choose t (by step (wordOf l) w) (wordOf l w)) (ne-eqb _ 1 q) ∙ ap (λ s. wordOf s w) (done .content)
+          ∙ getD-tabulate n (by (count % step) (wordOf x)) w h ∙ ap (λ k. by k (wordOf x) w) d
+    ]);
+  }
+    where
+      digits : count % (2 * step) ≡ count / step % 2 * step + count % step
+      digits = mod-mul count (omega arith) (done .some)
+
+  pub moved-all : {l : List ℕ} {step : ℕ} → Moved n by x count l step → n ≤ step → count < n → l ≡ tabulate n (by count (wordOf x))
+  moved-all {l} {step} done h less =
+      let l' : count < step = omega arith in
+      done .content ∙ ap (λ k. tabulate n (by k (wordOf x))) (mod-eq-of-lt l')
+
+-- two words in a row, from bit t of the first on
+abbrev pub pairFrom : ℕ → ℕ → ℕ → ℕ
+pairFrom t low high = value 64 (λ j. wordCoord (low ∷ high ∷ []) (t + j))
+
+-- the words moved by k / 64, two in a row taken from the bit where k falls
+module _ (n k : ℕ) (x : List ℕ) where
+  pub lower-bits : {moved : List ℕ} → length x ≡ n → moved ≡ tabulate n (lowered (k / 64) (wordOf x))
+      → tabulate n (λ w. pairFrom (k % 64) (wordOf moved w) (wordOf moved (w + 1))) ≡ packWords n (λ i. wordCoord x (i + k))
+  lower-bits {moved} size e =
+      tabulate-ext n _ _ (λ w h. ap₂ (pairFrom (k % 64)) (first w h) (second w h))
+      ∙ window-words n (k / 64) (k % 64) x (omega arith)
+      ∙ words-ext n _ _ (λ i h. ap (λ j. wordCoord x j % 2) (omega arith))
+    where
+      first : (w : ℕ) → w < n → getD moved w 0 ≡ getD x (k / 64 + w) 0
+      first w h = ap (λ s. getD s w 0) e ∙ getD-tabulate n (lowered (k / 64) (wordOf x)) w h ∙ ap (wordOf x) (add-comm w (k / 64))
+
+      second : (w : ℕ) → w < n → getD moved (w + 1) 0 ≡ getD x (k / 64 + w + 1) 0
+      second w h = ap (λ s. getD s (w + 1) 0) e ∙ moves-down n x size .twice (k / 64) 1 w h ∙ ap (wordOf x) (omega arith)
+
+  raised-digit : (m w j : ℕ) → j < 64 → raised m (wordOf x) w / 2 ^ j % 2 ≡ raised (m * 64) (wordCoord x) (w * 64 + j)
+  raised-digit m w j l = elim (decLt w m) [
+    | yes q ↦ ap (λ y. y / 2 ^ j % 2) (raised-out m (wordOf x) w q) ∙ ap (λ y. y % 2) (zero-div (2 ^ j)) ∙ sym (raised-out (m * 64) (wordCoord x) (w * 64 + j) (omega arith))
+    | no q ↦
+        let e : (w - m) * 64 + j ≡ w * 64 + j - m * 64 = omega arith in
+        ap (λ y. y / 2 ^ j % 2) (raised-in m (wordOf x) w (omega arith)) ∙ sym (word-digit x (w - m) j l) ∙ ap (wordCoord x) e
+        ∙ sym (raised-in (m * 64) (wordCoord x) (w * 64 + j) (omega arith))
+  ]
+
+  pub raise-bits : {moved : List ℕ} → moved ≡ tabulate n (raised (k / 64) (wordOf x))
+      → tabulate n (λ w. pairFrom (64 - k % 64) (raised 1 (wordOf moved) w) (wordOf moved w)) ≡ packWords n (raised k (wordCoord x))
+  unfolding packWords
+  raise-bits {moved} e = tabulate-ext n _ _ (λ w h. ap₂ (pairFrom (64 - k % 64)) (first w h) (second w h) ∙ value-ext 64 _ _ (λ j l. ap (λ y. y % 2) (bits w j l)))
+    where
+      first : (w : ℕ) → w < n → raised 1 (wordOf moved) w ≡ raised (k / 64 + 1) (wordOf x) w
+      first w h = ap (λ s. raised 1 (wordOf s) w) e ∙ moves-up n x .twice (k / 64) 1 w h
+
+      second : (w : ℕ) → w < n → getD moved w 0 ≡ raised (k / 64) (wordOf x) w
+      second w h = ap (λ s. getD s w 0) e ∙ getD-tabulate n (raised (k / 64) (wordOf x)) w h
+
+      bits : (w j : ℕ) → j < 64 → wordCoord (raised (k / 64 + 1) (wordOf x) w ∷ raised (k / 64) (wordOf x) w ∷ []) (64 - k % 64 + j) ≡ raised k (wordCoord x) (w * 64 + j)
+      bits w j l = elim (decLt (64 - k % 64 + j) 64) [
+        | yes q ↦
+            pair-low _ _ (64 - k % 64 + j) q ∙ raised-digit (k / 64 + 1) w (64 - k % 64 + j) q
+            ∙ raised-same (wordCoord x) ((k / 64 + 1) * 64) (w * 64 + (64 - k % 64 + j)) k (w * 64 + j) (omega arith)
+        | no q ↦
+            pair-high _ _ (64 - k % 64 + j) (omega arith) (omega arith) ∙ raised-digit (k / 64) w (64 - k % 64 + j - 64) (omega arith)
+            ∙ raised-same (wordCoord x) (k / 64 * 64) (w * 64 + (64 - k % 64 + j - 64)) k (w * 64 + j) (omega arith)
+      ]
 
 parts : {s u v : ℕ} (x y : ℕ) {z : ℕ} → s ≡ (u + v) % 2 → u ≡ x % 2 → v ≡ y % 2 → x + y ≡ z → s % 2 ≡ z % 2
 parts x y p q r e = omega arith
 
-module _ (n m k : ℕ) (x : List ℕ) (size : length x ≡ n) (clear : (i : ℕ) → m ≤ i → wordCoord x i ≡ 0) (fits : m ≤ 64 * n) (less : k < m) where
-  -- of the two shifted operands, one has the coordinate that comes to place i and the other has 0 there
-  shifted : (i : ℕ) → i < m → wordCoord (padding n x) (64 * n - k + i) + wordCoord (padding n x) (64 * n + (m - k) + i) ≡ wordCoord x (minus m i k)
+module _ (n m k : ℕ) (x : List ℕ) (clear : (i : ℕ) → m ≤ i → wordCoord x i ≡ 0) (fits : m ≤ 64 * n) (less : k < m) where
+  -- of the two moved operands, one has the coordinate that comes to place i and the other has 0 there
+  shifted : (i : ℕ) → i < m → raised k (wordCoord x) i + wordCoord x (i + (m - k)) ≡ wordCoord x (minus m i k)
   shifted i l = elim (decLt i k) [
-    | yes h ↦
-        let e : 64 * n + (m - k) + i ≡ 64 * n + (i + (m - k)) = omega arith in
-        rw (padding-before n x (64 * n - k + i) (omega arith), e, padding-in n x (i + (m - k)) size, minus-round m i k h less) (omega arith)
-    | no h ↦
-        let d : 64 * n - k + i ≡ 64 * n + (i - k) = omega arith in
-        let e : 64 * n + (m - k) + i ≡ 64 * n + (m + (i - k)) = omega arith in
-        rw (d, padding-in n x (i - k) size, e, padding-in n x (m + (i - k)) size, clear (m + (i - k)) (omega arith), minus-below m i k (omega arith) l) (omega arith)
+    | yes h ↦ rw (raised-out k (wordCoord x) i h, minus-round m i k h less) (omega arith)
+    | no h ↦ rw (raised-in k (wordCoord x) i (omega arith), clear (i + (m - k)) (omega arith), minus-below m i k (omega arith) l) (omega arith)
   ]
 
-  -- the two shifts, added, with the coordinates below m kept
-  pub shifts-turn : {up round both : List ℕ} → up ≡ packWords n (λ i. wordCoord (padding n x) (64 * n - k + i)) → round ≡ packWords n (λ i. wordCoord (padding n x) (64 * n + (m - k) + i))
+  -- the two, added, with the coordinates below m kept
+  pub shifts-turn : {up round both : List ℕ} → up ≡ packWords n (raised k (wordCoord x)) → round ≡ packWords n (λ i. wordCoord x (i + (m - k)))
       → both ≡ packWords n (λ i. wordCoord up i + wordCoord round i) → packWords n (below m (wordCoord both)) ≡ packWords n (below m (λ i. wordCoord x (minus m i k)))
   shifts-turn {up} {round} {both} eu er eb =
       ap (λ s. packWords n (below m (wordCoord s))) eb

@@ -36,10 +36,10 @@ low-words n m x small = words-of n _ (below m (wordCoord x)) (λ w h. lt-of-le-o
 ])
 
 -- the coordinates of two words in a row
-pair-low : (low high i : ℕ) → i < 64 → wordCoord (low ∷ high ∷ []) i ≡ low / 2 ^ i % 2
+pub pair-low : (low high i : ℕ) → i < 64 → wordCoord (low ∷ high ∷ []) i ≡ low / 2 ^ i % 2
 pair-low low high i h = let e : i ≡ 0 * 64 + i = omega arith in ap (wordCoord (low ∷ high ∷ [])) e ∙ word-digit (low ∷ high ∷ []) 0 i h
 
-pair-high : (low high i : ℕ) → 64 ≤ i → i < 128 → wordCoord (low ∷ high ∷ []) i ≡ high / 2 ^ (i - 64) % 2
+pub pair-high : (low high i : ℕ) → 64 ≤ i → i < 128 → wordCoord (low ∷ high ∷ []) i ≡ high / 2 ^ (i - 64) % 2
 pair-high low high i h l = let e : i ≡ 1 * 64 + (i - 64) = omega arith in ap (wordCoord (low ∷ high ∷ [])) e ∙ word-digit (low ∷ high ∷ []) 1 (i - 64) (omega arith)
 
 -- a bit of x | y where y has 0

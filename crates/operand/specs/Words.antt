@@ -1,10 +1,11 @@
 -- A carried operand as words of 64 bits: the coordinates of its bytes, in larger digits.
 use mathlib.Core.Path.{_≡_}
 use mathlib.Core.List.{List}
-use Prim.Native.Nat.{ℕ, _+_, _*_, _/_, _%_, _^_, _<_}
+use Prim.Native.Nat.{ℕ, _+_, _-_, _*_, _/_, _%_, _^_, _<_}
+use lib.Dec.{leb}
 use lib.ListN.{length, getD}
 use Rattle.gf2.specs.Coordinates.{value, tabulate}
-use Rattle.gf2.specs.Operands.{carriedBytes}
+use Rattle.gf2.specs.Operands.{carriedBytes, choose}
 
 -- the words of `carriedBytes` bytes
 abbrev pub carriedWords : ℕ
@@ -17,6 +18,10 @@ wordCoord words i = getD words (i / 64) 0 / 2 ^ (i % 64) % 2
 -- the n words whose coordinates are f 0, f 1, .., each modulo 2
 unfoldable pub packWords : ℕ → (ℕ → ℕ) → List ℕ
 packWords n f = tabulate n (λ w. value 64 (λ j. f (w * 64 + j)))
+
+-- f moved n up: at i it is f (i - n), and 0 below n
+abbrev pub raised : ℕ → (ℕ → ℕ) → ℕ → ℕ
+raised n f i = choose (leb n i) (f (i - n)) 0
 
 -- the first t bytes of a word, in a list from place b on as far as that goes; what stands before them is as it was
 pub record Put (t word b : ℕ) (before after : List ℕ) : Type 0 where

@@ -1,51 +1,122 @@
-// The turn of a carried operand, by two shifts of whole words.
+// The turn of a carried operand: its coordinates moved up, and those that leave at the width moved to the front.
+// A move is one of whole words, by steps that the count's binary digits choose, and one of bits, over two words at a time.
 ghost use mathlib.Core.Path.{_≡_};
 ghost use mathlib.Core.Bool.{true};
-ghost use mathlib.Core.List.{[], _∷_, _++_};
-ghost use Prim.Native.Nat.{_+_, _-_, _*_, _/_, _%_, _^_, _<_, _≤_};
-ghost use lib.ListN.{replicate};
-ghost use Rattle.gf2.specs.Coordinates.{value};
-ghost use Rattle.gf2.specs.Operands.{maxWidth, isClear, turned};
-ghost use Rattle.operand.specs.Words.{carriedWords, wordCoord, packWords};
+ghost use Prim.Native.Nat.{_+_, _*_, _<_, _≤_};
+ghost use lib.ListN.{getD};
+ghost use Rattle.gf2.specs.Coordinates.{tabulate};
+ghost use Rattle.gf2.specs.Operands.{maxWidth, choose, isClear, turned};
+ghost use Rattle.operand.specs.Words.{carriedWords, wordCoord, packWords, raised};
 use crate::Operand;
 use crate::words;
 
-// An operand with as many zero words before it and after it: a shift either way reads inside it.
-const PADDED: usize = 3 * Operand::WORDS;
-
-fn padded(x: [u64; Operand::WORDS]) -> [u64; PADDED]
-    ensures { λ r. ⌜ r ≡ replicate carriedWords 0 ++ x ++ replicate carriedWords 0 ⌝ }
+// Word w, 0 past the last.
+fn word_at(x: [u64; Operand::WORDS], w: usize) -> u64
+    ensures { λ r. ⌜ r ≡ getD x w 0 ⌝ }
 {
-    let mut out = [0u64; PADDED];
+    if w < Operand::WORDS { x[w] } else { 0 }
+}
+
+// Word w of the words moved n up, 0 before the first.
+fn word_below(x: [u64; Operand::WORDS], w: usize, n: usize) -> u64
+    requires { ⌜ w < carriedWords ⌝ }
+    ensures { λ r. ⌜ r ≡ raised n (λ v. getD x v 0) w ⌝ }
+{
+    if n <= w { x[w - n] } else { 0 }
+}
+
+fn pick(c: bool, yes: u64, no: u64) -> u64
+    ensures { λ r. ⌜ r ≡ choose c yes no ⌝ }
+{
+    if c { yes } else { no }
+}
+
+// The words moved n down where c holds.
+fn lower_if(c: bool, x: [u64; Operand::WORDS], n: usize) -> [u64; Operand::WORDS]
+    requires { ⌜ n < carriedWords ⌝ }
+    ensures { λ r. ⌜ r ≡ tabulate carriedWords (λ w. choose c (getD x (w + n) 0) (getD x w 0)) ⌝ }
+{
+    let mut out = [0u64; Operand::WORDS];
     let mut w = 0;
     while w < Operand::WORDS {
-        out[Operand::WORDS + w] = x[w];
+        let word = x[w];
+        out[w] = pick(c, word_at(x, w + n), word);
         w += 1;
     }
     out
 }
 
-// The 64 coordinates that begin at bit `skip` of `low` and go on in `high`. A shift by 64 is made of two.
-fn straddle(low: u64, high: u64, skip: usize) -> u64
-    requires { ⌜ skip < 64 ⌝ }
-    ensures { λ r. ⌜ r ≡ value 64 (λ j. wordCoord (low ∷ high ∷ []) (skip + j)) ⌝ }
+// The words moved n up where c holds.
+fn raise_if(c: bool, x: [u64; Operand::WORDS], n: usize) -> [u64; Operand::WORDS]
+    ensures { λ r. ⌜ r ≡ tabulate carriedWords (λ w. choose c (raised n (λ v. getD x v 0) w) (getD x w 0)) ⌝ }
 {
-    (low >> skip) ^ ((high << 1) << (63 - skip))
-}
-
-// The coordinates from `at` on.
-fn window(x: [u64; PADDED], at: usize) -> [u64; Operand::WORDS]
-    requires { ⌜ at / 64 + carriedWords < 3 * carriedWords ⌝ }
-    ensures { λ r. ⌜ r ≡ packWords carriedWords (λ i. wordCoord x (at + i)) ⌝ }
-{
-    let skip = at % 64;
-    let first = at / 64;
     let mut out = [0u64; Operand::WORDS];
     let mut w = 0;
     while w < Operand::WORDS {
-        let low = x[first + w];
-        let high = x[first + w + 1];
-        out[w] = straddle(low, high, skip);
+        let word = x[w];
+        out[w] = pick(c, word_below(x, w, n), word);
+        w += 1;
+    }
+    out
+}
+
+// The words moved n down, by 1, 2, 4, .. where n has that binary digit.
+fn lower_words(x: [u64; Operand::WORDS], n: usize) -> [u64; Operand::WORDS]
+    requires { ⌜ n < carriedWords ⌝ }
+    ensures { λ r. ⌜ r ≡ tabulate carriedWords (λ w. getD x (w + n) 0) ⌝ }
+{
+    let mut out = x;
+    let mut step = 1;
+    while step < Operand::WORDS {
+        let next = lower_if(n / step % 2 == 1, out, step);
+        out = next;
+        step = 2 * step;
+    }
+    out
+}
+
+// The words moved n up, in the same steps.
+fn raise_words(x: [u64; Operand::WORDS], n: usize) -> [u64; Operand::WORDS]
+    requires { ⌜ n < carriedWords ⌝ }
+    ensures { λ r. ⌜ r ≡ tabulate carriedWords (raised n (λ v. getD x v 0)) ⌝ }
+{
+    let mut out = x;
+    let mut step = 1;
+    while step < Operand::WORDS {
+        let next = raise_if(n / step % 2 == 1, out, step);
+        out = next;
+        step = 2 * step;
+    }
+    out
+}
+
+// The coordinates moved k down.
+fn lower(x: [u64; Operand::WORDS], k: usize) -> [u64; Operand::WORDS]
+    requires { ⌜ k < 64 * carriedWords ⌝ }
+    ensures { λ r. ⌜ r ≡ packWords carriedWords (λ i. wordCoord x (i + k)) ⌝ }
+{
+    let moved = lower_words(x, k / 64);
+    let mut out = [0u64; Operand::WORDS];
+    let mut w = 0;
+    while w < Operand::WORDS {
+        let word = moved[w];
+        out[w] = words::lower_pair(word, word_at(moved, w + 1), k);
+        w += 1;
+    }
+    out
+}
+
+// The coordinates moved k up.
+fn raise(x: [u64; Operand::WORDS], k: usize) -> [u64; Operand::WORDS]
+    requires { ⌜ k < 64 * carriedWords ⌝ }
+    ensures { λ r. ⌜ r ≡ packWords carriedWords (raised k (wordCoord x)) ⌝ }
+{
+    let moved = raise_words(x, k / 64);
+    let mut out = [0u64; Operand::WORDS];
+    let mut w = 0;
+    while w < Operand::WORDS {
+        let word = moved[w];
+        out[w] = words::raise_pair(word_below(moved, w, 1), word, k);
         w += 1;
     }
     out
@@ -56,10 +127,10 @@ pub(crate) fn turned(x: [u8; Operand::BYTES], m: usize, k: usize) -> [u8; Operan
     requires { ⌜ (m ≤ maxWidth) × (k < m) × (isClear m x ≡ true) ⌝ }
     ensures { λ r. ⌜ r ≡ turned m k x ⌝ }
 {
-    let room = padded(words::to_words(x));
+    let all = words::to_words(x);
     let back = m - k;
-    let up = window(room, 64 * Operand::WORDS - k);
-    let round = window(room, 64 * Operand::WORDS + back);
+    let up = raise(all, k);
+    let round = lower(all, back);
     let both = words::xored_words(up, round);
     words::to_bytes(words::low_words(both, m))
 }

@@ -1,0 +1,72 @@
+-- `operand::turn::lower_if` meets its contract.
+use mathlib.Core.Path.{_∙_}
+use Prim.Native.Nat.{_-_}
+use native.Mathlib.Omega.{arith}
+use Rattle.gf2.specs.Operands.{choose}
+use Rattle.gf2.proofs.Loops.{Filled, filled-none, filled-more, filled-all}
+use Rattle.operand.specs.Words.{carriedWords}
+use Rattle.operand.proofs.TurnWords.{lowered, wordOf}
+use borrow.Author.Needs.{needs}
+use Rattle.operand.proofs.turn.lower_if.Statement.{statement}
+use Rattle.operand.proofs.turn.lower_if.Tie as tie
+
+abbrev Inv-loop : tie.InvT-loop
+Inv-loop c n x out₀ w₀ out w = Filled carriedWords (λ v. choose c (lowered n (wordOf x) v) (wordOf x v)) out₀ out w
+
+abbrev μ-loop : tie.MeasureT-loop
+μ-loop c n x out₀ w₀ out w = carriedWords - w
+
+loop-holds : tie.Need-loop-holds Inv-loop μ-loop
+loop-holds c = filled-none carriedWords _ _
+
+mul-word : tie.Need-mul-word Inv-loop μ-loop
+mul-word c = search needs
+
+array-read-word : tie.Need-array-read-word Inv-loop μ-loop
+array-read-word c = search needs
+
+add-word-at : tie.Need-add-word-at Inv-loop μ-loop
+add-word-at c = search needs
+
+word-at-requires : tie.Need-word-at-requires Inv-loop μ-loop
+word-at-requires c κs = search needs
+
+pick-requires : tie.Need-pick-requires Inv-loop μ-loop
+pick-requires c κs = search needs
+
+mul-out : tie.Need-mul-out Inv-loop μ-loop
+mul-out c = search needs
+
+array-write-out : tie.Need-array-write-out Inv-loop μ-loop
+array-write-out c = search needs
+
+add-w : tie.Need-add-w Inv-loop μ-loop
+add-w c = search needs
+
+loop-less : tie.Need-loop-less Inv-loop μ-loop
+loop-less c = search needs
+
+loop-again : tie.Need-loop-again Inv-loop μ-loop
+loop-again c = filled-more (c .before .before .before .loop .inv) (omega arith) (omega arith) (c .pick .ensures ∙ rw (c .before .word-at .ensures))
+
+returns : tie.Need-returns Inv-loop μ-loop
+returns c = filled-all (c .before .loop .inv) (omega arith) (omega arith)
+
+pub lower-if-spec : {M : Type 1} → statement M
+lower-if-spec =
+    tie.close
+    (tie.spec
+    Inv-loop
+    μ-loop
+    loop-holds
+    mul-word
+    array-read-word
+    add-word-at
+    word-at-requires
+    pick-requires
+    mul-out
+    array-write-out
+    add-w
+    loop-less
+    loop-again
+    returns)

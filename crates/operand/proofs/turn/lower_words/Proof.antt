@@ -1,0 +1,49 @@
+-- `operand::turn::lower_words` meets its contract.
+use Prim.Native.Nat.{_-_}
+use native.Mathlib.Omega.{arith}
+use Rattle.operand.specs.Words.{carriedWords}
+use Rattle.operand.proofs.TurnWords.{lowered, Moved, moves-down, moved-none, moved-more, moved-all}
+use borrow.Author.Needs.{needs}
+use Rattle.operand.proofs.turn.lower_words.Statement.{statement}
+use Rattle.operand.proofs.turn.lower_words.Tie as tie
+
+abbrev Inv-loop : tie.InvT-loop
+Inv-loop n out₀ step₀ out step = Moved carriedWords lowered out₀ n out step
+
+abbrev μ-loop : tie.MeasureT-loop
+μ-loop n out₀ step₀ out step = carriedWords - step
+
+loop-holds : tie.Need-loop-holds Inv-loop μ-loop
+loop-holds c = moved-none (moves-down carriedWords (c .args .x) (omega arith)) (c .args .n) (omega arith)
+
+div-lower-if : tie.Need-div-lower-if Inv-loop μ-loop
+div-lower-if c = search needs
+
+lower-if-requires : tie.Need-lower-if-requires Inv-loop μ-loop
+lower-if-requires c κs = search needs
+
+mul-step : tie.Need-mul-step Inv-loop μ-loop
+mul-step c = search needs
+
+loop-less : tie.Need-loop-less Inv-loop μ-loop
+loop-less c = search needs
+
+loop-again : tie.Need-loop-again Inv-loop μ-loop
+loop-again c = let s = c .before .before .before in moved-more (moves-down carriedWords (s .args .x) (omega arith)) (s .args .n) (c .before .before .loop .inv) (c .lower-if .ensures)
+
+returns : tie.Need-returns Inv-loop μ-loop
+returns c = let s = c .before .before in moved-all (moves-down carriedWords (s .args .x) (omega arith)) (s .args .n) (c .before .loop .inv) (omega arith) (omega arith)
+
+pub lower-words-spec : {M : Type 1} → statement M
+lower-words-spec =
+    tie.close
+    (tie.spec
+    Inv-loop
+    μ-loop
+    loop-holds
+    div-lower-if
+    lower-if-requires
+    mul-step
+    loop-less
+    loop-again
+    returns)

@@ -1,0 +1,71 @@
+-- `operand::turn::raise` meets its contract.
+use mathlib.Core.Path.{_∙_}
+use Prim.Native.Nat.{_-_, _%_}
+use native.Mathlib.Omega.{arith}
+use Rattle.gf2.proofs.Loops.{Filled, filled-none, filled-more, filled-all}
+use Rattle.operand.specs.Words.{carriedWords, raised}
+use Rattle.operand.proofs.TurnWords.{wordOf, pairFrom, raise-bits}
+use borrow.Author.Needs.{needs}
+use Rattle.operand.proofs.turn.raise.Statement.{statement}
+use Rattle.operand.proofs.turn.raise.Tie as tie
+
+abbrev Inv-loop : tie.InvT-loop
+Inv-loop k moved out₀ w₀ out w = Filled carriedWords (λ v. pairFrom (64 - k % 64) (raised 1 (wordOf moved) v) (wordOf moved v)) out₀ out w
+
+abbrev μ-loop : tie.MeasureT-loop
+μ-loop k moved out₀ w₀ out w = carriedWords - w
+
+raise-words-requires : tie.Need-raise-words-requires Inv-loop μ-loop
+raise-words-requires c κs = search needs
+
+loop-holds : tie.Need-loop-holds Inv-loop μ-loop
+loop-holds c = filled-none carriedWords _ _
+
+mul-word : tie.Need-mul-word Inv-loop μ-loop
+mul-word c = search needs
+
+array-read-word : tie.Need-array-read-word Inv-loop μ-loop
+array-read-word c = search needs
+
+word-below-requires : tie.Need-word-below-requires Inv-loop μ-loop
+word-below-requires c κs = search needs
+
+raise-pair-requires : tie.Need-raise-pair-requires Inv-loop μ-loop
+raise-pair-requires c κs = search needs
+
+mul-out : tie.Need-mul-out Inv-loop μ-loop
+mul-out c = search needs
+
+array-write-out : tie.Need-array-write-out Inv-loop μ-loop
+array-write-out c = search needs
+
+add-w : tie.Need-add-w Inv-loop μ-loop
+add-w c = search needs
+
+loop-less : tie.Need-loop-less Inv-loop μ-loop
+loop-less c = search needs
+
+loop-again : tie.Need-loop-again Inv-loop μ-loop
+loop-again c = filled-more (c .before .before .before .loop .inv) (omega arith) (omega arith) (c .raise-pair .ensures ∙ rw (c .before .word-below .ensures))
+
+returns : tie.Need-returns Inv-loop μ-loop
+returns c = let s = c .before .before .before in filled-all (c .before .loop .inv) (omega arith) (omega arith) ∙ raise-bits carriedWords (s .args .k) (s .args .x) (c .before .before .raise-words .ensures)
+
+pub raise-spec : {M : Type 1} → statement M
+raise-spec =
+    tie.close
+    (tie.spec
+    Inv-loop
+    μ-loop
+    raise-words-requires
+    loop-holds
+    mul-word
+    array-read-word
+    word-below-requires
+    raise-pair-requires
+    mul-out
+    array-write-out
+    add-w
+    loop-less
+    loop-again
+    returns)

@@ -1,0 +1,49 @@
+-- `operand::turn::raise_words` meets its contract.
+use Prim.Native.Nat.{_-_}
+use native.Mathlib.Omega.{arith}
+use Rattle.operand.specs.Words.{carriedWords, raised}
+use Rattle.operand.proofs.TurnWords.{Moved, moves-up, moved-none, moved-more, moved-all}
+use borrow.Author.Needs.{needs}
+use Rattle.operand.proofs.turn.raise_words.Statement.{statement}
+use Rattle.operand.proofs.turn.raise_words.Tie as tie
+
+abbrev Inv-loop : tie.InvT-loop
+Inv-loop n out₀ step₀ out step = Moved carriedWords raised out₀ n out step
+
+abbrev μ-loop : tie.MeasureT-loop
+μ-loop n out₀ step₀ out step = carriedWords - step
+
+loop-holds : tie.Need-loop-holds Inv-loop μ-loop
+loop-holds c = moved-none (moves-up carriedWords (c .args .x)) (c .args .n) (omega arith)
+
+div-raise-if : tie.Need-div-raise-if Inv-loop μ-loop
+div-raise-if c = search needs
+
+raise-if-requires : tie.Need-raise-if-requires Inv-loop μ-loop
+raise-if-requires c κs = search needs
+
+mul-step : tie.Need-mul-step Inv-loop μ-loop
+mul-step c = search needs
+
+loop-less : tie.Need-loop-less Inv-loop μ-loop
+loop-less c = search needs
+
+loop-again : tie.Need-loop-again Inv-loop μ-loop
+loop-again c = let s = c .before .before .before in moved-more (moves-up carriedWords (s .args .x)) (s .args .n) (c .before .before .loop .inv) (c .raise-if .ensures)
+
+returns : tie.Need-returns Inv-loop μ-loop
+returns c = let s = c .before .before in moved-all (moves-up carriedWords (s .args .x)) (s .args .n) (c .before .loop .inv) (omega arith) (omega arith)
+
+pub raise-words-spec : {M : Type 1} → statement M
+raise-words-spec =
+    tie.close
+    (tie.spec
+    Inv-loop
+    μ-loop
+    loop-holds
+    div-raise-if
+    raise-if-requires
+    mul-step
+    loop-less
+    loop-again
+    returns)
