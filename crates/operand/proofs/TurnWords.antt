@@ -19,10 +19,10 @@ use Rattle.operand.specs.Words.{carriedWords, wordCoord, packWords, rais
 use Rattle.operand.proofs.WordCoords.{word-digit, word-pack, words-ext, words-below, words-coord, bytes-words}
 use Rattle.operand.proofs.WordLoops.{pair-low, pair-high, window-words}
 
-raised-in : (n : ℕ) (f : ℕ → ℕ) (i : ℕ) → n ≤ i → raised n f i ≡ f (i - n)
+pub raised-in : (n : ℕ) (f : ℕ → ℕ) (i : ℕ) → n ≤ i → raised n f i ≡ f (i - n)
 raised-in n f i h = ap (λ t. choose t (f (i - n)) 0) (le-leb n i h)
 
-raised-out : (n : ℕ) (f : ℕ → ℕ) (i : ℕ) → i < n → raised n f i ≡ 0
+pub raised-out : (n : ℕ) (f : ℕ → ℕ) (i : ℕ) → i < n → raised n f i ≡ 0
 raised-out n f i h = ap (λ t. choose t (f (i - n)) 0) (lt-leb n i h)
 
 -- only the distance from the count to the place matters
@@ -134,26 +134,27 @@ module _ (n k : ℕ) (x : List ℕ) where
         ∙ sym (raised-in (m * 64) (wordCoord x) (w * 64 + j) (omega arith))
   ]
 
+  -- bit j of two words in a row, those k / 64 + 1 and k / 64 below word w
+  pub raised-coord : (w j : ℕ) → j < 64 → wordCoord (raised (k / 64 + 1) (wordOf x) w ∷ raised (k / 64) (wordOf x) w ∷ []) (64 - k % 64 + j) ≡ raised k (wordCoord x) (w * 64 + j)
+  raised-coord w j l = elim (decLt (64 - k % 64 + j) 64) [
+    | yes q ↦
+        pair-low _ _ (64 - k % 64 + j) q ∙ raised-digit (k / 64 + 1) w (64 - k % 64 + j) q
+        ∙ raised-same (wordCoord x) ((k / 64 + 1) * 64) (w * 64 + (64 - k % 64 + j)) k (w * 64 + j) (omega arith)
+    | no q ↦
+        pair-high _ _ (64 - k % 64 + j) (omega arith) (omega arith) ∙ raised-digit (k / 64) w (64 - k % 64 + j - 64) (omega arith)
+        ∙ raised-same (wordCoord x) (k / 64 * 64) (w * 64 + (64 - k % 64 + j - 64)) k (w * 64 + j) (omega arith)
+  ]
+
   pub raise-bits : {moved : List ℕ} → moved ≡ tabulate n (raised (k / 64) (wordOf x))
       → tabulate n (λ w. pairFrom (64 - k % 64) (raised 1 (wordOf moved) w) (wordOf moved w)) ≡ packWords n (raised k (wordCoord x))
   unfolding packWords
-  raise-bits {moved} e = tabulate-ext n _ _ (λ w h. ap₂ (pairFrom (64 - k % 64)) (first w h) (second w h) ∙ value-ext 64 _ _ (λ j l. ap (λ y. y % 2) (bits w j l)))
+  raise-bits {moved} e = tabulate-ext n _ _ (λ w h. ap₂ (pairFrom (64 - k % 64)) (first w h) (second w h) ∙ value-ext 64 _ _ (λ j l. ap (λ y. y % 2) (raised-coord w j l)))
     where
       first : (w : ℕ) → w < n → raised 1 (wordOf moved) w ≡ raised (k / 64 + 1) (wordOf x) w
       first w h = ap (λ s. raised 1 (wordOf s) w) e ∙ moves-up n x .twice (k / 64) 1 w h
 
       second : (w : ℕ) → w < n → getD moved w 0 ≡ raised (k / 64) (wordOf x) w
       second w h = ap (λ s. getD s w 0) e ∙ getD-tabulate n (raised (k / 64) (wordOf x)) w h
-
-      bits : (w j : ℕ) → j < 64 → wordCoord (raised (k / 64 + 1) (wordOf x) w ∷ raised (k / 64) (wordOf x) w ∷ []) (64 - k % 64 + j) ≡ raised k (wordCoord x) (w * 64 + j)
-      bits w j l = elim (decLt (64 - k % 64 + j) 64) [
-        | yes q ↦
-            pair-low _ _ (64 - k % 64 + j) q ∙ raised-digit (k / 64 + 1) w (64 - k % 64 + j) q
-            ∙ raised-same (wordCoord x) ((k / 64 + 1) * 64) (w * 64 + (64 - k % 64 + j)) k (w * 64 + j) (omega arith)
-        | no q ↦
-            pair-high _ _ (64 - k % 64 + j) (omega arith) (omega arith) ∙ raised-digit (k / 64) w (64 - k % 64 + j - 64) (omega arith)
-            ∙ raised-same (wordCoord x) (k / 64 * 64) (w * 64 + (64 - k % 64 + j - 64)) k (w * 64 + j) (omega arith)
-      ]
 
 parts : {s u v : ℕ} (x y : ℕ) {z : ℕ} → s ≡ (u + v) % 2 → u ≡ x % 2 → v ≡ y % 2 → x + y ≡ z → s % 2 ≡ z % 2
 parts x y p q r e = omega arith
