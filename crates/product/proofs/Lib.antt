@@ -4,6 +4,7 @@
 -- OnesLaws: the ones of words, and what they add at their places.
 -- SpreadLaws: coordinates moved up, and the sum of all places by Horner's rule.
 -- GatherLaws: the places gathered.
+-- KernelLaws: what rows add at the places of their ones.
 -- ScatterBytes: the rows spread by the places of their ones are the plain product of specs/.
 -- PlainWords: the plain product on words.
 -- ReducedWords: the reduced product by the places of the ones in half of the rows.
@@ -15,6 +16,7 @@ pub mod CellLaws
 pub mod OnesLaws
 pub mod SpreadLaws
 pub mod GatherLaws
+pub mod KernelLaws
 pub mod ScatterBytes
 pub mod PlainWords
 pub mod ReducedWords

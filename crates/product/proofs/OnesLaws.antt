@@ -16,8 +16,9 @@ use Rattle.gf2.specs.Operands.{carriedBytes, choose, below}
 use Rattle.gf2.proofs.Operands.{below-in, below-out}
 use Rattle.operand.specs.Words.{carriedWords, wordCoord, packWords}
 use Rattle.operand.proofs.WordCoords.{word-past, word-digit}
+use Rattle.operand.proofs.WordLoops.{Words}
 use Rattle.product.specs.Cells.{places, HasPlaces, cell, Added, bitFrom}
-use Rattle.product.proofs.CellLaws.{Words, word-more, added-none, added-more, added-same}
+use Rattle.product.proofs.CellLaws.{word-more, added-none, added-more, added-same}
 
 -- a number above 0 has its lowest one below its length
 pub trailing-lt : (k n : ℕ) → 0 < n → n < 2 ^ k → trailingZeros k n < k

@@ -4,11 +4,12 @@ ghost use Prim.Native.Nat.{ℕ, _+_, _*_, _<_, _≤_};
 ghost use lib.Dec.{eqb};
 ghost use Rattle.gf2.specs.Sums.{sum};
 ghost use Rattle.gf2.specs.Coordinates.{coord};
-ghost use Rattle.gf2.specs.Operands.{choose};
+ghost use Rattle.gf2.specs.Operands.{carriedBytes, maxWidth, minus, choose, fromCoords};
 ghost use Rattle.gf2.specs.Tables.{row};
-ghost use Rattle.operand.specs.Words.{carriedWords, wordCoord, packWords};
+ghost use Rattle.operand.specs.Words.{carriedWords, wordCoord, packWords, raised};
 ghost use Rattle.table.specs.Rows.{Shaped};
-ghost use Rattle.product.specs.Cells.{twiceWords, places, HasPlaces, Added, bitFrom, up, cellUp};
+ghost use Rattle.product.specs.Kernels.{carried};
+ghost use Rattle.product.specs.Cells.{twiceWords, places, HasPlaces, cell, cellRaised, Added, Within, IsWidth, bitFrom};
 use crate::words;
 use operand::Operand;
 
@@ -74,7 +75,7 @@ pub(crate) fn add_line(
 
 // The coordinates moved up by one place.
 fn doubled(x: [u64; words::TWICE]) -> [u64; words::TWICE]
-    ensures { λ r. ⌜ r ≡ packWords twiceWords (up 1 (wordCoord x)) ⌝ }
+    ensures { λ r. ⌜ r ≡ packWords twiceWords (raised 1 (wordCoord x)) ⌝ }
 {
     let mut out = [0u64; words::TWICE];
     let mut previous: u64 = 0;
@@ -91,7 +92,7 @@ fn doubled(x: [u64; words::TWICE]) -> [u64; words::TWICE]
 // x and the words at place s, from word q on.
 fn plus_at(x: [u64; words::TWICE], g: &[u64], s: usize, q: usize) -> [u64; words::TWICE]
     requires { ⌜ HasPlaces (now g) × (s < places) × (q < carriedWords) ⌝ }
-    ensures { λ r. ⌜ r ≡ packWords twiceWords (λ i. wordCoord x i + cellUp (now (g .entry)) s (q * 64) i) ⌝ }
+    ensures { λ r. ⌜ r ≡ packWords twiceWords (λ i. wordCoord x i + cellRaised (now (g .entry)) s (q * 64) i) ⌝ }
 {
     let from = s * Operand::WORDS;
     let mut out = x;
@@ -106,7 +107,7 @@ fn plus_at(x: [u64; words::TWICE], g: &[u64], s: usize, q: usize) -> [u64; words
 // x and the words at the places r, 64 + r, .., each from its own word on.
 fn plus_column(x: [u64; words::TWICE], g: &[u64], r: usize) -> [u64; words::TWICE]
     requires { ⌜ HasPlaces (now g) × (r < 64) ⌝ }
-    ensures { λ out. ⌜ out ≡ packWords twiceWords (λ i. wordCoord x i + sum carriedWords (λ q. cellUp (now (g .entry)) (q * 64 + r) (q * 64) i)) ⌝ }
+    ensures { λ out. ⌜ out ≡ packWords twiceWords (λ i. wordCoord x i + sum carriedWords (λ q. cellRaised (now (g .entry)) (q * 64 + r) (q * 64) i)) ⌝ }
 {
     let mut out = x;
     let mut q = 0;
@@ -121,7 +122,7 @@ fn plus_column(x: [u64; words::TWICE], g: &[u64], r: usize) -> [u64; words::TWIC
 // The sum of all places, place s moved up s, by Horner's rule over the bits of a word.
 fn spread(g: &[u64]) -> [u64; words::TWICE]
     requires { ⌜ HasPlaces (now g) ⌝ }
-    ensures { λ out. ⌜ out ≡ packWords twiceWords (λ i. sum places (λ s. cellUp (now (g .entry)) s s i)) ⌝ }
+    ensures { λ out. ⌜ out ≡ packWords twiceWords (λ i. sum places (λ s. cellRaised (now (g .entry)) s s i)) ⌝ }
 {
     let mut acc = [0u64; words::TWICE];
     let mut r = 64;
@@ -131,4 +132,27 @@ fn spread(g: &[u64]) -> [u64; words::TWICE]
         acc = next;
     }
     acc
+}
+
+// The operand of the coordinates below the width.
+fn below_width(x: [u64; Operand::WORDS], width: usize) -> Operand
+    requires { ⌜ width ≤ maxWidth ⌝ }
+    ensures { λ r. ⌜ r ≡ carried width (fromCoords carriedBytes width (wordCoord x)) ⌝ }
+{
+    Operand {
+        bytes: operand::to_bytes(operand::low_words(x, width)),
+        width: width as u16,
+    }
+}
+
+// The sum of all places, place s turned s: what stands below the width and what comes round are added as operands.
+pub(crate) fn gathered(width: usize, g: &[u64]) -> Operand
+    requires { ⌜ IsWidth width × HasPlaces (now g) × Within width (now g) ⌝ }
+    ensures { λ r. ⌜ r ≡ carried width (fromCoords carriedBytes width (λ i. sum width (λ s. cell (now (g .entry)) s (minus width i s)))) ⌝ }
+{
+    let all = spread(g);
+    let low = below_width(words::window(&all, 0), width);
+    let round = below_width(words::window(&all, width), width);
+    let sum = low.sum(round);
+    sum.value
 }

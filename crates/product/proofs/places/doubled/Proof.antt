@@ -7,14 +7,15 @@ use lib.Bits.{bitOr}
 use mir.Val.{Fits}
 use mir.Syntax.{w64}
 use Rattle.gf2.proofs.Loops.{Filled, filled-none, filled-more, filled-all}
-use Rattle.product.specs.Cells.{twiceWords, up}
+use Rattle.operand.specs.Words.{raised}
+use Rattle.product.specs.Cells.{twiceWords}
 use Rattle.product.proofs.SpreadLaws.{doubledWord, before-first, before-next, doubled-words}
 use borrow.Author.Needs.{needs}
 use Rattle.product.proofs.places.doubled.Statement.{statement}
 use Rattle.product.proofs.places.doubled.Tie as tie
 
 abbrev Inv-loop : tie.InvT-loop
-Inv-loop x out₀ previous₀ w₀ out previous w = (previous ≡ up 1 (λ n. getD x n 0) w) × Filled twiceWords (doubledWord x) out₀ out w
+Inv-loop x out₀ previous₀ w₀ out previous w = (previous ≡ raised 1 (λ n. getD x n 0) w) × Filled twiceWords (doubledWord x) out₀ out w
 
 abbrev μ-loop : tie.MeasureT-loop
 μ-loop x out₀ previous₀ w₀ out previous w = twiceWords - w
