@@ -13,7 +13,7 @@ use lib.Dec.{eqb}
 use lib.Bits.{bitAnd, and-lt, bitXor, xor-lt}
 use borrow.Author.Tests.{eq-eqb, ne-eqb}
 use Rattle.gf2.specs.Coordinates.{tabulate}
-use Rattle.gf2.specs.Operands.{carriedBytes, choose, below}
+use Rattle.gf2.specs.Operands.{choose, below}
 use Rattle.gf2.proofs.Coordinates.{digit-none, and-bit, xor-bit}
 use Rattle.gf2.proofs.Operands.{below-in, below-out}
 use Rattle.operand.specs.Words.{carriedWords, wordCoord, packWords}

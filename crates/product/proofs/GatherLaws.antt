@@ -16,7 +16,7 @@ use Rattle.gf2.proofs.Coordinates.{length-pack}
 use Rattle.gf2.proofs.Operands.{minus-below, minus-round, below-in, below-out, from-ext}
 use Rattle.operand.specs.declared.Operand.{Operand}
 use Rattle.operand.specs.declared.OperandAnswer.{OperandAnswer}
-use Rattle.operand.specs.Words.{carriedWords, wordCoord, packWords, raised}
+use Rattle.operand.specs.Words.{carriedWords, wordCoord, packWords}
 use Rattle.operand.specs.Calls.{sumCall}
 use Rattle.operand.proofs.WordCoords.{word-pack, words-same}
 use Rattle.operand.proofs.TurnWords.{raised-in, raised-out}

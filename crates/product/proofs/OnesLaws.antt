@@ -6,18 +6,17 @@ use native.Mathlib.Nat.{add-zero, add-mul, div-eq-of-lt, div-one, lt-of-lt-of-le
 use native.Mathlib.Decide.{decLt, ℕ-discrete}
 use native.Mathlib.Omega.{arith}
 use lib.ListN.{length, getD}
-use lib.Dec.{eqb, ltb, eqb·zero-suc, eqb·suc-zero, eqb·suc-suc}
+use lib.Dec.{eqb, eqb·zero-suc, eqb·suc-zero, eqb·suc-suc}
 use lib.Bits.{bitAnd, and-step, and-self, and-le-r}
 use lib.Pow.{pow-mono, shr-shr}
 use lib.Count.{trailingZeros, under}
 use borrow.Author.Tests.{eq-eqb, ne-eqb, lt-ltb, le-ltb}
-use Rattle.gf2.specs.Coordinates.{coord}
-use Rattle.gf2.specs.Operands.{carriedBytes, choose, below}
+use Rattle.gf2.specs.Operands.{choose, below}
 use Rattle.gf2.proofs.Operands.{below-in, below-out}
-use Rattle.operand.specs.Words.{carriedWords, wordCoord, packWords}
+use Rattle.operand.specs.Words.{carriedWords, wordCoord}
 use Rattle.operand.proofs.WordCoords.{word-past, word-digit}
 use Rattle.operand.proofs.WordLoops.{Words}
-use Rattle.product.specs.Cells.{places, HasPlaces, cell, Added, bitFrom}
+use Rattle.product.specs.Cells.{Added, bitFrom}
 use Rattle.product.proofs.CellLaws.{word-more, added-none, added-more, added-same}
 
 -- a number above 0 has its lowest one below its length

@@ -25,9 +25,9 @@ use Rattle.product.specs.Cells.{cell, Added}
 use Rattle.product.proofs.SoundOperands.{made}
 use Rattle.product.proofs.KernelLaws.{metBytes, rowsTo, rows-made}
 use Rattle.gf2.proofs.Monoid.{big, big-ext}
-use Rattle.gf2.proofs.Parity.{_⊕_, bits, xor-zero, odd, odd-zero, odd-add, odd-mul, odd-sum, odd-true, bit, bit-odd}
-use Rattle.gf2.proofs.Index.{Ix, at, o, _⊹_, _⊖_, num-at, at-num, at-add, at-mod, num-minus}
-use Rattle.gf2.proofs.IndexSums.{Σ, Σ-ext, odd-Σ}
+use Rattle.gf2.proofs.Parity.{_⊕_, bits, xor-zero, odd, odd-add, odd-mul, odd-sum, odd-true, bit, bit-odd}
+use Rattle.gf2.proofs.Index.{Ix, at, _⊹_, _⊖_, num-at, at-num, at-add, at-mod, num-minus}
+use Rattle.gf2.proofs.IndexSums.{Σ-ext, odd-Σ}
 use Rattle.gf2.proofs.Vector.{Vec, turn, add, lin}
 use Rattle.gf2.proofs.VectorProduct.{_·_ as mul, Symmetric as Symmetricᵛ}
 use Rattle.gf2.proofs.VectorForms.{apart, across, scatter, mul-halves}

@@ -3,7 +3,7 @@
 use mathlib.Core.Path.{_≡_, refl, sym, ap, ap₂, _∙_}
 use mathlib.Core.List.{List, [], _∷_}
 use Prim.Native.Nat.{ℕ, zero, suc, _+_, _-_, _*_, _/_, _%_, _^_, _<_, _≤_}
-use native.Mathlib.Nat.{add-zero, zero-add, zero-div, mod-eq-of-lt}
+use native.Mathlib.Nat.{add-zero, zero-add, mod-eq-of-lt}
 use native.Mathlib.Decide.{decLt, ℕ-discrete}
 use native.Mathlib.Numerals.{add-one}
 use native.Mathlib.Omega.{arith}
@@ -23,7 +23,7 @@ use Rattle.operand.specs.Words.{carriedWords, wordCoord, packWords, raised}
 use Rattle.operand.proofs.WordCoords.{word-lt, word-digit, word-pack, words-of, words-ext}
 use Rattle.operand.proofs.WordLoops.{Words, raise-pair}
 use Rattle.operand.proofs.TurnWords.{raised-in, raised-out, raised-coord}
-use Rattle.product.specs.Cells.{twiceWords, places, HasPlaces, cell, cellRaised}
+use Rattle.product.specs.Cells.{places, cell, cellRaised}
 use Rattle.product.proofs.CellLaws.{word-none, xored-words, cell-digit, set-coord, word-more}
 
 raised-ext : (k : ℕ) (f h : ℕ → ℕ) (i : ℕ) → (k ≤ i → f (i - k) ≡ h (i - k)) → raised k f i ≡ raised k h i

@@ -1,6 +1,6 @@
 // Places of words, at which what the ones of a row ask for is added up, and which are gathered in the end.
 ghost use mathlib.Core.Path.{_≡_};
-ghost use Prim.Native.Nat.{ℕ, _+_, _*_, _<_, _≤_};
+ghost use Prim.Native.Nat.{_+_, _*_, _<_, _≤_};
 ghost use lib.Dec.{eqb};
 ghost use Rattle.gf2.specs.Sums.{sum};
 ghost use Rattle.gf2.specs.Coordinates.{coord};

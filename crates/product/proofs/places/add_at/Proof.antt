@@ -1,11 +1,9 @@
 -- `product::places::add_at` meets its contract.
-use mathlib.Core.Path.{_≡_, refl, sym, ap, _∙_}
-use Prim.Native.Nat.{ℕ, _+_, _-_, _*_, _/_, _%_, _^_, _≤_}
+use mathlib.Core.Path.{_≡_, refl}
+use Prim.Native.Nat.{_-_, _≤_}
 use native.Mathlib.Omega.{arith}
-use lib.ListN.{length, getD}
-use mir.Val.{Fits}
-use mir.Syntax.{w64}
-use Rattle.operand.specs.Words.{carriedWords, wordCoord, packWords}
+use lib.ListN.{length}
+use Rattle.operand.specs.Words.{carriedWords}
 use Rattle.product.specs.Cells.{Added}
 use Rattle.product.proofs.CellLaws.{atPlace, place-none, place-more, place-all}
 use borrow.Author.Needs.{needs}

@@ -1,6 +1,6 @@
 -- `product::places::add_line` meets its contract.
-use mathlib.Core.Path.{_≡_, refl, ap, _∙_}
-use Prim.Native.Nat.{ℕ, _+_, _-_, _*_}
+use mathlib.Core.Path.{_≡_, _∙_}
+use Prim.Native.Nat.{_+_, _-_, _*_}
 use native.Mathlib.Omega.{arith}
 use Rattle.gf2.specs.Operands.{carriedBytes, bytesFor}
 use Rattle.gf2.specs.Tables.{row}
