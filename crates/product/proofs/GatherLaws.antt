@@ -6,28 +6,21 @@ use Prim.Native.Nat.{ℕ, _+_, _-_, _*_, _%_, _<_, _≤_}
 use native.Mathlib.Nat.{add-zero, zero-add, mod-lt, mod-mod}
 use native.Mathlib.Decide.{decLt}
 use native.Mathlib.Omega.{arith}
-use lib.ListN.{length}
 use Rattle.gf2.specs.Sums.{sum}
-use Rattle.gf2.specs.Coordinates.{coord, pack}
+use Rattle.gf2.specs.Coordinates.{coord}
 use Rattle.gf2.specs.Operands.{carriedBytes, minus, below}
-use Rattle.gf2.specs.Tables.{row}
 use Rattle.gf2.proofs.Sums.{sum-ext, sum-split, sum-swap, sum-mod}
-use Rattle.gf2.proofs.Coordinates.{length-pack}
 use Rattle.gf2.proofs.Operands.{minus-below, minus-round, below-in, below-out, from-ext}
 use Rattle.operand.specs.declared.Operand.{Operand}
 use Rattle.operand.specs.declared.OperandAnswer.{OperandAnswer}
 use Rattle.operand.specs.Words.{carriedWords, wordCoord, packWords}
 use Rattle.operand.specs.Calls.{sumCall}
-use Rattle.operand.proofs.WordCoords.{word-pack, words-same}
+use Rattle.operand.proofs.WordCoords.{word-pack}
 use Rattle.operand.proofs.TurnWords.{raised-in, raised-out}
-use Rattle.operand.proofs.CallLaws.{coord-carried}
-use Rattle.table.specs.Rows.{Shaped}
-use Rattle.table.proofs.Shapes.{row-short, sized}
 use Rattle.product.specs.Kernels.{carried}
-use Rattle.product.specs.Cells.{twiceWords, places, cell, cellRaised, Added, Within, IsWidth}
-use Rattle.product.proofs.SoundOperands.{made, sum-made}
-use Rattle.product.proofs.CellLaws.{added-same}
-use Rattle.product.proofs.SpreadLaws.{sum-none, sum-both}
+use Rattle.product.specs.Cells.{twiceWords, places, cell, cellRaised, Within, IsWidth}
+use Rattle.product.proofs.SoundOperands.{made, sum-parts, sum-made}
+use Rattle.product.proofs.MoveLaws.{sum-none, sum-both}
 
 -- place by place: of the two parts, one has the coordinate that comes to place i and the other has 0 there
 module _ (m : ℕ) (g : List ℕ) (fits : m ≤ places) (within : Within m g) where
@@ -77,7 +70,8 @@ pub gathered-made : {m : ℕ} {g : List ℕ} → IsWidth m → Within m g → {a
     → r ≡ sumCall low round → r .value ≡ made m (λ i. sum m (λ s. cell g s (minus m i s)))
 gathered-made {m} {g} width within {all} {l} {h} ea el eo eh er e =
     sum-made (width .0) (width .1) (wordCoord l) (wordCoord h) eo er e
-    ∙ ap (carried m) (from-ext carriedBytes m _ _ (λ i k. parts _ _ _ _ (from 0 i (omega arith) k el ∙ ap (λ n. spread n % 2) (zero-add i)) (from m i (omega arith) k eh) (all-turned m g (omega (arith, width .1)) within i k)))
+    ∙ ap (carried m) (from-ext carriedBytes m _ _ (λ i k. sum-parts _ _ (from 0 i (omega arith) k el ∙ ap (λ n. spread n % 2) (zero-add i)) (from m i (omega arith) k eh)
+    ∙ ap (λ y. y % 2) (all-turned m g (omega (arith, width .1)) within i k)))
   where
     spread : ℕ → ℕ
     spread i = sum places (λ s. cellRaised g s s i)
@@ -88,9 +82,6 @@ gathered-made {m} {g} width within {all} {l} {h} ea el eo eh er e =
         ap (λ z. wordCoord z i) p ∙ word-pack carriedWords (λ i. wordCoord all (n + i)) i (omega arith)
         ∙ ap (λ y. y % 2) (ap (λ z. wordCoord z (n + i)) ea ∙ word-pack twiceWords spread (n + i) (omega arith)) ∙ mod-mod (spread (n + i)) 2
 
-    parts : (a b c d : ℕ) → a ≡ c % 2 → b ≡ d % 2 → {z : ℕ} → c + d ≡ z → (a + b) % 2 ≡ z % 2
-    parts a b c d p q r = omega arith
-
 -- n rows that add e d at the places of their ones, gathered, are n rows that spread e d
 pub gathered-rows : (m n : ℕ) (line : ℕ → List ℕ) (e : ℕ → ℕ → ℕ) (g : List ℕ) → ((s i : ℕ) → i < m → cell g s i ≡ sum n (λ d. coord (line d) s * e d i) % 2)
     → (i : ℕ) → i < m → sum m (λ s. cell g s (minus m i s)) % 2 ≡ sum n (λ d. sum m (λ s. coord (line d) s * e d (minus m i s))) % 2
@@ -100,11 +91,3 @@ gathered-rows m n line e g h i l =
   where
     minus-lt : (i k : ℕ) → minus m i k < m
     minus-lt i k = unfold minus in mod-lt _ (omega arith)
-
--- a row of a table, carried and in words
-pub line-added : {m : ℕ} {t : List ℕ} → Shaped m t → (d : ℕ) → d < m → (e : List ℕ) {bytes line a b : List ℕ} → bytes ≡ pack carriedBytes (coord (row m t d)) → line ≡ packWords carriedWords (coord bytes)
-    → Added (λ s i. wordCoord line s * wordCoord e i) a b → Added (λ s i. coord (row m t d) s * wordCoord e i) a b
-line-added {m} {t} shaped d l e {bytes} {line} q r p = added-same _ _ p (λ s i h. ap (λ y. y * wordCoord e i % 2) (same s))
-  where
-    same : (s : ℕ) → wordCoord line s ≡ coord (row m t d) s
-    same s = ap (λ f. f s) (words-same bytes r (ap length q ∙ length-pack carriedBytes _)) ∙ ap (λ z. coord z s) q ∙ coord-carried carriedBytes (row m t d) (row-short m d t (sized shaped) l) s

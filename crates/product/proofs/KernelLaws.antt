@@ -1,4 +1,4 @@
--- What rows of a table add at the places of their ones: operands written twice, what a row meets, row after row.
+-- What rows of a table add at the places of their ones: a row in words, operands written twice, what a row meets, row after row.
 use mathlib.Core.Path.{_≡_, refl, sym, ap, ap₂, _∙_}
 use mathlib.Core.Bool.{Bool, true, false, not, true≢false}
 use mathlib.Core.List.{List}
@@ -7,26 +7,36 @@ use native.Mathlib.Nat.{add-zero, zero-mul, mul-zero, mod-eq-of-lt, add-mod-left
 use native.Mathlib.Numerals.{add-one}
 use native.Mathlib.Decide.{decLt}
 use native.Mathlib.Omega.{arith}
-use lib.ListN.{replicate}
+use lib.ListN.{length, replicate}
 use lib.Dec.{eqb}
 use Rattle.gf2.specs.Sums.{sum}
 use Rattle.gf2.specs.Coordinates.{coord, pack}
 use Rattle.gf2.specs.Operands.{carriedBytes, maxWidth, minus, choose, fromCoords}
 use Rattle.gf2.specs.Tables.{row}
 use Rattle.gf2.proofs.Sums.{sum-ext}
-use Rattle.gf2.proofs.Coordinates.{coord-lt, pack-ext}
+use Rattle.gf2.proofs.Coordinates.{coord-lt, length-pack, pack-ext}
 use Rattle.gf2.proofs.Operands.{below-in, below-out}
 use Rattle.operand.specs.declared.Operand.{Operand}
 use Rattle.operand.specs.Words.{carriedWords, wordCoord, packWords, raised}
 use Rattle.operand.proofs.WordCoords.{word-lt, word-pack, words-ext, words-same, bytes-words}
 use Rattle.operand.proofs.TurnWords.{raised-in, raised-out}
+use Rattle.operand.proofs.CallLaws.{coord-carried}
 use Rattle.table.specs.Rows.{Shaped}
+use Rattle.table.proofs.Shapes.{row-short, sized}
 use Rattle.product.specs.Kernels.{Sound, carried}
 use Rattle.product.specs.Cells.{twiceWords, places, cell, Added, Clear, Within, isOneWay, metWords}
-use Rattle.product.proofs.CellLaws.{word-none, added-none, added-more}
-use Rattle.product.proofs.SpreadLaws.{sum-none}
-use Rattle.product.proofs.SoundOperands.{made}
+use Rattle.product.proofs.CellLaws.{word-none, added-none, added-more, added-same}
+use Rattle.product.proofs.MoveLaws.{sum-none}
+use Rattle.product.proofs.SoundOperands.{made, sum-parts}
 use Rattle.product.proofs.GatherLaws.{gathered-rows}
+
+-- a row of a table, carried and in words
+pub line-added : {m : ℕ} {t : List ℕ} → Shaped m t → (d : ℕ) → d < m → (e : List ℕ) {bytes line a b : List ℕ} → bytes ≡ pack carriedBytes (coord (row m t d)) → line ≡ packWords carriedWords (coord bytes)
+    → Added (λ s i. wordCoord line s * wordCoord e i) a b → Added (λ s i. coord (row m t d) s * wordCoord e i) a b
+line-added {m} {t} shaped d l e {bytes} {line} q r p = added-same _ _ p (λ s i h. ap (λ y. y * wordCoord e i % 2) (same s))
+  where
+    same : (s : ℕ) → wordCoord line s ≡ coord (row m t d) s
+    same s = ap (λ f. f s) (words-same bytes r (ap length q ∙ length-pack carriedBytes _)) ∙ ap (λ z. coord z s) q ∙ coord-carried carriedBytes (row m t d) (row-short m d t (sized shaped) l) s
 
 -- x and the same again m places up
 abbrev pub Twice : ℕ → List ℕ → List ℕ → Type 0
@@ -68,10 +78,7 @@ met-once n c f g e = words-ext n f _ (λ i l. ap (λ k. k % 2) (sym (ap (λ b. f
 pub met-both : (n : ℕ) (c : Bool) (f g : ℕ → ℕ) {one other r : List ℕ} → c ≡ false → one ≡ packWords n f → other ≡ packWords n g
     → r ≡ packWords n (λ i. wordCoord one i + wordCoord other i) → r ≡ packWords n (λ i. f i + choose c 0 (g i))
 met-both n c f g {one} {other} h p q e = e ∙ words-ext n _ _ (λ i l.
-    both _ _ _ _ (ap (λ z. wordCoord z i) p ∙ word-pack n f i l) (ap (λ z. wordCoord z i) q ∙ word-pack n g i l) ∙ ap (λ b. (f i + choose b 0 (g i)) % 2) (sym h))
-  where
-    both : (a b c d : ℕ) → a ≡ c % 2 → b ≡ d % 2 → (a + b) % 2 ≡ (c + d) % 2
-    both a b c d h k = omega arith
+    sum-parts _ _ (ap (λ z. wordCoord z i) p ∙ word-pack n f i l) (ap (λ z. wordCoord z i) q ∙ word-pack n g i l) ∙ ap (λ b. (f i + choose b 0 (g i)) % 2) (sym h))
 
 bit-times : (c p z : ℕ) → c < 2 → (z + c * (p % 2)) % 2 ≡ (z + c * p) % 2
 bit-times zero p z h = omega arith

@@ -2,7 +2,8 @@
 -- SoundOperands: what the calls on operands answer where there is no fault.
 -- CellLaws: what the kernels on words make.
 -- OnesLaws: the ones of words, and what they add at their places.
--- SpreadLaws: coordinates moved up, and the sum of all places by Horner's rule.
+-- MoveLaws: coordinates moved up.
+-- SpreadLaws: the sum of all places, each moved up by its number.
 -- GatherLaws: the places gathered.
 -- KernelLaws: what rows add at the places of their ones.
 -- ScatterBytes: the rows spread by the places of their ones are the plain product of specs/.
@@ -14,6 +15,7 @@
 pub mod SoundOperands
 pub mod CellLaws
 pub mod OnesLaws
+pub mod MoveLaws
 pub mod SpreadLaws
 pub mod GatherLaws
 pub mod KernelLaws

@@ -41,6 +41,9 @@ module _ {m : ℕ} {a : Operand} (s : Sound m a) where
       turn-value k h e
       ∙ ap (λ n. carried m (fromCoords n m (λ i. coord (a .bytes) (minus m i k)))) (s .operand .size)
 
+pub sum-parts : {a b : ℕ} (c d : ℕ) → a ≡ c % 2 → b ≡ d % 2 → (a + b) % 2 ≡ (c + d) % 2
+sum-parts c d p q = omega arith
+
 -- operands that are made from coordinates: their sum, and the square of one
 module _ {m : ℕ} (least : 2 ≤ m) (greatest : m ≤ maxWidth) where
   width-of : IsWidth m
@@ -51,10 +54,7 @@ module _ {m : ℕ} (least : 2 ≤ m) (greatest : m ≤ maxWidth) where
   sum-made f h p q e =
       ap valueOf (e ∙ ap₂ sumCall p q ∙ sum-done width-of (from-operand carriedBytes m f) (from-operand carriedBytes m h))
       ∙ ap (carried m) (ap (λ n. fromCoords n m (λ i. coord (fromCoords carriedBytes m f) i + coord (fromCoords carriedBytes m h) i)) (length-from carriedBytes m f)
-      ∙ from-ext carriedBytes m _ _ (λ i l. parts _ _ _ _ (coord-from carriedBytes m f (fits m greatest) i l) (coord-from carriedBytes m h (fits m greatest) i l)))
-    where
-      parts : (a b c d : ℕ) → a ≡ c % 2 → b ≡ d % 2 → (a + b) % 2 ≡ (c + d) % 2
-      parts a b c d p q = omega arith
+      ∙ from-ext carriedBytes m _ _ (λ i l. sum-parts _ _ (coord-from carriedBytes m f (fits m greatest) i l) (coord-from carriedBytes m h (fits m greatest) i l)))
 
   pub square-made : (f : ℕ → ℕ) {a : Operand} {r : OperandAnswer} → a ≡ made m f → r ≡ squareCall a → r .value ≡ made m (λ i. f (minus m i 1))
   unfolding valueOf squared turned

@@ -6,7 +6,7 @@ use Rattle.gf2.specs.Operands.{carriedBytes, bytesFor}
 use Rattle.gf2.specs.Tables.{row}
 use Rattle.gf2.specs.Coordinates.{coord, pack}
 use Rattle.table.proofs.Shapes.{row-within}
-use Rattle.product.proofs.GatherLaws.{line-added}
+use Rattle.product.proofs.KernelLaws.{line-added}
 use borrow.Author.Needs.{needs}
 use Rattle.product.proofs.places.add_line.Statement.{statement}
 use Rattle.product.proofs.places.add_line.Tie as tie

@@ -9,7 +9,7 @@ use mir.Syntax.{w64}
 use Rattle.gf2.proofs.Loops.{Filled, filled-none, filled-more, filled-all}
 use Rattle.operand.specs.Words.{raised}
 use Rattle.product.specs.Cells.{twiceWords}
-use Rattle.product.proofs.SpreadLaws.{doubledWord, before-first, before-next, doubled-words}
+use Rattle.product.proofs.MoveLaws.{doubledWord, before-first, before-next, doubled-words}
 use borrow.Author.Needs.{needs}
 use Rattle.product.proofs.places.doubled.Statement.{statement}
 use Rattle.product.proofs.places.doubled.Tie as tie

@@ -11,7 +11,7 @@ use Rattle.gf2.specs.Coordinates.{value}
 use Rattle.gf2.proofs.Loops.{Filled, filled-none, filled-more, filled-all}
 use Rattle.operand.specs.Words.{wordCoord}
 use Rattle.product.specs.Cells.{twiceWords}
-use Rattle.product.proofs.SpreadLaws.{raisedWord, twice-words}
+use Rattle.product.proofs.MoveLaws.{raisedWord, twice-words}
 use borrow.Author.Needs.{needs}
 use Rattle.product.proofs.words.twice.Statement.{statement}
 use Rattle.product.proofs.words.twice.Tie as tie
