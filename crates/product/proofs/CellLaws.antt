@@ -1,29 +1,29 @@
 -- What the kernels on words make.
--- Word by word: products and sums of coordinates, the turn back by one place.
+-- Word by word: products and sums of coordinates.
 -- Places: words added at one place, one after another.
 use mathlib.Core.Path.{_≡_, refl, sym, ap, ap₂, _∙_}
 use mathlib.Core.List.{List}
 use Prim.Native.Nat.{ℕ, zero, suc, _+_, _-_, _*_, _/_, _%_, _^_, _<_, _≤_}
-use native.Mathlib.Nat.{add-zero, mul-mod-left, zero-div, zero-mul, mul-add, mod-eq-of-lt, mod-self, div-eq-of-lt, pow-suc, lt-of-lt-of-le}
+use native.Mathlib.Nat.{mul-add}
 use native.Mathlib.Decide.{decLt, ℕ-discrete}
 use native.Mathlib.Omega.{arith}
-use lib.ListN.{length, getD, set, length-set}
+use lib.ListN.{length, getD, set, length-set, replicate}
 use lib.Seq.{getD-set-same, getD-set-other}
-use lib.Dec.{eqb, ltb}
+use lib.Dec.{eqb}
 use lib.Bits.{bitAnd, and-lt, bitXor, xor-lt}
-use lib.Pow.{mod-pow-add, pow-lt, pow-mono, pow-add, shl-lt, shl-shr, shr-shr}
 use borrow.Author.Tests.{eq-eqb, ne-eqb}
-use Rattle.gf2.specs.Sums.{sum}
-use Rattle.gf2.specs.Coordinates.{value, tabulate}
-use Rattle.gf2.specs.Operands.{carriedBytes, maxWidth, choose, below}
-use Rattle.gf2.proofs.Coordinates.{value-bit, value-eq, value-split, and-bit, xor-bit}
+use Rattle.gf2.specs.Coordinates.{tabulate}
+use Rattle.gf2.specs.Operands.{choose, below}
+use Rattle.gf2.proofs.Coordinates.{digit-none, and-bit, xor-bit}
 use Rattle.gf2.proofs.Operands.{below-in, below-out}
 use Rattle.operand.specs.Words.{carriedWords, wordCoord, packWords}
-use Rattle.operand.proofs.WordCoords.{word-lt, word-past, word-digit, length-words, word-pack, words-of}
-use Rattle.product.specs.Cells.{places, HasPlaces, cell, Added, Clear, IsWidth, Back}
+use Rattle.operand.proofs.WordCoords.{word-lt, word-digit, words-of}
+use Rattle.operand.proofs.WordLoops.{Words}
+use Rattle.product.specs.Cells.{places, HasPlaces, cell, Added}
 
-abbrev pub Words : List ℕ → Type 0
-Words x = (k : ℕ) → getD x k 0 < 2 ^ 64
+pub word-none : (n i : ℕ) → wordCoord (replicate n 0) i ≡ 0
+unfolding wordCoord
+word-none n i = digit-none 64 (omega arith) n i
 
 pub bit-mul : (x y : ℕ) → x < 2 → y < 2 → x * y ≡ x * y % 2
 bit-mul zero y h l = omega arith
@@ -45,106 +45,8 @@ xored-words n u v b c su sv eb ec = words-of n _ (λ i. b i + c i) (λ w h. xor-
 pub cell-digit : (g : List ℕ) (s w j : ℕ) → j < 64 → getD g (s * carriedWords + w) 0 / 2 ^ j % 2 ≡ cell g s (w * 64 + j)
 cell-digit g s w j l = sym (word-digit g (s * carriedWords + w) j l) ∙ ap (wordCoord g) (omega arith)
 
--- word w of x moved down by one place
-down-bit : (x : List ℕ) → Words x → (w j : ℕ) → j < 64 → (getD x w 0 / 2 + getD x (w + 1) 0 % 2 * 2 ^ 63) / 2 ^ j % 2 ≡ wordCoord x (suc (w * 64 + j))
-down-bit x small w j l =
-    ap (λ y. y / 2 ^ j % 2) half ∙ ap (λ y. y % 2) (shr-shr (value 65 f) 1 j)
-    ∙ value-bit 65 f (1 + j) (omega arith) ∙ mod-eq-of-lt (word-lt x _) ∙ ap (wordCoord x) (omega arith)
-  where
-    f : ℕ → ℕ
-    f i = wordCoord x (w * 64 + i)
-
-    low : getD x w 0 ≡ value 64 f
-    low = value-eq 64 f (getD x w 0) (small w) (λ k h. sym (word-digit x w k h) ∙ sym (mod-eq-of-lt (word-lt x _)))
-
-    top : value 1 (λ k. f (64 + k)) ≡ getD x (w + 1) 0 % 2
-    top = unfold value sum in omega (arith, word-digit x (w + 1) 0 (omega arith), ap (wordCoord x) (next))
-      where
-        next : (w + 1) * 64 + 0 ≡ w * 64 + (64 + 0)
-        next = omega arith
-
-    half : getD x w 0 / 2 + getD x (w + 1) 0 % 2 * 2 ^ 63 ≡ value 65 f / 2
-    half = omega (arith, low, top, value-split 64 1 f)
-
-shl-top : (h : ℕ) → h * 2 ^ 63 % 2 ^ 64 ≡ h % 2 * 2 ^ 63
-shl-top h = mod-pow-add (h * 2 ^ 63) 1 63 ∙ ap₂ (λ a b. a % 2 * 2 ^ 63 + b) (shl-shr h 63) (mul-mod-left h (2 ^ 63)) ∙ add-zero _
-
-pub straddle-lt : (low high : ℕ) → low < 2 ^ 64 → low / 2 + high * 2 ^ 63 % 2 ^ 64 < 2 ^ 64
-straddle-lt low high h = rw (shl-top high) (omega arith)
-
-pub straddle-is : (low high : ℕ) → low / 2 + high * 2 ^ 63 % 2 ^ 64 ≡ low / 2 + high % 2 * 2 ^ 63
-straddle-is low high = ap (λ x. low / 2 + x) (shl-top high)
-
--- one bit alone
-one-bit : (t j : ℕ) → (t ≡ j → ⊥) → 2 ^ t / 2 ^ j % 2 ≡ 0
-one-bit t j n = elim (decLt t j) [
-  | yes h ↦ ap (λ y. y % 2) (div-eq-of-lt (pow-lt h))
-  | no h ↦ let e : t ≡ suc (t - suc j) + j = omega arith in
-      ap (λ k. 2 ^ k / 2 ^ j % 2) e ∙ ap (λ y. y / 2 ^ j % 2) (pow-add 2 (suc (t - suc j)) j) ∙ ap (λ y. y % 2) (shl-shr (2 ^ suc (t - suc j)) j)
-      ∙ omega (arith, pow-suc 2 (t - suc j))
-]
-
-abbrev pub placedWord : ℕ → ℕ → ℕ → ℕ
-placedWord bit k w = choose (eqb w (k / 64)) (bit * 2 ^ (k % 64)) 0
-
-placed-bit : (bit k w j : ℕ) → bit < 2 → j < 64 → placedWord bit k w / 2 ^ j % 2 ≡ choose (eqb (w * 64 + j) k) bit 0
-placed-bit bit k w j h l = elim (ℕ-discrete w (k / 64)) [
-  | yes e ↦ elim (ℕ-discrete (k % 64) j) [
-    | yes q ↦ rw (eq-eqb w (k / 64) e, eq-eqb (w * 64 + j) k (omega arith), q, shl-shr bit j) (omega arith)
-    | no q ↦ rw (eq-eqb w (k / 64) e, ne-eqb (w * 64 + j) k (λ z. q (omega arith))) (alone bit h q)
-  ]
-  | no n ↦ rw (ne-eqb w (k / 64) n, ne-eqb (w * 64 + j) k (λ z. n (omega arith)), zero-div)
-]
-  where
-    alone : (b : ℕ) → b < 2 → (k % 64 ≡ j → ⊥) → b * 2 ^ (k % 64) / 2 ^ j % 2 ≡ 0
-    alone zero g q = rw (zero-mul, zero-div)
-    alone (suc zero) g q = ap (λ y. y / 2 ^ j % 2) (omega arith) ∙ one-bit (k % 64) j q
-    alone (suc (suc b)) g q = absurd (omega arith)
-
-placed-lt : (bit k w : ℕ) → bit < 2 → placedWord bit k w < 2 ^ 64
-placed-lt bit k w h = elim (ℕ-discrete w (k / 64)) [
-  | yes e ↦ rw (eq-eqb w (k / 64) e) (lt-of-lt-of-le (shl-lt {a = bit} 1 (k % 64) h) (pow-mono {i = 1 + k % 64} {j = 64} (omega arith)))
-  | no n ↦ rw (ne-eqb w (k / 64) n) (omega arith)
-]
-
--- x moved down by one place, with its first coordinate at m - 1
-pub back-words : (m : ℕ) (x : List ℕ) → IsWidth m → Clear m x → Words x → {r : List ℕ}
-    → r ≡ tabulate carriedWords (λ w. bitXor (getD x w 0 / 2 + getD x (w + 1) 0 % 2 * 2 ^ 63) (placedWord (getD x 0 0 % 2) (m - 1) w)) → Back m 1 x r
-back-words m x width clear small {r} e = record { coords = inside; clear = outside }
-  where
-    first : getD x 0 0 % 2 ≡ wordCoord x 0
-    first = unfold wordCoord in omega arith
-
-    f : ℕ → ℕ
-    f i = wordCoord x (suc i) + choose (eqb i (m - 1)) (getD x 0 0 % 2) 0
-
-    packed : r ≡ packWords carriedWords f
-    packed = e ∙ xored-words carriedWords _ _ (λ i. wordCoord x (suc i)) (λ i. choose (eqb i (m - 1)) (getD x 0 0 % 2) 0)
-        (λ w h. omega (arith, small w)) (λ w h. placed-lt (getD x 0 0 % 2) (m - 1) w (omega arith)) (λ w j h l. down-bit x small w j l) (λ w j h l. placed-bit (getD x 0 0 % 2) (m - 1) w j (omega arith) l)
-
-    inside : (i : ℕ) → i < m → wordCoord r i ≡ wordCoord x ((i + 1) % m)
-    inside i l =
-        let big = width .1 in
-        let some = width .0 in
-        ap (λ z. wordCoord z i) packed ∙ word-pack carriedWords f i (omega arith) ∙ elim (ℕ-discrete i (m - 1)) [
-          | yes q ↦ let all : i + 1 ≡ m = omega arith in
-              rw (eq-eqb i (m - 1) q, all, mod-self) (omega (arith, first, clear (suc i) (omega arith), word-lt x 0))
-          | no q ↦ let in-it : (i + 1) % m ≡ i + 1 = mod-eq-of-lt (omega arith) in
-              rw (ne-eqb i (m - 1) q, in-it) (omega (arith, word-lt x (suc i), ap (wordCoord x) (one i)))
-        ]
-      where
-        one : (i : ℕ) → i + 1 ≡ suc i
-        one i = omega arith
-
-    outside : Clear m r
-    outside i h = elim (decLt i (64 * carriedWords)) [
-      | yes l ↦ let some = width .0 in
-          ap (λ z. wordCoord z i) packed ∙ word-pack carriedWords f i l ∙ rw (ne-eqb i (m - 1) (λ q. omega arith), clear (suc i) (omega arith))
-      | no l ↦ ap (λ z. wordCoord z i) packed ∙ word-past (packWords carriedWords f) i (omega (arith, length-words carriedWords f))
-    ]
-
 -- one word changed
-set-coord : (g : List ℕ) (p x k : ℕ) → p < length g →
+pub set-coord : (g : List ℕ) (p x k : ℕ) → p < length g →
     wordCoord (set g p (bitXor (getD g p 0) x)) k ≡ (wordCoord g k + choose (eqb (k / 64) p) (x / 2 ^ (k % 64) % 2) 0) % 2
 unfolding wordCoord
 set-coord g p x k h = elim (ℕ-discrete (k / 64) p) [

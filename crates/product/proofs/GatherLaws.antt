@@ -1,131 +1,93 @@
--- The places gathered: each step turns the sum back by one place and adds the next place's words.
+-- The places gathered: what stands below the width and what comes round, place by place and as operands.
 -- And the exchange of two sums: what all rows add at the places, gathered, is the sum of the rows spread.
-use mathlib.Core.Path.{_≡_, refl, sym, ap, ap₂, _∙_}
+use mathlib.Core.Path.{_≡_, sym, ap, ap₂, _∙_}
 use mathlib.Core.List.{List}
-use Prim.Native.Nat.{ℕ, zero, suc, _+_, _-_, _*_, _/_, _%_, _^_, _<_, _≤_}
-use native.Mathlib.Nat.{add-zero, zero-add, mod-eq-of-lt, mod-add-mod, mod-lt}
+use Prim.Native.Nat.{ℕ, _+_, _-_, _*_, _%_, _<_, _≤_}
+use native.Mathlib.Nat.{add-zero, zero-add, mod-lt, mod-mod}
 use native.Mathlib.Decide.{decLt}
 use native.Mathlib.Omega.{arith}
-use lib.ListN.{length, replicate}
 use Rattle.gf2.specs.Sums.{sum}
-use Rattle.gf2.specs.Coordinates.{coord, pack}
-use Rattle.gf2.specs.Operands.{carriedBytes, maxWidth, minus, below, fromCoords}
+use Rattle.gf2.specs.Coordinates.{coord}
+use Rattle.gf2.specs.Operands.{carriedBytes, minus, below}
 use Rattle.gf2.proofs.Sums.{sum-ext, sum-split, sum-swap, sum-mod}
-use Rattle.gf2.specs.Tables.{row}
-use Rattle.gf2.proofs.Coordinates.{digit-none, pack-ext, coord-lt, coord-past}
-use Rattle.table.specs.Rows.{Shaped}
-use Rattle.table.proofs.Shapes.{row-short, sized}
-use Rattle.product.proofs.CellLaws.{added-same}
-use Rattle.gf2.proofs.Operands.{minus-below, below-in, below-out}
+use Rattle.gf2.proofs.Operands.{minus-below, minus-round, below-in, below-out, from-ext}
+use Rattle.operand.specs.declared.Operand.{Operand}
+use Rattle.operand.specs.declared.OperandAnswer.{OperandAnswer}
 use Rattle.operand.specs.Words.{carriedWords, wordCoord, packWords}
-use Rattle.operand.proofs.WordCoords.{word-lt, word-past, length-words, word-pack}
-use Rattle.product.specs.Cells.{places, cell, Added, Clear, IsWidth, Back, gatheredTo, Gathered}
+use Rattle.operand.specs.Calls.{sumCall}
+use Rattle.operand.proofs.WordCoords.{word-pack}
+use Rattle.operand.proofs.TurnWords.{raised-in, raised-out}
+use Rattle.product.specs.Kernels.{carried}
+use Rattle.product.specs.Cells.{twiceWords, places, cell, cellRaised, Within, IsWidth}
+use Rattle.product.proofs.SoundOperands.{made, sum-parts, sum-made}
+use Rattle.product.proofs.MoveLaws.{sum-none, sum-both}
 
-pub word-none : (n i : ℕ) → wordCoord (replicate n 0) i ≡ 0
-unfolding wordCoord
-word-none n i = digit-none 64 (omega arith) n i
-
-sum-one : (f : ℕ → ℕ) → sum 1 f ≡ f 0
-unfolding sum
-sum-one f = zero-add (f 0)
-
-pub minus-is : (m i k : ℕ) → k < m → minus m i k ≡ (i + (m - k)) % m
-unfolding minus
-minus-is m i k h = ap (λ d. (i + (m - d)) % m) (mod-eq-of-lt h)
-
-gathered-is : (m : ℕ) (g : List ℕ) (k i : ℕ) → gatheredTo m g k i ≡ sum k (λ s. cell g (suc s) ((i + (k - suc s)) % m))
-unfolding gatheredTo
-gathered-is m g k i = refl
-
--- the words gathered so far
-pub record Sofar (m : ℕ) (g : List ℕ) (k : ℕ) (x : List ℕ) : Type 0 where
-  pub coords : (i : ℕ) → i < m → wordCoord x i ≡ gatheredTo m g k i % 2
-  pub clear : Clear m x
-
-pub sofar-none : (m : ℕ) (g : List ℕ) (n : ℕ) → Sofar m g 0 (replicate n 0)
-unfolding gatheredTo sum
-sofar-none m g n = record { coords = λ i l. word-none n i; clear = λ i h. word-none n i }
-
-module _ (m : ℕ) (width : IsWidth m) (g : List ℕ) (clear : (s i : ℕ) → m ≤ i → i < places → cell g s i ≡ 0)
-    (k s : ℕ) {x t r : List ℕ} (p : Sofar m g k x) (b : Back m 1 x t) (e : r ≡ packWords carriedWords (λ i. wordCoord t i + cell g s i)) where
-  next-coords : (i : ℕ) → i < m → wordCoord r i ≡ (gatheredTo m g k ((i + 1) % m) + cell g s i) % 2
-  next-coords i l =
-      let w = width .1 in
-      let some : 0 < m = omega (arith, width .0) in
-      ap (λ z. wordCoord z i) e ∙ word-pack carriedWords _ i (omega arith)
-      ∙ ap (λ y. (y + cell g s i) % 2) (b .coords i l ∙ p .coords ((i + 1) % m) (mod-lt (i + 1) some)) ∙ first _ _
-    where
-      first : (u v : ℕ) → (u % 2 + v) % 2 ≡ (u + v) % 2
-      first u v = omega arith
-
-  next-clear : Clear m r
-  next-clear i h = elim (decLt i (64 * carriedWords)) [
-    | yes l ↦ ap (λ z. wordCoord z i) e ∙ word-pack carriedWords _ i l ∙ rw (b .clear i h, clear s i h (omega arith))
-    | no l ↦ ap (λ z. wordCoord z i) e ∙ word-past _ i (omega (arith, length-words carriedWords (λ i. wordCoord t i + cell g s i)))
+-- place by place: of the two parts, one has the coordinate that comes to place i and the other has 0 there
+module _ (m : ℕ) (g : List ℕ) (fits : m ≤ places) (within : Within m g) where
+  none-above : (s n : ℕ) → m ≤ n → below places (cell g s) n ≡ 0
+  none-above s n h = elim (decLt n places) [
+    | yes l ↦ below-in places (cell g s) n l ∙ within .clear s n h l
+    | no l ↦ below-out places (cell g s) n (omega arith)
   ]
 
-  round : (i d e : ℕ) → suc d ≡ e → ((i + 1) % m + d) % m ≡ (i + e) % m
-  round i d e q = mod-add-mod (i + 1) m d ∙ ap (λ z. z % m) (omega arith)
+  none-at : (s : ℕ) → m ≤ s → (n : ℕ) → below places (cell g s) n ≡ 0
+  none-at s h n = elim (decLt n places) [
+    | yes l ↦ below-in places (cell g s) n l ∙ within .empty s n h l
+    | no l ↦ below-out places (cell g s) n (omega arith)
+  ]
 
-  pub sofar-more : s ≡ suc k → Sofar m g (suc k) r
-  sofar-more q = record { coords = λ i l. next-coords i l ∙ ap (λ y. y % 2) (sym (more i l)); clear = next-clear }
-    where
-      more : (i : ℕ) → i < m → gatheredTo m g (suc k) i ≡ gatheredTo m g k ((i + 1) % m) + cell g s i
-      more i l = unfold gatheredTo sum in
-          let none : suc k - suc k ≡ 0 = omega arith in
-          ap₂ _+_ (sum-ext k _ _ (λ j h. ap (cell g (suc j)) (sym (round i (k - suc j) (suc k - suc j) (omega arith)))))
-          (ap₂ (cell g) (sym q) (ap (λ d. (i + d) % m) none ∙ ap (λ d. d % m) (add-zero i) ∙ mod-eq-of-lt l))
+  none-raised : (s : ℕ) → m ≤ s → (i : ℕ) → cellRaised g s s i ≡ 0
+  none-raised s h i = elim (decLt i s) [
+    | yes l ↦ raised-out s (below places (cell g s)) i l
+    | no l ↦ raised-in s (below places (cell g s)) i (omega arith) ∙ none-at s h (i - s)
+  ]
 
-  pub gathered-all : s ≡ 0 → suc k ≡ m → Gathered m g r
-  gathered-all q h = record { coords = λ i l. next-coords i l ∙ ap (λ y. y % 2) (sym (all i l)); clear = next-clear }
-    where
-      all : (i : ℕ) → i < m → sum m (λ s. cell g s (minus m i s)) ≡ gatheredTo m g k ((i + 1) % m) + cell g s i
-      all i l =
-          let one : m ≡ 1 + k = omega arith in
-          ap (λ n. sum n (λ s. cell g s (minus m i s))) one ∙ sum-split 1 k (λ s. cell g s (minus m i s))
-          ∙ ap₂ _+_ first (sum-ext k _ _ (λ j h. ap (λ z. cell g z (minus m i z)) (up j) ∙ ap (cell g (suc j)) (rest j h)) ∙ sym (gathered-is m g k ((i + 1) % m)))
-          ∙ swap _ _
-        where
-          up : (j : ℕ) → 1 + j ≡ suc j
-          up j = omega arith
+  place-turned : (s i : ℕ) → s < m → i < m → cellRaised g s s i + cellRaised g s s (m + i) ≡ cell g s (minus m i s)
+  place-turned s i h l =
+      let up : cellRaised g s s (m + i) ≡ below places (cell g s) (m + i - s) = raised-in s (below places (cell g s)) (m + i) (omega arith) in
+      elim (decLt i s) [
+        | yes q ↦
+            let e : m + i - s ≡ i + (m - s) = omega arith in
+            ap₂ _+_ (raised-out s (below places (cell g s)) i q) (up ∙ below-in places (cell g s) (m + i - s) (omega arith)) ∙ zero-add _
+            ∙ ap (cell g s) (e ∙ sym (minus-round m i s q h))
+        | no q ↦
+            ap₂ _+_ (raised-in s (below places (cell g s)) i (omega arith) ∙ below-in places (cell g s) (i - s) (omega arith)) (up ∙ none-above s (m + i - s) (omega arith)) ∙ add-zero _
+            ∙ ap (cell g s) (sym (minus-below m i s (omega arith) l))
+      ]
 
-          swap : (a b : ℕ) → a + b ≡ b + a
-          swap a b = omega arith
+  all-turned : (i : ℕ) → i < m → sum places (λ s. cellRaised g s s i) + sum places (λ s. cellRaised g s s (m + i)) ≡ sum m (λ s. cell g s (minus m i s))
+  all-turned i l =
+      let e : places ≡ m + (places - m) = omega arith in
+      sym (sum-both places _ _) ∙ ap (λ n. sum n (λ s. cellRaised g s s i + cellRaised g s s (m + i))) e ∙ sum-split m (places - m) _
+      ∙ ap₂ _+_ (sum-ext m _ _ (λ s h. place-turned s i h l)) (sum-none (places - m) _ (λ s h. ap₂ _+_ (none-raised (m + s) (omega arith) i) (none-raised (m + s) (omega arith) (m + i))))
+      ∙ add-zero _
 
-          first : sum 1 (λ s. cell g s (minus m i s)) ≡ cell g s i
-          first = sum-one (λ s. cell g s (minus m i s)) ∙ ap (cell g 0) (minus-below m i 0 (omega arith) l ∙ omega arith) ∙ ap (λ z. cell g z i) (sym q)
+-- and as operands
+pub gathered-made : {m : ℕ} {g : List ℕ} → IsWidth m → Within m g → {all l h : List ℕ} {low round : Operand} {r : OperandAnswer}
+    → all ≡ packWords twiceWords (λ i. sum places (λ s. cellRaised g s s i))
+    → l ≡ packWords carriedWords (λ i. wordCoord all (0 + i)) → low ≡ made m (wordCoord l)
+    → h ≡ packWords carriedWords (λ i. wordCoord all (m + i)) → round ≡ made m (wordCoord h)
+    → r ≡ sumCall low round → r .value ≡ made m (λ i. sum m (λ s. cell g s (minus m i s)))
+gathered-made {m} {g} width within {all} {l} {h} ea el eo eh er e =
+    sum-made (width .0) (width .1) (wordCoord l) (wordCoord h) eo er e
+    ∙ ap (carried m) (from-ext carriedBytes m _ _ (λ i k. sum-parts _ _ (from 0 i (omega arith) k el ∙ ap (λ n. spread n % 2) (zero-add i)) (from m i (omega arith) k eh)
+    ∙ ap (λ y. y % 2) (all-turned m g (omega (arith, width .1)) within i k)))
+  where
+    spread : ℕ → ℕ
+    spread i = sum places (λ s. cellRaised g s s i)
 
-          rest : (j : ℕ) → j < k → minus m i (suc j) ≡ ((i + 1) % m + (k - suc j)) % m
-          rest j n = minus-is m i (suc j) (omega arith) ∙ sym (round i (k - suc j) (m - suc j) (omega arith))
+    from : (n i : ℕ) → n ≤ m → i < m → {x : List ℕ} → x ≡ packWords carriedWords (λ i. wordCoord all (n + i)) → wordCoord x i ≡ spread (n + i) % 2
+    from n i q k p =
+        let big = width .1 in
+        ap (λ z. wordCoord z i) p ∙ word-pack carriedWords (λ i. wordCoord all (n + i)) i (omega arith)
+        ∙ ap (λ y. y % 2) (ap (λ z. wordCoord z (n + i)) ea ∙ word-pack twiceWords spread (n + i) (omega arith)) ∙ mod-mod (spread (n + i)) 2
 
 -- n rows that add e d at the places of their ones, gathered, are n rows that spread e d
-pub gathered-rows : (m n : ℕ) (line : ℕ → List ℕ) (e : ℕ → ℕ → ℕ) {g r : List ℕ} → ((s i : ℕ) → i < m → cell g s i ≡ sum n (λ d. coord (line d) s * e d i) % 2)
-    → Gathered m g r → (i : ℕ) → i < m → wordCoord r i ≡ sum n (λ d. sum m (λ s. coord (line d) s * e d (minus m i s))) % 2
-gathered-rows m n line e h q i l =
-    q .coords i l ∙ ap (λ y. y % 2) (sum-ext m _ (λ s. sum n (λ d. coord (line d) s * e d (minus m i s)) % 2) (λ s k. h s (minus m i s) (minus-lt m i s (omega arith))))
+pub gathered-rows : (m n : ℕ) (line : ℕ → List ℕ) (e : ℕ → ℕ → ℕ) (g : List ℕ) → ((s i : ℕ) → i < m → cell g s i ≡ sum n (λ d. coord (line d) s * e d i) % 2)
+    → (i : ℕ) → i < m → sum m (λ s. cell g s (minus m i s)) % 2 ≡ sum n (λ d. sum m (λ s. coord (line d) s * e d (minus m i s))) % 2
+gathered-rows m n line e g h i l =
+    ap (λ y. y % 2) (sum-ext m _ (λ s. sum n (λ d. coord (line d) s * e d (minus m i s)) % 2) (λ s k. h s (minus m i s) (minus-lt i s)))
     ∙ sum-mod m (λ s. sum n (λ d. coord (line d) s * e d (minus m i s))) ∙ ap (λ y. y % 2) (sum-swap m n (λ s d. coord (line d) s * e d (minus m i s)))
   where
-    minus-lt : (m i k : ℕ) → 0 < m → minus m i k < m
-    minus-lt m i k h = unfold minus in mod-lt _ h
-
--- words as bytes
-pub bytes-made : (m : ℕ) (f : ℕ → ℕ) (r : List ℕ) → Clear m r → ((i : ℕ) → i < m → wordCoord r i ≡ f i % 2) → pack carriedBytes (wordCoord r) ≡ fromCoords carriedBytes m f
-unfolding fromCoords
-bytes-made m f r clear e = pack-ext carriedBytes (wordCoord r) (below m f) (λ i h. elim (decLt i m) [
-  | yes l ↦ rw (below-in m f i l, e i l) (twice (f i))
-  | no l ↦ rw (below-out m f i (omega arith), clear i (omega arith))
-])
-  where
-    twice : (x : ℕ) → x % 2 % 2 ≡ x % 2
-    twice x = omega arith
-
--- a row of a table in words
-pub line-added : {m : ℕ} {t : List ℕ} → Shaped m t → (d : ℕ) → d < m → (e : List ℕ) {line a b : List ℕ} → line ≡ packWords carriedWords (coord (row m t d))
-    → Added (λ s i. wordCoord line s * wordCoord e i) a b → Added (λ s i. coord (row m t d) s * wordCoord e i) a b
-line-added {m} {t} shaped d l e {line} q p = added-same _ _ p (λ s i h. ap (λ y. y * wordCoord e i % 2) (same s))
-  where
-    same : (s : ℕ) → wordCoord line s ≡ coord (row m t d) s
-    same s = ap (λ z. wordCoord z s) q ∙ elim (decLt s (64 * carriedWords)) [
-      | yes h ↦ word-pack carriedWords (coord (row m t d)) s h ∙ mod-eq-of-lt (coord-lt (row m t d) s)
-      | no h ↦ word-past _ s (omega (arith, length-words carriedWords (coord (row m t d)))) ∙ sym (coord-past (row m t d) s (omega (arith, row-short m d t (sized shaped) l)))
-    ]
+    minus-lt : (i k : ℕ) → minus m i k < m
+    minus-lt i k = unfold minus in mod-lt _ (omega arith)

@@ -2,7 +2,10 @@
 -- SoundOperands: what the calls on operands answer where there is no fault.
 -- CellLaws: what the kernels on words make.
 -- OnesLaws: the ones of words, and what they add at their places.
+-- MoveLaws: coordinates moved up.
+-- SpreadLaws: the sum of all places, each moved up by its number.
 -- GatherLaws: the places gathered.
+-- KernelLaws: what rows add at the places of their ones.
 -- ScatterBytes: the rows spread by the places of their ones are the plain product of specs/.
 -- PlainWords: the plain product on words.
 -- ReducedWords: the reduced product by the places of the ones in half of the rows.
@@ -12,7 +15,10 @@
 pub mod SoundOperands
 pub mod CellLaws
 pub mod OnesLaws
+pub mod MoveLaws
+pub mod SpreadLaws
 pub mod GatherLaws
+pub mod KernelLaws
 pub mod ScatterBytes
 pub mod PlainWords
 pub mod ReducedWords

@@ -1,116 +1,115 @@
--- The ones of a word, found by its trailing zeros, and of a row word by word; what they add at their places.
-use mathlib.Core.Path.{_≡_, refl, sym, ap, _∙_}
+-- The ones of a word, taken off from the lowest on, and of a row word by word; what they add at their places.
+use mathlib.Core.Path.{_≡_, refl, sym, ap, ap₂, _∙_}
 use mathlib.Core.List.{List}
-use Prim.Native.Nat.{ℕ, zero, suc, _+_, _-_, _*_, _/_, _%_, _^_, _<_, _≤_}
-use native.Mathlib.Nat.{add-mul, div-eq-of-lt, div-one, div-lt-iff-lt-mul, zero-lt-suc, lt-of-lt-of-le, lt-of-le-of-lt, pow-suc, zero-div}
+use Prim.Native.Nat.{ℕ, zero, suc, _+_, _-_, _*_, _/_, _%_, _^_, _<_, _≤_, min}
+use native.Mathlib.Nat.{add-zero, add-mul, div-eq-of-lt, div-one, lt-of-lt-of-le, min-zero, zero-min, pow-suc, zero-div}
 use native.Mathlib.Decide.{decLt, ℕ-discrete}
 use native.Mathlib.Omega.{arith}
 use lib.ListN.{length, getD}
-use lib.Dec.{eqb, ltb}
-use lib.Pow.{pow-mono, shr-shr, shr-le}
-use lib.Count.{trailingZeros, under, trailing-le}
+use lib.Dec.{eqb, eqb·zero-suc, eqb·suc-zero, eqb·suc-suc}
+use lib.Bits.{bitAnd, and-step, and-self, and-le-r}
+use lib.Pow.{pow-mono, shr-shr}
+use lib.Count.{trailingZeros, under}
 use borrow.Author.Tests.{eq-eqb, ne-eqb, lt-ltb, le-ltb}
-use Rattle.gf2.specs.Coordinates.{coord}
-use Rattle.gf2.specs.Operands.{carriedBytes, choose, below}
+use Rattle.gf2.specs.Operands.{choose, below}
 use Rattle.gf2.proofs.Operands.{below-in, below-out}
-use Rattle.operand.specs.Words.{carriedWords, wordCoord, packWords}
+use Rattle.operand.specs.Words.{carriedWords, wordCoord}
 use Rattle.operand.proofs.WordCoords.{word-past, word-digit}
-use Rattle.product.specs.Cells.{places, HasPlaces, cell, Added, bitFrom}
-use Rattle.product.proofs.CellLaws.{Words, word-more, added-none, added-more, added-same}
+use Rattle.operand.proofs.WordLoops.{Words}
+use Rattle.product.specs.Cells.{Added, bitFrom}
+use Rattle.product.proofs.CellLaws.{word-more, added-none, added-more, added-same}
 
-trailing-low : (k n j : ℕ) → j < trailingZeros k n → n / 2 ^ j % 2 ≡ 0
+-- a number above 0 has its lowest one below its length
+pub trailing-lt : (k n : ℕ) → 0 < n → n < 2 ^ k → trailingZeros k n < k
 unfolding trailingZeros
-trailing-low zero n j h = absurd (omega arith)
-trailing-low (suc k) n j h = go (λ i l. trailing-low k (n / 2) i l) (n % 2) refl j h
+trailing-lt zero n h l = absurd (omega arith)
+trailing-lt (suc k) n h l = go (λ p q. trailing-lt k (n / 2) p q) (n % 2) refl
   where
-    go : ((i : ℕ) → i < trailingZeros k (n / 2) → n / 2 / 2 ^ i % 2 ≡ 0) → (r : ℕ) → n % 2 ≡ r → (j : ℕ) → j < under r (trailingZeros k (n / 2)) → n / 2 ^ j % 2 ≡ 0
-    go rest zero e zero l = ap (λ y. y % 2) (div-one n) ∙ e
-    go rest zero e (suc j) l = let q : suc j ≡ 1 + j = omega arith in
-        ap (λ i. n / 2 ^ i % 2) q ∙ sym (ap (λ y. y % 2) (shr-shr n 1 j)) ∙ rest j (omega arith)
-    go rest (suc r) e j l = absurd (omega arith)
+    go : (0 < n / 2 → n / 2 < 2 ^ k → trailingZeros k (n / 2) < k) → (r : ℕ) → n % 2 ≡ r → under r (trailingZeros k (n / 2)) < suc k
+    go rest zero e = omega (arith, rest (omega arith) (omega (arith, pow-suc 2 k)))
+    go rest (suc r) e = omega arith
 
-trailing-one : (k n : ℕ) → 0 < n → n < 2 ^ k → n / 2 ^ trailingZeros k n % 2 ≡ 1
+half : (x j : ℕ) → x / 2 ^ suc j ≡ x / 2 / 2 ^ j
+half x j = let q : suc j ≡ 1 + j = omega arith in ap (λ i. x / 2 ^ i) q ∙ sym (shr-shr x 1 j)
+
+and-even : (n : ℕ) → 0 < n → n % 2 ≡ 0 → bitAnd n (n - 1) ≡ bitAnd (n / 2) (n / 2 - 1) * 2
+and-even n h e =
+    let d : (n - 1) / 2 ≡ n / 2 - 1 = omega arith in
+    and-step n (n - 1) ∙ ap₂ (λ a b. bitAnd (n / 2) a * 2 + b) d (ap (λ a. min a ((n - 1) % 2)) e ∙ zero-min ((n - 1) % 2)) ∙ add-zero _
+
+and-odd : (n : ℕ) → n % 2 ≡ 1 → bitAnd n (n - 1) ≡ n - 1
+and-odd n e =
+    let d : (n - 1) / 2 ≡ n / 2 = omega arith in
+    let z : (n - 1) % 2 ≡ 0 = omega arith in
+    and-step n (n - 1) ∙ ap₂ (λ a b. bitAnd (n / 2) a * 2 + b) d (ap (min (n % 2)) z ∙ min-zero (n % 2)) ∙ ap (λ a. a * 2 + 0) (and-self (n / 2)) ∙ omega arith
+
+-- n and n - 1 have the bits of n but the lowest one
+lowest-off : (k n : ℕ) → 0 < n → n < 2 ^ k → (j : ℕ) → bitAnd n (n - 1) / 2 ^ j % 2 + choose (eqb j (trailingZeros k n)) 1 0 ≡ n / 2 ^ j % 2
 unfolding trailingZeros
-trailing-one zero n h l = absurd (omega arith)
-trailing-one (suc k) n h l = go (λ p q. trailing-one k (n / 2) p q) (n % 2) refl
+lowest-off zero n h l j = absurd (omega arith)
+lowest-off (suc k) n h l j = go (λ p q i. lowest-off k (n / 2) p q i) (n % 2) refl j
   where
-    go : (0 < n / 2 → n / 2 < 2 ^ k → n / 2 / 2 ^ trailingZeros k (n / 2) % 2 ≡ 1) → (r : ℕ) → n % 2 ≡ r → n / 2 ^ under r (trailingZeros k (n / 2)) % 2 ≡ 1
-    go rest zero e = let t = trailingZeros k (n / 2) in let q : suc t ≡ 1 + t = omega arith in
-        ap (λ i. n / 2 ^ i % 2) q ∙ sym (ap (λ y. y % 2) (shr-shr n 1 t)) ∙ rest (omega arith) (omega (arith, pow-suc 2 k))
-    go rest (suc r) e = ap (λ y. y % 2) (div-one n) ∙ omega arith
+    go : (0 < n / 2 → n / 2 < 2 ^ k → (i : ℕ) → bitAnd (n / 2) (n / 2 - 1) / 2 ^ i % 2 + choose (eqb i (trailingZeros k (n / 2))) 1 0 ≡ n / 2 / 2 ^ i % 2)
+        → (r : ℕ) → n % 2 ≡ r → (j : ℕ) → bitAnd n (n - 1) / 2 ^ j % 2 + choose (eqb j (under r (trailingZeros k (n / 2)))) 1 0 ≡ n / 2 ^ j % 2
+    go rest zero e zero = rw (eqb·zero-suc (trailingZeros k (n / 2)), and-even n h e, div-one, div-one) (omega arith)
+    go rest zero e (suc j) =
+        let d : bitAnd (n / 2) (n / 2 - 1) * 2 / 2 ≡ bitAnd (n / 2) (n / 2 - 1) = omega arith in
+        rw (eqb·suc-suc j (trailingZeros k (n / 2)), half n j, half (bitAnd n (n - 1)) j, and-even n h e, d) (rest (omega arith) (omega (arith, pow-suc 2 k)) j)
+    go rest (suc r) e zero = rw (and-odd n (omega arith), div-one, div-one) (omega arith)
+    go rest (suc r) e (suc j) =
+        let d : (n - 1) / 2 ≡ n / 2 = omega arith in
+        rw (eqb·suc-zero j, half n j, half (bitAnd n (n - 1)) j, and-odd n (omega arith), d) (add-zero _)
 
-one-below : (n k j : ℕ) → n < 2 ^ k → n / 2 ^ j % 2 ≡ 1 → j < k
-one-below n k j h e = elim (decLt j k) [
-  | yes l ↦ l
-  | no l ↦ let z : n / 2 ^ j ≡ 0 = div-eq-of-lt (lt-of-lt-of-le h (pow-mono {i = k} {j = j} (omega arith))) in absurd (omega arith)
-]
+positive : (n : ℕ) → (n ≡ 0 → ⊥) → 0 < n
+positive zero n = absurd (n refl)
+positive (suc k) n = omega arith
 
--- what is left of a word whose bits stand for the places from `from` on, at place `at`
-module _ (word from at rest : ℕ) (small : word < 2 ^ 64) (h : from ≤ at) (e : rest ≡ word / 2 ^ (at - from)) where
-  bit-rest : (s : ℕ) → at ≤ s → bitFrom word from s ≡ rest / 2 ^ (s - at) % 2
+-- what is left of a word whose bits stand for the places from `from` on: each step takes off its lowest one
+module _ (word from rest : ℕ) (small : rest < 2 ^ 64) (some : rest ≡ 0 → ⊥) where
+  abbrev zeros : ℕ
+  zeros = trailingZeros 64 rest
+
+  pub ones-next : zeros < 64
+  ones-next = trailing-lt 64 rest (positive rest some) small
+
+  pub ones-less : bitAnd rest (rest - 1) < rest
+  ones-less = omega (arith, and-le-r rest (rest - 1), positive rest some)
+
+  ones-more : (s : ℕ) → bitFrom (bitAnd rest (rest - 1)) from s + choose (eqb s (from + zeros)) 1 0 ≡ bitFrom rest from s
   unfolding bitFrom
-  bit-rest s l =
-      let q : s - from ≡ at - from + (s - at) = omega arith in
-      rw (le-ltb s from (omega arith), q, e) (ap (λ y. y % 2) (sym (shr-shr word (at - from) (s - at))))
-
-  rest-lt : rest < 2 ^ 64
-  rest-lt = rw e (lt-of-le-of-lt (shr-le word (at - from)) small)
-
-  pub ones-all : rest ≡ 0 → (s : ℕ) → below at (bitFrom word from) s ≡ bitFrom word from s
-  ones-all z s = elim (decLt s at) [
-    | yes l ↦ below-in at (bitFrom word from) s l
-    | no l ↦ below-out at (bitFrom word from) s (omega arith) ∙ sym (bit-rest s (omega arith) ∙ rw (z, zero-div))
+  ones-more s = elim (decLt s from) [
+    | yes l ↦ rw (lt-ltb s from l, ne-eqb s (from + zeros) (λ z. omega arith))
+    | no l ↦ rw (le-ltb s from (omega arith), same l) (lowest-off 64 rest (positive rest some) small (s - from))
   ]
-
-  module _ (some : rest ≡ 0 → ⊥) where
-    abbrev zeros : ℕ
-    zeros = trailingZeros 64 rest
-
-    one : rest / 2 ^ zeros % 2 ≡ 1
-    one = trailing-one 64 rest (positive rest some) rest-lt
-      where
-        positive : (n : ℕ) → (n ≡ 0 → ⊥) → 0 < n
-        positive zero n = absurd (n refl)
-        positive (suc k) n = omega arith
-
-    pub ones-next : at + zeros < from + 64
-    ones-next = omega (
-      arith,
-      one-below word 64 (at - from + zeros) small
-          (sym (ap (λ y. y % 2) (ap (λ y. y / 2 ^ zeros) e ∙ shr-shr word (at - from) zeros)) ∙ one),
-    )
-
-    pub ones-rest : rest / 2 ^ zeros / 2 ^ 1 ≡ word / 2 ^ (at + zeros + 1 - from)
-    ones-rest =
-        let q : at - from + (zeros + 1) ≡ at + zeros + 1 - from = omega arith in
-        shr-shr rest zeros 1 ∙ ap (λ y. y / 2 ^ (zeros + 1)) e ∙ shr-shr word (at - from) (zeros + 1) ∙ ap (λ k. word / 2 ^ k) q
-
-    ones-more : (s : ℕ) → below at (bitFrom word from) s + choose (eqb s (at + zeros)) 1 0 ≡ below (at + zeros + 1) (bitFrom word from) s
-    ones-more s = elim (decLt s at) [
-      | yes l ↦ rw (below-in at (bitFrom word from) s l, below-in (at + zeros + 1) (bitFrom word from) s (omega arith), ne-eqb s (at + zeros) (λ z. omega arith)) (omega arith)
-      | no l ↦ elim (decLt s (at + zeros)) [
-        | yes g ↦ rw (below-out at (bitFrom word from) s (omega arith), below-in (at + zeros + 1) (bitFrom word from) s (omega arith), ne-eqb s (at + zeros) (λ z. omega arith))
-            (sym (bit-rest s (omega arith) ∙ trailing-low 64 rest (s - at) (omega arith)))
-        | no g ↦ elim (ℕ-discrete s (at + zeros)) [
-          | yes q ↦ let d : s - at ≡ zeros = omega arith in
-              rw (below-out at (bitFrom word from) s (omega arith), below-in (at + zeros + 1) (bitFrom word from) s (omega arith), eq-eqb s (at + zeros) q)
-              (sym (bit-rest s (omega arith) ∙ ap (λ k. rest / 2 ^ k % 2) d ∙ one))
-          | no q ↦ rw (below-out at (bitFrom word from) s (omega arith), below-out (at + zeros + 1) (bitFrom word from) s (omega arith), ne-eqb s (at + zeros) q)
-        ]
+    where
+      same : (s < from → ⊥) → eqb s (from + zeros) ≡ eqb (s - from) zeros
+      same l = elim (ℕ-discrete s (from + zeros)) [
+        | yes q ↦ eq-eqb s (from + zeros) q ∙ sym (eq-eqb (s - from) zeros (omega arith))
+        | no q ↦ ne-eqb s (from + zeros) q ∙ sym (ne-eqb (s - from) zeros (λ z. q (omega arith)))
       ]
-    ]
 
-    pub ones-added : (x : List ℕ) {a b c : List ℕ} → Added (λ s i. below at (bitFrom word from) s * wordCoord x i) a b
-        → Added (λ s i. choose (eqb s (at + zeros)) 1 0 * wordCoord x i) b c → Added (λ s i. below (at + zeros + 1) (bitFrom word from) s * wordCoord x i) a c
-    ones-added x p q = added-more _ _ _ p q (λ s i l. ap (λ y. y % 2) (sym (add-mul _ _ (wordCoord x i)) ∙ ap (λ y. y * wordCoord x i) (ones-more s)))
+  -- the ones that are taken off already: those of the word and those left, modulo 2
+  pub ones-added : (x : List ℕ) {a b c : List ℕ} → Added (λ s i. (bitFrom word from s + bitFrom rest from s) * wordCoord x i) a b
+      → Added (λ s i. choose (eqb s (from + zeros)) 1 0 * wordCoord x i) b c → Added (λ s i. (bitFrom word from s + bitFrom (bitAnd rest (rest - 1)) from s) * wordCoord x i) a c
+  ones-added x p q = added-more _ _ _ p q (λ s i l. ap (λ y. ((bitFrom word from s + y) * wordCoord x i + choose (eqb s (from + zeros)) 1 0 * wordCoord x i) % 2) (sym (ones-more s)) ∙ twice _ _ _ _)
+    where
+      twice : (w r z e : ℕ) → ((w + (r + z)) * e + z * e) % 2 ≡ (w + r) * e % 2
+      twice w r z e = omega (arith, add-mul w (r + z) e, add-mul r z e, add-mul w r e)
 
-pub ones-none : (word from : ℕ) (x g : List ℕ) → Added (λ s i. below from (bitFrom word from) s * wordCoord x i) g g
-ones-none word from x g = added-none _ g (λ s i. ap (λ y. y * wordCoord x i) (none s) ∙ omega arith)
+pub ones-none : (word from : ℕ) (x g : List ℕ) → Added (λ s i. (bitFrom word from s + bitFrom word from s) * wordCoord x i) g g
+ones-none word from x g = added-same (λ s i. 0) _ (added-none (λ s i. 0) g (λ s i. refl)) (λ s i l. even _ _)
   where
-    none : (s : ℕ) → below from (bitFrom word from) s ≡ 0
+    even : (b e : ℕ) → 0 % 2 ≡ (b + b) * e % 2
+    even b e = omega (arith, add-mul b b e)
+
+pub ones-all : (word from : ℕ) (x : List ℕ) {rest : ℕ} {a b : List ℕ} → rest ≡ 0 → Added (λ s i. (bitFrom word from s + bitFrom rest from s) * wordCoord x i) a b → Added (λ s i. bitFrom word from s * wordCoord x i) a b
+unfolding bitFrom
+ones-all word from x {rest} z p = added-same _ _ p (λ s i l. ap (λ y. y * wordCoord x i % 2) (ap (λ r. bitFrom word from s + bitFrom r from s) z ∙ ap (λ y. bitFrom word from s + y) (none s) ∙ add-zero _))
+  where
+    none : (s : ℕ) → bitFrom 0 from s ≡ 0
     none s = elim (decLt s from) [
-      | yes l ↦ below-in from (bitFrom word from) s l ∙ (unfold bitFrom in rw (lt-ltb s from l))
-      | no l ↦ below-out from (bitFrom word from) s (omega arith)
+      | yes l ↦ rw (lt-ltb s from l)
+      | no l ↦ rw (le-ltb s from (omega arith), zero-div)
     ]
 
 -- word after word of a row

@@ -1,14 +1,15 @@
 -- Operands without fault: what the calls answer for them.
-use mathlib.Core.Path.{_≡_, refl, ap, _∙_}
-use Prim.Native.Nat.{ℕ, _*_, _<_, _≤_}
+use mathlib.Core.Path.{_≡_, refl, ap, ap₂, _∙_}
+use Prim.Native.Nat.{ℕ, _+_, _*_, _%_, _<_, _≤_}
+use native.Mathlib.Nat.{mod-lt, mod-mod}
 use native.Mathlib.Omega.{arith}
 use Rattle.gf2.specs.Coordinates.{coord}
-use Rattle.gf2.specs.Operands.{carriedBytes, maxWidth, minus, fromCoords, turned}
-use Rattle.gf2.proofs.Operands.{from-operand}
+use Rattle.gf2.specs.Operands.{carriedBytes, maxWidth, minus, fromCoords, added, turned, squared}
+use Rattle.gf2.proofs.Operands.{from-operand, from-ext, coord-from, length-from}
 use Rattle.operand.specs.declared.Operand.{Operand}
 use Rattle.operand.specs.declared.OperandAnswer.{OperandAnswer}
-use Rattle.operand.specs.Calls.{turnCall}
-use Rattle.operand.proofs.FaultFree.{IsWidth, turn-done}
+use Rattle.operand.specs.Calls.{turnCall, squareCall, sumCall}
+use Rattle.operand.proofs.FaultFree.{IsWidth, turn-done, square-done, sum-done}
 use Rattle.product.specs.Kernels.{Sound, carried}
 
 -- the operand of width m with the coordinates f 0, .., f (m - 1), each modulo 2
@@ -26,19 +27,41 @@ module _ {m : ℕ} {a : Operand} (s : Sound m a) where
   pub is-carried : a ≡ carried m (a .bytes)
   is-carried = ap (λ w. carried w (a .bytes)) (s .width)
 
-  is-width : IsWidth m
-  is-width = record { least = s .least; greatest = s .greatest }
-
   -- an operand of the same width, made from coordinates
   pub made-sound : {r : Operand} (f : ℕ → ℕ) → r ≡ made m f → Sound m r
   made-sound f e = rw e (record { least = s .least; greatest = s .greatest; width = refl; operand = from-operand carriedBytes m f })
 
   pub turn-value : (k : ℕ) → k < m → {r : OperandAnswer} → r ≡ turnCall a k → r .value ≡ carried m (turned m k (a .bytes))
   unfolding valueOf
-  turn-value k h e = ap valueOf (e ∙ ap (λ x. turnCall x k) is-carried ∙ turn-done is-width (s .operand) k h)
+  turn-value k h e = ap valueOf (e ∙ ap (λ x. turnCall x k) is-carried ∙ turn-done (record { least = s .least; greatest = s .greatest }) (s .operand) k h)
 
   pub turn-made : (k : ℕ) → k < m → {r : OperandAnswer} → r ≡ turnCall a k → r .value ≡ made m (λ i. coord (a .bytes) (minus m i k))
   unfolding turned
   turn-made k h e =
       turn-value k h e
       ∙ ap (λ n. carried m (fromCoords n m (λ i. coord (a .bytes) (minus m i k)))) (s .operand .size)
+
+pub sum-parts : {a b : ℕ} (c d : ℕ) → a ≡ c % 2 → b ≡ d % 2 → (a + b) % 2 ≡ (c + d) % 2
+sum-parts c d p q = omega arith
+
+-- operands that are made from coordinates: their sum, and the square of one
+module _ {m : ℕ} (least : 2 ≤ m) (greatest : m ≤ maxWidth) where
+  width-of : IsWidth m
+  width-of = record { least = least; greatest = greatest }
+
+  pub sum-made : (f h : ℕ → ℕ) {a b : Operand} {r : OperandAnswer} → a ≡ made m f → b ≡ made m h → r ≡ sumCall a b → r .value ≡ made m (λ i. f i + h i)
+  unfolding valueOf added
+  sum-made f h p q e =
+      ap valueOf (e ∙ ap₂ sumCall p q ∙ sum-done width-of (from-operand carriedBytes m f) (from-operand carriedBytes m h))
+      ∙ ap (carried m) (ap (λ n. fromCoords n m (λ i. coord (fromCoords carriedBytes m f) i + coord (fromCoords carriedBytes m h) i)) (length-from carriedBytes m f)
+      ∙ from-ext carriedBytes m _ _ (λ i l. sum-parts _ _ (coord-from carriedBytes m f (fits m greatest) i l) (coord-from carriedBytes m h (fits m greatest) i l)))
+
+  pub square-made : (f : ℕ → ℕ) {a : Operand} {r : OperandAnswer} → a ≡ made m f → r ≡ squareCall a → r .value ≡ made m (λ i. f (minus m i 1))
+  unfolding valueOf squared turned
+  square-made f p e =
+      ap valueOf (e ∙ ap squareCall p ∙ square-done width-of (from-operand carriedBytes m f))
+      ∙ ap (carried m) (ap (λ n. fromCoords n m (λ i. coord (fromCoords carriedBytes m f) (minus m i 1))) (length-from carriedBytes m f)
+      ∙ from-ext carriedBytes m _ _ (λ i l. ap (λ y. y % 2) (coord-from carriedBytes m f (fits m greatest) (minus m i 1) (minus-lt i)) ∙ mod-mod _ 2))
+    where
+      minus-lt : (i : ℕ) → minus m i 1 < m
+      minus-lt i = unfold minus in mod-lt _ (omega arith)

@@ -8,6 +8,8 @@ use operand::OperandAnswer;
 
 mod chain;
 mod judge;
+mod kernel;
+mod places;
 mod plain;
 mod reduced;
 mod words;

@@ -1,19 +1,13 @@
-// Kernels in words of 64 bits: coordinates multiplied, a turn back by one place,
-// and places of words, at which what the ones of a row ask for is added up and which are gathered in the end.
+// Kernels in words of 64 bits: coordinates multiplied, an operand written twice, and the coordinates from a place on.
 ghost use mathlib.Core.Path.{_≡_};
-ghost use Prim.Native.Nat.{ℕ, _+_, _*_, _/_, _%_, _^_, _<_, _≤_};
-ghost use lib.ListN.{getD};
-ghost use lib.Dec.{eqb};
-ghost use Rattle.gf2.specs.Coordinates.{coord};
-ghost use Rattle.gf2.specs.Operands.{choose};
-ghost use Rattle.gf2.specs.Tables.{row};
-ghost use Rattle.operand.specs.Words.{carriedWords, wordCoord, packWords};
-ghost use Rattle.table.specs.Rows.{Shaped};
-ghost use Rattle.product.specs.Cells.{places, HasPlaces, cell, Added, Clear, IsWidth, Back, bitFrom, Gathered};
+ghost use Prim.Native.Nat.{_+_, _*_, _/_, _<_};
+ghost use lib.ListN.{length, getD};
+ghost use Rattle.operand.specs.Words.{carriedWords, wordCoord, packWords, raised};
+ghost use Rattle.product.specs.Cells.{twiceWords};
 use operand::Operand;
 
-// The words of a place for each coordinate.
-pub(crate) const ROOM: usize = 8 * Operand::BYTES * Operand::WORDS;
+// Room for an operand's words twice, and one more to read past a word's end.
+pub(crate) const TWICE: usize = 2 * Operand::WORDS + 1;
 
 // The products of the coordinates.
 pub(crate) fn masked(x: [u64; Operand::WORDS], y: [u64; Operand::WORDS]) -> [u64; Operand::WORDS]
@@ -35,124 +29,40 @@ fn word_at(x: [u64; Operand::WORDS], w: usize) -> u64
     if w < Operand::WORDS { x[w] } else { 0 }
 }
 
-// The word whose bits are those of `low` from its second on and the first of `high`.
-fn straddle(low: u64, high: u64) -> u64
-    ensures { λ r. ⌜ r ≡ low / 2 + high % 2 * 2 ^ 63 ⌝ }
+// Word w of x moved n words up, 0 outside x.
+fn word_below(x: [u64; Operand::WORDS], w: usize, n: usize) -> u64
+    ensures { λ r. ⌜ r ≡ raised n (λ v. getD x v 0) w ⌝ }
 {
-    (low >> 1) + (high << 63)
+    if n <= w { word_at(x, w - n) } else { 0 }
 }
 
-// Word w of the words whose only coordinate is k, if `bit` is 1.
-fn placed(bit: u64, w: usize, k: usize) -> u64
-    requires { ⌜ (bit < 2) × (w < carriedWords) ⌝ }
-    ensures { λ r. ⌜ r ≡ choose (eqb w (k / 64)) (bit * 2 ^ (k % 64)) 0 ⌝ }
+// The operand and the same again m places up: below 2m, coordinate i is that of i modulo m.
+pub(crate) fn twice(x: [u64; Operand::WORDS], m: usize) -> [u64; TWICE]
+    ensures { λ r. ⌜ r ≡ packWords twiceWords (λ i. wordCoord x i + raised m (wordCoord x) i) ⌝ }
 {
-    if w == k / 64 { bit << (k % 64) } else { 0 }
-}
-
-// Coordinate i becomes that of i + 1, and the first comes round to the end.
-pub(crate) fn back(x: [u64; Operand::WORDS], m: usize) -> [u64; Operand::WORDS]
-    requires { ⌜ IsWidth m × Clear m x ⌝ }
-    ensures { λ r. ⌜ Back m 1 x r ⌝ }
-{
-    let first = x[0] % 2;
-    let mut out = [0u64; Operand::WORDS];
+    let mut out = [0u64; TWICE];
     let mut w = 0;
-    while w < Operand::WORDS {
-        let low = x[w];
-        out[w] = straddle(low, word_at(x, w + 1)) ^ placed(first, w, m - 1);
+    while w < TWICE {
+        out[w] = word_at(x, w)
+            ^ operand::raise_pair(word_below(x, w, m / 64 + 1), word_below(x, w, m / 64), m);
         w += 1;
     }
     out
 }
 
-// e is added at place s.
-pub(crate) fn add_at(g: &mut [u64], s: usize, e: [u64; Operand::WORDS])
-    requires { ⌜ HasPlaces (now g) × (s < places) ⌝ }
-    ensures { λ _. ⌜ Added (λ t i. choose (eqb t s) 1 0 * wordCoord e i) (now (g .entry)) (now (g .exit)) ⌝ }
+// The coordinates from `at` on. A slice: an array handed by value would be copied at each call.
+pub(crate) fn window(x: &[u64], at: usize) -> [u64; Operand::WORDS]
+    requires { ⌜ at / 64 + carriedWords < length (now x) ⌝ }
+    ensures { λ r. ⌜ r ≡ packWords carriedWords (λ i. wordCoord (now (x .entry)) (at + i)) ⌝ }
 {
-    let from = s * Operand::WORDS;
-    let mut w = 0;
-    while w < Operand::WORDS {
-        g[from + w] = g[from + w] ^ e[w];
-        w += 1;
-    }
-}
-
-// e is added at the place of each one of a word, whose bits stand for the places from `from` on.
-fn add_word(g: &mut [u64], e: [u64; Operand::WORDS], word: u64, from: usize)
-    requires { ⌜ HasPlaces (now g) × (from + 64 ≤ places) ⌝ }
-    ensures { λ _. ⌜ Added (λ s i. bitFrom word from s * wordCoord e i) (now (g .entry)) (now (g .exit)) ⌝ }
-{
-    let mut rest = word;
-    let mut at = from;
-    while rest != 0 {
-        let zeros = u64::trailing_zeros(rest) as usize;
-        at += zeros;
-        add_at(g, at, e);
-        rest = (rest >> zeros) >> 1;
-        at += 1;
-    }
-}
-
-// e is added at the place of each one of a row.
-fn add_row(g: &mut [u64], e: [u64; Operand::WORDS], row: [u64; Operand::WORDS])
-    requires { ⌜ HasPlaces (now g) ⌝ }
-    ensures { λ _. ⌜ Added (λ s i. wordCoord row s * wordCoord e i) (now (g .entry)) (now (g .exit)) ⌝ }
-{
-    let mut w = 0;
-    while w < Operand::WORDS {
-        let word = row[w];
-        add_word(g, e, word, w * 64);
-        w += 1;
-    }
-}
-
-// The same with row d of a table.
-pub(crate) fn add_line(
-    width: usize,
-    table: &[u8],
-    d: usize,
-    e: [u64; Operand::WORDS],
-    g: &mut [u64],
-)
-    requires { ⌜ Shaped width (now table) × (d < width) × HasPlaces (now g) ⌝ }
-    ensures { λ _. ⌜ Added (λ s i. coord (row width (now (table .entry)) d) s * wordCoord e i) (now (g .entry)) (now (g .exit)) ⌝ }
-{
-    let size = operand::bytes_for(width);
-    let from = d * size;
-    let line = operand::slice_words(&table[from..from + size]);
-    add_row(g, e, line);
-}
-
-// x and the words at place s.
-fn plus_at(x: [u64; Operand::WORDS], g: &[u64], s: usize) -> [u64; Operand::WORDS]
-    requires { ⌜ HasPlaces (now g) × (s < places) ⌝ }
-    ensures { λ r. ⌜ r ≡ packWords carriedWords (λ i. wordCoord x i + cell (now (g .entry)) s i) ⌝ }
-{
-    let from = s * Operand::WORDS;
+    let first = at / 64;
     let mut out = [0u64; Operand::WORDS];
     let mut w = 0;
     while w < Operand::WORDS {
-        out[w] = x[w] ^ g[from + w];
+        let low = x[first + w];
+        let high = x[first + w + 1];
+        out[w] = operand::lower_pair(low, high, at);
         w += 1;
     }
     out
-}
-
-// The sum of all places, place s turned s: a turn by s is one back by m - s, so that the turns from one place to the next are all back by one.
-pub(crate) fn gathered(m: usize, g: &[u64]) -> [u64; Operand::WORDS]
-    requires { ⌜ IsWidth m × HasPlaces (now g) × ((s i : ℕ) → m ≤ i → i < places → cell (now g) s i ≡ 0) ⌝ }
-    ensures { λ r. ⌜ Gathered m (now (g .entry)) r ⌝ }
-{
-    let mut total = [0u64; Operand::WORDS];
-    let mut s = 1;
-    while s < m {
-        let turned = back(total, m);
-        let next = plus_at(turned, g, s);
-        total = next;
-        s += 1;
-    }
-    let turned = back(total, m);
-    plus_at(turned, g, 0)
 }

@@ -1,10 +1,12 @@
 -- `product::plain::times` meets its contract.
-use mathlib.Core.Path.{_≡_, refl, ap₂, _∙_}
+use mathlib.Core.Path.{refl, _∙_}
+use mathlib.Core.Bool.{false}
 use Prim.Native.Nat.{_*_}
+use native.Mathlib.Omega.{arith}
 use Rattle.operand.specs.Words.{carriedWords}
-use Rattle.product.specs.Kernels.{carried}
 use Rattle.product.specs.Cells.{places}
-use Rattle.product.proofs.PlainWords.{words-clear, rows-clear, times-made}
+use Rattle.product.proofs.KernelLaws.{words-clear, rows-within}
+use Rattle.product.proofs.PlainWords.{times-made}
 use borrow.Author.Needs.{needs}
 use Rattle.product.proofs.plain.times.Statement.{statement}
 use Rattle.product.proofs.plain.times.Tie as tie
@@ -21,7 +23,7 @@ slice-aggregate-add-rows c = search needs
 add-rows-requires : tie.Need-add-rows-requires
 add-rows-requires c κs =
     let s = c .before .before .before .before .before .before in
-    (s .pre .0, words-clear (s .pre .1) (c .before .before .to-words .ensures), words-clear (s .pre .2) (c .before .to-words2 .ensures), refl)
+    (s .pre .0, words-clear (s .pre .1) (c .before .before .to-words .ensures), words-clear (s .pre .2) (c .before .to-words2 .ensures), omega arith, refl)
 
 slice-aggregate-gathered : tie.Need-slice-aggregate-gathered
 slice-aggregate-gathered c = search needs
@@ -29,17 +31,16 @@ slice-aggregate-gathered c = search needs
 gathered-requires : tie.Need-gathered-requires
 gathered-requires c κs =
     let s = c .before .before .before .before .before .before .before .before .before in
-    let rows = c .before .before .add-rows .ensures in
-    ((s .pre .0 .least, s .pre .0 .greatest), rows .size, rows-clear (s .args .width) (s .args .table .now) _ _ (places * carriedWords) (words-clear (s .pre .1) (c .before .before .before .before .before .to-words .ensures)) rows)
-
-to-bytes-requires : tie.Need-to-bytes-requires
-to-bytes-requires c κs = search needs
+    let rows = c .before .before .add-rows .ensures in (
+      (s .pre .0 .least, s .pre .0 .greatest),
+      rows .size,
+      rows-within false (s .args .width) (s .args .table .now) _ _ 0 (s .args .width) (places * carriedWords) rows (s .pre .0) (words-clear (s .pre .1) (c .before .before .before .before .before .to-words .ensures)) (words-clear (s .pre .2) (c .before .before .before .before .to-words2 .ensures)) (omega arith),
+    )
 
 returns : tie.Need-returns
 returns c =
-    let s = c .before .before .before .before .before .before .before .before .before .before .before in
-    ap₂ carried (s .pre .1 .width) (c .to-bytes .ensures
-    ∙ times-made (places * carriedWords) (s .pre .0) (s .pre .1) (s .pre .2) (c .before .before .before .before .before .before .before .to-words .ensures) (c .before .before .before .before .before .before .to-words2 .ensures) (c .before .before .before .before .add-rows .ensures) (c .before .gathered .ensures))
+    let s = c .before .before .before .before .before .before .before .before .before .before in
+    c .gathered .ensures ∙ times-made (places * carriedWords) (s .pre .0) (s .pre .1) (s .pre .2) (c .before .before .before .before .before .before .to-words .ensures) (c .before .before .before .before .before .to-words2 .ensures) (c .before .before .before .add-rows .ensures)
 
 pub times-spec : {M : Type 1} → statement M
 times-spec =
@@ -51,5 +52,4 @@ times-spec =
     add-rows-requires
     slice-aggregate-gathered
     gathered-requires
-    to-bytes-requires
     returns)

@@ -1,11 +1,13 @@
 -- `product::reduced::times_reduced` meets its contract.
-use mathlib.Core.Path.{_≡_, ap₂, _∙_}
-use Prim.Native.Nat.{_*_}
+use mathlib.Core.Path.{refl, _∙_}
+use mathlib.Core.Bool.{true}
+use Prim.Native.Nat.{_*_, _/_}
+use native.Mathlib.Omega.{arith}
 use Rattle.operand.specs.Words.{carriedWords}
-use Rattle.product.specs.Kernels.{carried}
 use Rattle.product.specs.Cells.{places}
-use Rattle.product.proofs.PlainWords.{words-clear}
-use Rattle.product.proofs.ReducedWords.{halved-size, halved-clear, halved-made}
+use Rattle.product.proofs.SoundOperands.{sum-made, square-made}
+use Rattle.product.proofs.KernelLaws.{words-clear, rows-within, products-made}
+use Rattle.product.proofs.ReducedWords.{halves-made}
 use borrow.Author.Needs.{needs}
 use Rattle.product.proofs.reduced.times_reduced.Statement.{statement}
 use Rattle.product.proofs.reduced.times_reduced.Tie as tie
@@ -16,42 +18,49 @@ to-words-requires c κs = search needs
 to-words-requires-2 : tie.Need-to-words-requires-2
 to-words-requires-2 c κs = search needs
 
-slice-aggregate-add-at : tie.Need-slice-aggregate-add-at
-slice-aggregate-add-at c = search needs
+slice-aggregate-add-rows : tie.Need-slice-aggregate-add-rows
+slice-aggregate-add-rows c = search needs
+
+add-rows-requires : tie.Need-add-rows-requires
+add-rows-requires c κs =
+    let s = c .before .before .before .before .before .before in
+    let two = s .pre .0 .least in
+    (s .pre .0, words-clear (s .pre .2) (c .before .before .to-words .ensures), words-clear (s .pre .3) (c .before .to-words2 .ensures), omega arith, refl)
 
 masked-requires : tie.Need-masked-requires
 masked-requires c κs = search needs
 
-add-at-requires : tie.Need-add-at-requires
-add-at-requires c κs = search needs
+to-bytes-requires : tie.Need-to-bytes-requires
+to-bytes-requires c κs = search needs
 
-slice-aggregate-add-halves : tie.Need-slice-aggregate-add-halves
-slice-aggregate-add-halves c = search needs
-
-add-halves-requires : tie.Need-add-halves-requires
-add-halves-requires c κs =
-    let s = c .before .before .before .before .before .before .before .before .before .before in
-    (s .pre .0, words-clear (s .pre .2) (c .before .before .before .before .before .before .to-words .ensures), words-clear (s .pre .3) (c .before .before .before .before .before .to-words2 .ensures), c .before .before .add-at .ensures .size)
+square-requires : tie.Need-square-requires
+square-requires c κs = search needs
 
 slice-aggregate-gathered : tie.Need-slice-aggregate-gathered
 slice-aggregate-gathered c = search needs
 
 gathered-requires : tie.Need-gathered-requires
 gathered-requires c κs =
-    let s = c .before .before .before .before .before .before .before .before .before .before .before .before .before in (
-      (s .pre .0 .least, s .pre .0 .greatest),
-      halved-size (places * carriedWords) (s .pre .0) (s .pre .2) (s .pre .3) (c .before .before .before .before .before .before .before .before .before .to-words .ensures) (c .before .before .before .before .before .before .before .before .to-words2 .ensures) (c .before .before .before .before .before .before .masked .ensures) (c .before .before .before .before .before .add-at .ensures) (c .before .before .add-halves .ensures),
-      halved-clear (places * carriedWords) (s .pre .0) (s .pre .2) (s .pre .3) (c .before .before .before .before .before .before .before .before .before .to-words .ensures) (c .before .before .before .before .before .before .before .before .to-words2 .ensures) (c .before .before .before .before .before .before .masked .ensures) (c .before .before .before .before .before .add-at .ensures) (c .before .before .add-halves .ensures),
+    let s = c .before .before .before .before .before .before .before .before .before .before .before .before in
+    let two = s .pre .0 .least in
+    let rows = c .before .before .before .before .before .add-rows .ensures in (
+      (two, s .pre .0 .greatest),
+      rows .size,
+      rows-within true (s .args .width) (s .args .table .now) _ _ 1 (s .args .width / 2) (places * carriedWords) rows (s .pre .0) (words-clear (s .pre .2) (c .before .before .before .before .before .before .before .before .to-words .ensures)) (words-clear (s .pre .3) (c .before .before .before .before .before .before .before .to-words2 .ensures)) (omega arith),
     )
 
-to-bytes-requires : tie.Need-to-bytes-requires
-to-bytes-requires c κs = search needs
+sum-requires : tie.Need-sum-requires
+sum-requires c κs = search needs
 
 returns : tie.Need-returns
 returns c =
     let s = c .before .before .before .before .before .before .before .before .before .before .before .before .before .before .before in
-    ap₂ carried (s .pre .2 .width) (c .to-bytes .ensures
-    ∙ halved-made (places * carriedWords) (s .pre .0) (s .pre .2) (s .pre .3) (c .before .before .before .before .before .before .before .before .before .before .before .to-words .ensures) (c .before .before .before .before .before .before .before .before .before .before .to-words2 .ensures) (c .before .before .before .before .before .before .before .before .masked .ensures) (c .before .before .before .before .before .before .before .add-at .ensures) (c .before .before .before .before .add-halves .ensures) (s .pre .1) (c .before .gathered .ensures))
+    let shaped = s .pre .0 in
+    let x = c .before .before .before .before .before .before .before .before .before .before .before .to-words .ensures in
+    let y = c .before .before .before .before .before .before .before .before .before .before .to-words2 .ensures in
+    let diagonal = square-made (shaped .least) (shaped .greatest) _ (products-made (s .pre .2) (s .pre .3) x y (c .before .before .before .before .before .before .masked .ensures) (c .before .before .before .before .before .to-bytes .ensures)) (c .before .before .before .before .square .ensures) in
+    sum-made (shaped .least) (shaped .greatest) _ _ (c .before .before .gathered .ensures) diagonal (c .before .sum .ensures)
+    ∙ halves-made (places * carriedWords) shaped (s .pre .1) (s .pre .2) (s .pre .3) x y (c .before .before .before .before .before .before .before .before .add-rows .ensures)
 
 pub times-reduced-spec : {M : Type 1} → statement M
 times-reduced-spec =
@@ -59,12 +68,12 @@ times-reduced-spec =
     (tie.spec
     to-words-requires
     to-words-requires-2
-    slice-aggregate-add-at
+    slice-aggregate-add-rows
+    add-rows-requires
     masked-requires
-    add-at-requires
-    slice-aggregate-add-halves
-    add-halves-requires
+    to-bytes-requires
+    square-requires
     slice-aggregate-gathered
     gathered-requires
-    to-bytes-requires
+    sum-requires
     returns)

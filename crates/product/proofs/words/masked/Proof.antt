@@ -1,11 +1,11 @@
 -- `product::words::masked` meets its contract.
-use mathlib.Core.Path.{_≡_, refl, sym, ap, _∙_}
-use Prim.Native.Nat.{ℕ, _+_, _-_, _*_, _/_, _%_, _^_, _≤_}
+use mathlib.Core.Path.{refl, _∙_}
+use Prim.Native.Nat.{ℕ, _-_}
 use native.Mathlib.Omega.{arith}
-use lib.ListN.{length, getD}
+use lib.ListN.{getD}
 use mir.Val.{Fits}
 use mir.Syntax.{w64}
-use Rattle.operand.specs.Words.{carriedWords, wordCoord, packWords}
+use Rattle.operand.specs.Words.{carriedWords}
 use Rattle.gf2.proofs.Loops.{Filled, filled-none, filled-more, filled-all}
 use lib.Bits.{bitAnd}
 use Rattle.product.proofs.CellLaws.{masked-words}

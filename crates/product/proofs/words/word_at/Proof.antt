@@ -1,11 +1,7 @@
 -- `product::words::word_at` meets its contract.
-use mathlib.Core.Path.{_≡_, refl, sym, ap, _∙_}
-use Prim.Native.Nat.{ℕ, _+_, _-_, _*_, _/_, _%_, _^_, _≤_}
+use mathlib.Core.Path.{sym}
+use Prim.Native.Nat.{_-_}
 use native.Mathlib.Omega.{arith}
-use lib.ListN.{length, getD}
-use mir.Val.{Fits}
-use mir.Syntax.{w64}
-use Rattle.operand.specs.Words.{carriedWords, wordCoord, packWords}
 use lib.ListN.{List·getD-eq-default}
 use borrow.Author.Needs.{needs}
 use Rattle.product.proofs.words.word_at.Statement.{statement}

@@ -1,0 +1,138 @@
+-- The sum of all places, place s moved up s, by Horner's rule over the 64 bits of a word:
+-- each step moves the sum up by one place and adds a column, the places that are r modulo 64.
+use mathlib.Core.Path.{_≡_, refl, sym, ap, ap₂, _∙_}
+use mathlib.Core.List.{List}
+use Prim.Native.Nat.{ℕ, _+_, _-_, _*_, _/_, _%_, _^_, _<_, _≤_}
+use native.Mathlib.Nat.{add-zero, zero-add}
+use native.Mathlib.Decide.{decLt, ℕ-discrete}
+use native.Mathlib.Numerals.{add-one}
+use native.Mathlib.Omega.{arith}
+use lib.ListN.{length, getD, set, length-set, replicate, length-replicate, getD-replicate, List·getD-eq-default}
+use lib.Dec.{eqb}
+use lib.Seq.{getD-set-same, getD-set-other}
+use lib.Bits.{bitXor, xor-lt}
+use borrow.Author.Tests.{eq-eqb, ne-eqb}
+use Rattle.gf2.specs.Sums.{sum}
+use Rattle.gf2.specs.Operands.{choose, below}
+use Rattle.gf2.proofs.Sums.{sum-ext, sum-split, sum-digits}
+use Rattle.gf2.proofs.Operands.{below-out}
+use Rattle.operand.specs.Words.{carriedWords, wordCoord, packWords, raised}
+use Rattle.operand.proofs.WordCoords.{word-lt, words-ext}
+use Rattle.operand.proofs.WordLoops.{Words}
+use Rattle.operand.proofs.TurnWords.{raised-in, raised-out}
+use Rattle.product.specs.Cells.{places, cell, cellRaised}
+use Rattle.product.proofs.CellLaws.{word-none, cell-digit, set-coord, word-more}
+use Rattle.product.proofs.MoveLaws.{raised-ext, raised-add, raised-twice, sum-none, sum-both, sum-one, raised-sum, words-eq, packed-plus, packed-up}
+
+-- the first w words at place s, added to x from word q on
+pub record Plus (g : List ℕ) (s q : ℕ) (x : List ℕ) (w : ℕ) (r : List ℕ) : Type 0 where
+  pub within : w ≤ carriedWords
+  pub size : length r ≡ length x
+  pub small : Words r
+  pub coords : (i : ℕ) → wordCoord r i ≡ (wordCoord x i + raised (q * 64) (below (w * 64) (cell g s)) i) % 2
+
+module _ (g : List ℕ) (s q : ℕ) where
+  pub plus-none : {x : List ℕ} → Words x → Plus g s q x 0 x
+  plus-none {x} small = record { within = omega arith; size = refl; small = small; coords = λ i. omega (arith, word-lt x i, none i) }
+    where
+      none : (i : ℕ) → raised (q * 64) (below (0 * 64) (cell g s)) i ≡ 0
+      none i = elim (decLt i (q * 64)) [
+        | yes l ↦ raised-out (q * 64) (below (0 * 64) (cell g s)) i l
+        | no l ↦ raised-in (q * 64) (below (0 * 64) (cell g s)) i (omega arith) ∙ below-out (0 * 64) (cell g s) (i - q * 64) (omega arith)
+      ]
+
+  pub plus-more : {x r : List ℕ} (w : ℕ) → Plus g s q x w r → w < carriedWords → q + w < length x → getD g (s * carriedWords + w) 0 < 2 ^ 64
+      → Plus g s q x (w + 1) (set r (q + w) (bitXor (getD r (q + w) 0) (getD g (s * carriedWords + w) 0)))
+  plus-more {x} {r} w p h l b = record {
+    within = omega arith;
+    size = length-set r (q + w) _ ∙ p .size;
+    small = λ k. elim (ℕ-discrete k (q + w)) [
+      | yes e ↦ rw (e, getD-set-same r (q + w) (bitXor (getD r (q + w) 0) (getD g (s * carriedWords + w) 0)) 0 (omega (arith, p .size))) (xor-lt 64 _ _ (p .small (q + w)) b)
+      | no e ↦ rw (getD-set-other r (q + w) k (bitXor (getD r (q + w) 0) (getD g (s * carriedWords + w) 0)) 0 e) (p .small k)
+    ];
+    coords = λ i. set-coord r (q + w) (getD g (s * carriedWords + w) 0) i (omega (arith, p .size))
+        ∙ step _ _ _ _ _ (p .coords i) (ap (λ y. raised (q * 64) (below (w * 64) (cell g s)) i + y) (here i)
+        ∙ raised-add (q * 64) (below (w * 64) (cell g s)) (λ n. choose (eqb (n / 64) w) (cell g s n) 0) i ∙ raised-ext (q * 64) (λ n. below (w * 64) (cell g s) n + choose (eqb (n / 64) w) (cell g s n) 0) (below ((w + 1) * 64) (cell g s)) i (λ k. word-more w (i - q * 64) (cell g s)));
+  }
+    where
+      step : (a b c d e : ℕ) → a ≡ (b + c) % 2 → c + d ≡ e → (a + d) % 2 ≡ (b + e) % 2
+      step a b c d e u v = omega arith
+
+      here : (i : ℕ) → choose (eqb (i / 64) (q + w)) (getD g (s * carriedWords + w) 0 / 2 ^ (i % 64) % 2) 0 ≡ raised (q * 64) (λ n. choose (eqb (n / 64) w) (cell g s n) 0) i
+      here i = elim (decLt i (q * 64)) [
+        | yes k ↦ rw (raised-out (q * 64) (λ n. choose (eqb (n / 64) w) (cell g s n) 0) i k, ne-eqb (i / 64) (q + w) (λ z. omega arith))
+        | no k ↦ rw (raised-in (q * 64) (λ n. choose (eqb (n / 64) w) (cell g s n) 0) i (omega arith)) (elim (ℕ-discrete (i / 64) (q + w)) [
+          | yes z ↦ let e : w * 64 + i % 64 ≡ i - q * 64 = omega arith in
+              rw (eq-eqb (i / 64) (q + w) z, eq-eqb ((i - q * 64) / 64) w (omega arith)) (cell-digit g s w (i % 64) (omega arith) ∙ ap (cell g s) e)
+          | no z ↦ rw (ne-eqb (i / 64) (q + w) z, ne-eqb ((i - q * 64) / 64) w (λ y. z (omega arith)))
+        ])
+      ]
+
+  pub plus-all : {x r : List ℕ} (n w : ℕ) → Plus g s q x w r → carriedWords ≤ w → length x ≡ n → r ≡ packWords n (λ i. wordCoord x i + cellRaised g s (q * 64) i)
+  plus-all {x} n w p h size =
+      let e : w * 64 ≡ places = omega (arith, p .within) in
+      words-eq n _ (p .size ∙ size) (p .small) (λ i l. p .coords i ∙ ap (λ k. (wordCoord x i + raised (q * 64) (below k (cell g s)) i) % 2) e)
+
+-- one place after another of a column
+module _ (g : List ℕ) (r : ℕ) where
+  abbrev pub columnTo : ℕ → ℕ → ℕ
+  columnTo n i = sum n (λ q. cellRaised g (q * 64 + r) (q * 64) i)
+
+  pub column-none : (n : ℕ) {x : List ℕ} → length x ≡ n → Words x → x ≡ packWords n (λ i. wordCoord x i + columnTo 0 i)
+  unfolding sum
+  column-none n {x} size small = words-eq n _ size small (λ i l. omega (arith, word-lt x i))
+
+  pub column-more : (n q s : ℕ) (f : ℕ → ℕ) {x y : List ℕ} → s ≡ q * 64 + r → x ≡ packWords n (λ i. f i + columnTo q i) → y ≡ packWords n (λ i. wordCoord x i + cellRaised g s (q * 64) i)
+      → y ≡ packWords n (λ i. f i + columnTo (q + 1) i)
+  column-more n q s f {x} {y} e p h = packed-plus n (λ i. f i + columnTo q i) _ p h ∙ words-ext n _ _ (λ i l. ap (λ k. k % 2) (more i))
+    where
+      more : (i : ℕ) → f i + columnTo q i + cellRaised g s (q * 64) i ≡ f i + columnTo (q + 1) i
+      more i = unfold sum in rw (e, add-one) (omega arith)
+
+-- the columns r to 63, moved up by r less than in the end
+module _ (g : List ℕ) where
+  abbrev pub columns : ℕ → ℕ → ℕ
+  columns r i = sum carriedWords (λ q. sum (64 - r) (λ u. cellRaised g (q * 64 + (r + u)) (q * 64 + u) i))
+
+  column-step : (r : ℕ) → r < 64 → (i : ℕ) → raised 1 (columns (r + 1)) i + columnTo g r carriedWords i ≡ columns r i
+  column-step r l i =
+      ap (λ y. y + columnTo g r carriedWords i) (raised-sum 1 carriedWords (λ q j. sum (64 - (r + 1)) (λ u. cellRaised g (q * 64 + (r + 1 + u)) (q * 64 + u) j)) i
+      ∙ sum-ext carriedWords _ _ (λ q h. raised-sum 1 (64 - (r + 1)) (λ u. cellRaised g (q * 64 + (r + 1 + u)) (q * 64 + u)) i
+      ∙ sum-ext (64 - (r + 1)) _ _ (λ u k. raised-twice 1 (q * 64 + u) (below places (cell g (q * 64 + (r + 1 + u)))) i)))
+      ∙ sym (sum-both carriedWords _ _) ∙ sum-ext carriedWords _ _ (λ q h. sym (split q))
+    where
+      split : (q : ℕ) → sum (64 - r) (λ u. cellRaised g (q * 64 + (r + u)) (q * 64 + u) i)
+          ≡ sum (64 - (r + 1)) (λ u. cellRaised g (q * 64 + (r + 1 + u)) (1 + (q * 64 + u)) i) + cellRaised g (q * 64 + r) (q * 64) i
+      split q =
+          let e : 64 - r ≡ 1 + (64 - (r + 1)) = omega arith in
+          ap (λ n. sum n (λ u. cellRaised g (q * 64 + (r + u)) (q * 64 + u) i)) e ∙ sum-split 1 (64 - (r + 1)) _
+          ∙ ap₂ _+_ (sum-one _ ∙ ap₂ (λ a b. cellRaised g (q * 64 + a) b i) (add-zero r) (add-zero (q * 64))) (sum-ext (64 - (r + 1)) _ _ (λ u h. ap₂ (λ a b. cellRaised g (q * 64 + a) b i) (place u) (shift u)))
+          ∙ swap _ _
+        where
+          place : (u : ℕ) → r + (1 + u) ≡ r + 1 + u
+          place u = omega arith
+
+          shift : (u : ℕ) → q * 64 + (1 + u) ≡ 1 + (q * 64 + u)
+          shift u = omega arith
+
+          swap : (a b : ℕ) → a + b ≡ b + a
+          swap a b = omega arith
+
+  pub spread-none : (n : ℕ) → replicate n 0 ≡ packWords n (columns 64)
+  spread-none n = words-eq n (columns 64) (length-replicate n 0) small (λ i l. word-none n i ∙ ap (λ y. y % 2) (sym (sum-none carriedWords _ (λ q h. sum-none (64 - 64) _ (λ u k. absurd (omega arith))))))
+    where
+      small : (k : ℕ) → getD {A = ℕ} (replicate n 0) k 0 < 2 ^ 64
+      small k = elim (decLt k n) [
+        | yes h ↦ rw (getD-replicate {A = ℕ} n k 0 0 h) (omega arith)
+        | no h ↦ rw (List·getD-eq-default {A = ℕ} (replicate n 0) 0 {n = k} (omega (arith, length-replicate {A = ℕ} n 0))) (omega arith)
+      ]
+
+  pub spread-more : (n r : ℕ) {k : ℕ} {x y z : List ℕ} → k ≡ r + 1 → r < 64 → x ≡ packWords n (columns k) → y ≡ packWords n (raised 1 (wordCoord x))
+      → z ≡ packWords n (λ i. wordCoord y i + columnTo g r carriedWords i) → z ≡ packWords n (columns r)
+  spread-more n r e l p d q = packed-plus n (raised 1 (columns (r + 1))) _ (packed-up n 1 (columns (r + 1)) (p ∙ ap (λ k. packWords n (columns k)) e) d) q ∙ words-ext n _ _ (λ i h. ap (λ y. y % 2) (column-step r l i))
+
+  pub spread-all : (n : ℕ) {r : ℕ} {x : List ℕ} → r ≡ 0 → x ≡ packWords n (columns r) → x ≡ packWords n (λ i. sum places (λ s. cellRaised g s s i))
+  spread-all n e p = p ∙ ap (λ k. packWords n (columns k)) e ∙ words-ext n _ _ (λ i l. ap (λ y. y % 2) (all i))
+    where
+      all : (i : ℕ) → columns 0 i ≡ sum places (λ s. cellRaised g s s i)
+      all i = sum-ext carriedWords _ _ (λ q h. sum-ext 64 _ _ (λ u l. ap (λ k. cellRaised g (q * 64 + k) (q * 64 + u) i) (zero-add u))) ∙ sym (sum-digits carriedWords 64 (λ s. cellRaised g s s i))

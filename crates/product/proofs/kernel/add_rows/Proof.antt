@@ -1,0 +1,93 @@
+-- `product::kernel::add_rows` meets its contract.
+use mathlib.Core.Path.{_≡_, refl, _∙_}
+use Prim.Native.Nat.{_-_, _≤_}
+use native.Mathlib.Omega.{arith}
+use lib.ListN.{length}
+use Rattle.product.specs.Cells.{Added}
+use Rattle.product.proofs.KernelLaws.{rowsTo, rows-none, rows-more}
+use borrow.Author.Needs.{needs}
+use Rattle.product.proofs.kernel.add_rows.Statement.{statement}
+use Rattle.product.proofs.kernel.add_rows.Tie as tie
+
+abbrev Inv-loop : tie.InvT-loop
+Inv-loop width table both from count x y g₀ xx yy k₀ g k = (k ≤ count) × Added (rowsTo both width table x y from k) g₀ g × (length g ≡ length g₀)
+
+abbrev μ-loop : tie.MeasureT-loop
+μ-loop width table both from count x y g₀ xx yy k₀ g k = count - k
+
+twice-requires : tie.Need-twice-requires Inv-loop μ-loop
+twice-requires c κs = search needs
+
+twice-requires-2 : tie.Need-twice-requires-2 Inv-loop μ-loop
+twice-requires-2 c κs = search needs
+
+loop-holds : tie.Need-loop-holds Inv-loop μ-loop
+loop-holds c = (omega arith, rows-none _ _ _ _ _ _ _, refl)
+
+add-met : tie.Need-add-met Inv-loop μ-loop
+add-met c = search needs
+
+slice-aggregate-met : tie.Need-slice-aggregate-met Inv-loop μ-loop
+slice-aggregate-met c = search needs
+
+slice-aggregate-met-2 : tie.Need-slice-aggregate-met-2 Inv-loop μ-loop
+slice-aggregate-met-2 c = search needs
+
+met-requires : tie.Need-met-requires Inv-loop μ-loop
+met-requires c κs = search needs
+
+add-add-line : tie.Need-add-add-line Inv-loop μ-loop
+add-add-line c = search needs
+
+add-line-requires : tie.Need-add-line-requires Inv-loop μ-loop
+add-line-requires c κs =
+    let s = c .before .before .before .before .before .before .before .before .before .before in
+    (s .pre .0, omega (arith, c .before .before .before .before .loop-test .taken, s .pre .3), c .before .before .before .before .before .loop .inv .2 ∙ s .pre .4)
+
+add-k : tie.Need-add-k Inv-loop μ-loop
+add-k c = search needs
+
+loop-less : tie.Need-loop-less Inv-loop μ-loop
+loop-less c = search needs
+
+loop-again : tie.Need-loop-again Inv-loop μ-loop
+loop-again c =
+    let s = c .before .before .before .before .before .before .before .before .before .before .before .before .before in
+    let a = s .args in
+    let l = c .before .before .before .before .before .before .before .before .loop in
+    let line = c .before .before .add-line .ensures in (
+      omega (arith, c .before .before .before .before .before .before .before .loop-test .taken),
+      rows-more (a .both) (a .width) (a .table .now) (a .x) (a .y) (a .from) (s .pre .0) (s .pre .1) (s .pre .2) (l .k) (omega (arith, c .before .before .before .before .before .before .before .loop-test .taken, s .pre .3)) (c .before .before .before .before .before .before .before .before .before .before .twice .ensures) (c .before .before .before .before .before .before .before .before .before .twice2 .ensures) (c .before .before .before .before .met .ensures) (l .inv .1) line,
+      line .size ∙ l .inv .2,
+    )
+
+same-length : tie.Need-same-length Inv-loop μ-loop
+same-length c = c .before .loop .inv .2
+
+returns : tie.Need-returns Inv-loop μ-loop
+returns c =
+    let a = c .before .before .before .before .before .before .args in
+    let l = c .before .loop in
+    let all : l .k ≡ a .count = omega (arith, l .inv .0, c .loop-test .left) in
+    rw all at (l .inv .1)
+
+pub add-rows-spec : {M : Type 1} → statement M
+add-rows-spec =
+    tie.close
+    (tie.spec
+    Inv-loop
+    μ-loop
+    twice-requires
+    twice-requires-2
+    loop-holds
+    add-met
+    slice-aggregate-met
+    slice-aggregate-met-2
+    met-requires
+    add-add-line
+    add-line-requires
+    add-k
+    loop-less
+    loop-again
+    same-length
+    returns)

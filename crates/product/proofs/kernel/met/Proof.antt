@@ -1,0 +1,61 @@
+-- `product::kernel::met` meets its contract.
+use mathlib.Core.Path.{_∙_}
+use Prim.Native.Nat.{_*_}
+use borrow.Author.Tests.{eq-eqb, ne-eqb}
+use Rattle.operand.specs.Words.{carriedWords}
+use Rattle.product.specs.Cells.{isOneWay}
+use Rattle.product.proofs.KernelLaws.{masked-window, plain-way, reduced-way, met-once, met-both}
+use borrow.Author.Needs.{needs}
+use Rattle.product.proofs.kernel.met.Statement.{statement}
+use Rattle.product.proofs.kernel.met.Tie as tie
+
+window-requires : tie.Need-window-requires
+window-requires c κs = search needs
+
+masked-requires : tie.Need-masked-requires
+masked-requires c κs = search needs
+
+returns : tie.Need-returns
+returns c =
+    let a = c .before .before .before .before .before .args in
+    masked-window carriedWords (a .d) (a .x) (a .yy .now) (c .before .before .window .ensures) (c .before .masked .ensures)
+    ∙ met-once carriedWords (isOneWay (a .both) (a .m) (a .d)) _ _ (plain-way (a .both) (a .m) (a .d) (c .if1 .taken))
+
+mul-if2 : tie.Need-mul-if2
+mul-if2 c = search needs
+
+returns-2 : tie.Need-returns-2
+returns-2 c =
+    let a = c .before .before .before .before .before .before .args in
+    masked-window carriedWords (a .d) (a .x) (a .yy .now) (c .before .before .before .window .ensures) (c .before .before .masked .ensures)
+    ∙ met-once carriedWords (isOneWay (a .both) (a .m) (a .d)) _ _ (reduced-way (a .both) (a .m) (a .d) (c .before .if1 .left) ∙ eq-eqb (2 * a .d) (a .m) (c .if2 .taken))
+
+window-requires-2 : tie.Need-window-requires-2
+window-requires-2 c κs = search needs
+
+masked-requires-2 : tie.Need-masked-requires-2
+masked-requires-2 c κs = search needs
+
+xored-words-requires : tie.Need-xored-words-requires
+xored-words-requires c κs = search needs
+
+returns-3 : tie.Need-returns-3
+returns-3 c =
+    let a = c .before .before .before .before .before .before .before .before .before .args in
+    met-both carriedWords (isOneWay (a .both) (a .m) (a .d)) _ _ (reduced-way (a .both) (a .m) (a .d) (c .before .before .before .before .if1 .left) ∙ ne-eqb (2 * a .d) (a .m) (c .before .before .before .if2 .left))
+    (masked-window carriedWords (a .d) (a .x) (a .yy .now) (c .before .before .before .before .before .before .window .ensures) (c .before .before .before .before .before .masked .ensures))
+    (masked-window carriedWords (a .d) (a .y) (a .xx .now) (c .before .before .window2 .ensures) (c .before .masked2 .ensures)) (c .xored-words .ensures)
+
+pub met-spec : {M : Type 1} → statement M
+met-spec =
+    tie.close
+    (tie.spec
+    window-requires
+    masked-requires
+    returns
+    mul-if2
+    returns-2
+    window-requires-2
+    masked-requires-2
+    xored-words-requires
+    returns-3)

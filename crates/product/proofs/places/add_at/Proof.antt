@@ -1,0 +1,87 @@
+-- `product::places::add_at` meets its contract.
+use mathlib.Core.Path.{_≡_, refl}
+use Prim.Native.Nat.{_-_, _≤_}
+use native.Mathlib.Omega.{arith}
+use lib.ListN.{length}
+use Rattle.operand.specs.Words.{carriedWords}
+use Rattle.product.specs.Cells.{Added}
+use Rattle.product.proofs.CellLaws.{atPlace, place-none, place-more, place-all}
+use borrow.Author.Needs.{needs}
+use Rattle.product.proofs.places.add_at.Statement.{statement}
+use Rattle.product.proofs.places.add_at.Tie as tie
+
+abbrev Inv-loop : tie.InvT-loop
+Inv-loop g₀ s e from w₀ g w = (w ≤ carriedWords) × Added (atPlace s e w) g₀ g × (length g ≡ length g₀)
+
+abbrev μ-loop : tie.MeasureT-loop
+μ-loop g₀ s e from w₀ g w = carriedWords - w
+
+mul-from : tie.Need-mul-from Inv-loop μ-loop
+mul-from c = search needs
+
+loop-holds : tie.Need-loop-holds Inv-loop μ-loop
+loop-holds c = (omega arith, place-none _ _ _, refl)
+
+add-g : tie.Need-add-g Inv-loop μ-loop
+add-g c = search needs
+
+mul-g : tie.Need-mul-g Inv-loop μ-loop
+mul-g c = search needs
+
+slice-read-g : tie.Need-slice-read-g Inv-loop μ-loop
+slice-read-g c = search needs
+
+mul-g-2 : tie.Need-mul-g-2 Inv-loop μ-loop
+mul-g-2 c = search needs
+
+array-read-g : tie.Need-array-read-g Inv-loop μ-loop
+array-read-g c = search needs
+
+add-g-2 : tie.Need-add-g-2 Inv-loop μ-loop
+add-g-2 c = search needs
+
+mul-g-3 : tie.Need-mul-g-3 Inv-loop μ-loop
+mul-g-3 c = search needs
+
+slice-write-g : tie.Need-slice-write-g Inv-loop μ-loop
+slice-write-g c = search needs
+
+add-w : tie.Need-add-w Inv-loop μ-loop
+add-w c = search needs
+
+loop-less : tie.Need-loop-less Inv-loop μ-loop
+loop-less c = search needs
+
+loop-again : tie.Need-loop-again Inv-loop μ-loop
+loop-again c =
+    let s = c .before .before .before in
+    let i = c .before .before .loop .inv in
+    (omega arith, place-more (s .args .s) _ (c .before .before .loop .w) _ (i .1) (s .pre .0) (s .pre .1) (omega arith) refl, search needs)
+
+same-length : tie.Need-same-length Inv-loop μ-loop
+same-length c = c .before .loop .inv .2
+
+returns : tie.Need-returns Inv-loop μ-loop
+returns c = place-all _ _ _ (omega arith) (c .before .loop .inv .1)
+
+pub add-at-spec : {M : Type 1} → statement M
+add-at-spec =
+    tie.close
+    (tie.spec
+    Inv-loop
+    μ-loop
+    mul-from
+    loop-holds
+    add-g
+    mul-g
+    slice-read-g
+    mul-g-2
+    array-read-g
+    add-g-2
+    mul-g-3
+    slice-write-g
+    add-w
+    loop-less
+    loop-again
+    same-length
+    returns)

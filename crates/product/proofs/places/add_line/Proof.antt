@@ -1,0 +1,74 @@
+-- `product::places::add_line` meets its contract.
+use mathlib.Core.Path.{_≡_, _∙_}
+use Prim.Native.Nat.{_+_, _-_, _*_}
+use native.Mathlib.Omega.{arith}
+use Rattle.gf2.specs.Operands.{carriedBytes, bytesFor}
+use Rattle.gf2.specs.Tables.{row}
+use Rattle.gf2.specs.Coordinates.{coord, pack}
+use Rattle.table.proofs.Shapes.{row-within}
+use Rattle.product.proofs.KernelLaws.{line-added}
+use borrow.Author.Needs.{needs}
+use Rattle.product.proofs.places.add_line.Statement.{statement}
+use Rattle.product.proofs.places.add_line.Tie as tie
+
+bytes-for-requires : tie.Need-bytes-for-requires
+bytes-for-requires c κs = search needs
+
+mul-from : tie.Need-mul-from
+mul-from c =
+    let a = c .before .before .before in
+    rw (c .bytes-for .ensures) (omega (arith, row-within (a .args .width) (a .args .d) (a .args .table .now) (a .pre .0 .isTable .size) (a .pre .1)))
+
+add-carried : tie.Need-add-carried
+add-carried c =
+    let a = c .before .before .before in
+    rw (c .bytes-for .ensures) (omega (arith, row-within (a .args .width) (a .args .d) (a .args .table .now) (a .pre .0 .isTable .size) (a .pre .1)))
+
+sub-carried : tie.Need-sub-carried
+sub-carried c = search needs
+
+part-carried-start : tie.Need-part-carried-start
+part-carried-start c = search needs
+
+part-carried-end : tie.Need-part-carried-end
+part-carried-end c =
+    let a = c .before .before .before in
+    rw (c .bytes-for .ensures) (omega (arith, row-within (a .args .width) (a .args .d) (a .args .table .now) (a .pre .0 .isTable .size) (a .pre .1)))
+
+carried-requires : tie.Need-carried-requires
+carried-requires c κs = search needs
+
+to-words-requires : tie.Need-to-words-requires
+to-words-requires c κs = search needs
+
+add-row-requires : tie.Need-add-row-requires
+add-row-requires c κs = search needs
+
+same-length : tie.Need-same-length
+same-length c = search needs
+
+returns : tie.Need-returns
+unfolding row
+returns c =
+    let s = c .before .before .before .before .before .before .before .before .before .before in
+    let a = s .args in
+    let w : a .d * bytesFor (a .width) + bytesFor (a .width) - a .d * bytesFor (a .width) ≡ bytesFor (a .width) = omega arith in
+    let line : c .before .before .before .before .before .carried .result ≡ pack carriedBytes (coord (row (a .width) (a .table .now) (a .d))) =
+    c .before .before .before .before .before .carried .ensures ∙ rw (c .before .before .before .before .before .before .before .bytes-for .ensures, w) in
+    line-added (s .pre .0) (a .d) (s .pre .1) (a .e) line (c .before .before .before .before .to-words .ensures) (c .before .before .add-row .ensures)
+
+pub add-line-spec : {M : Type 1} → statement M
+add-line-spec =
+    tie.close
+    (tie.spec
+    bytes-for-requires
+    mul-from
+    add-carried
+    sub-carried
+    part-carried-start
+    part-carried-end
+    carried-requires
+    to-words-requires
+    add-row-requires
+    same-length
+    returns)

@@ -1,0 +1,70 @@
+-- `product::places::doubled` meets its contract.
+use mathlib.Core.Path.{_≡_, ap, _∙_}
+use Prim.Native.Nat.{ℕ, _-_, _*_, _/_, _%_, _^_}
+use native.Mathlib.Omega.{arith}
+use lib.ListN.{getD}
+use lib.Bits.{bitOr}
+use mir.Val.{Fits}
+use mir.Syntax.{w64}
+use Rattle.gf2.proofs.Loops.{Filled, filled-none, filled-more, filled-all}
+use Rattle.operand.specs.Words.{raised}
+use Rattle.product.specs.Cells.{twiceWords}
+use Rattle.product.proofs.MoveLaws.{doubledWord, before-first, before-next, doubled-words}
+use borrow.Author.Needs.{needs}
+use Rattle.product.proofs.places.doubled.Statement.{statement}
+use Rattle.product.proofs.places.doubled.Tie as tie
+
+abbrev Inv-loop : tie.InvT-loop
+Inv-loop x out₀ previous₀ w₀ out previous w = (previous ≡ raised 1 (λ n. getD x n 0) w) × Filled twiceWords (doubledWord x) out₀ out w
+
+abbrev μ-loop : tie.MeasureT-loop
+μ-loop x out₀ previous₀ w₀ out previous w = twiceWords - w
+
+loop-holds : tie.Need-loop-holds Inv-loop μ-loop
+loop-holds c = (before-first (c .args .t1), filled-none twiceWords _ _)
+
+mul-word : tie.Need-mul-word Inv-loop μ-loop
+mul-word c = search needs
+
+array-read-word : tie.Need-array-read-word Inv-loop μ-loop
+array-read-word c = search needs
+
+mul-out : tie.Need-mul-out Inv-loop μ-loop
+mul-out c = search needs
+
+array-write-out : tie.Need-array-write-out Inv-loop μ-loop
+array-write-out c = search needs
+
+add-w : tie.Need-add-w Inv-loop μ-loop
+add-w c = search needs
+
+loop-less : tie.Need-loop-less Inv-loop μ-loop
+loop-less c = search needs
+
+loop-again : tie.Need-loop-again Inv-loop μ-loop
+loop-again c =
+    let l = c .before .loop in
+    let x = c .before .before .args .t1 in
+    (before-next x (l .w), filled-more (l .inv .1) (omega arith) (omega arith) (ap (λ y. bitOr (getD x (l .w) 0 * 2 % 2 ^ 64) (y / 2 ^ 63)) (l .inv .0)))
+
+returns : tie.Need-returns Inv-loop μ-loop
+returns c =
+    let x = c .before .before .args .t1 in
+    let small : (k : ℕ) → Fits w64 (getD x k 0) = λ k. search needs in
+    filled-all (c .before .loop .inv .1) (omega arith) (omega arith) ∙ doubled-words twiceWords x (λ k. small k .fits)
+
+pub doubled-spec : {M : Type 1} → statement M
+doubled-spec =
+    tie.close
+    (tie.spec
+    Inv-loop
+    μ-loop
+    loop-holds
+    mul-word
+    array-read-word
+    mul-out
+    array-write-out
+    add-w
+    loop-less
+    loop-again
+    returns)

@@ -1,0 +1,68 @@
+-- `product::places::plus_column` meets its contract.
+use mathlib.Core.Path.{_≡_, ap, _∙_}
+use Prim.Native.Nat.{ℕ, _+_, _-_, _≤_}
+use native.Mathlib.Omega.{arith}
+use lib.ListN.{length, getD}
+use mir.Val.{Fits}
+use mir.Syntax.{w64}
+use Rattle.operand.specs.Words.{carriedWords, wordCoord, packWords}
+use Rattle.product.specs.Cells.{twiceWords}
+use Rattle.product.proofs.SpreadLaws.{columnTo, column-none, column-more}
+use borrow.Author.Needs.{needs}
+use Rattle.product.proofs.places.plus_column.Statement.{statement}
+use Rattle.product.proofs.places.plus_column.Tie as tie
+
+abbrev Inv-loop : tie.InvT-loop
+Inv-loop g r out₀ q₀ out q = (q ≤ carriedWords) × (out ≡ packWords twiceWords (λ i. wordCoord out₀ i + columnTo g r q i))
+
+abbrev μ-loop : tie.MeasureT-loop
+μ-loop g r out₀ q₀ out q = carriedWords - q
+
+loop-holds : tie.Need-loop-holds Inv-loop μ-loop
+loop-holds c =
+    let x = c .before .args .x in
+    let small : (k : ℕ) → Fits w64 (getD x k 0) = λ k. search needs in
+    let size : length x ≡ twiceWords = search needs in
+    (omega arith, column-none _ _ twiceWords size (λ k. small k .fits))
+
+mul-plus-at : tie.Need-mul-plus-at Inv-loop μ-loop
+mul-plus-at c = search needs
+
+add-plus-at : tie.Need-add-plus-at Inv-loop μ-loop
+add-plus-at c = search needs
+
+plus-at-requires : tie.Need-plus-at-requires Inv-loop μ-loop
+plus-at-requires c κs = search needs
+
+add-q : tie.Need-add-q Inv-loop μ-loop
+add-q c = search needs
+
+loop-less : tie.Need-loop-less Inv-loop μ-loop
+loop-less c = search needs
+
+loop-again : tie.Need-loop-again Inv-loop μ-loop
+loop-again c =
+    let l = c .before .before .loop in
+    (omega arith, column-more _ _ twiceWords (l .q) _ _ (omega arith) (l .inv .1) (c .plus-at .ensures))
+
+returns : tie.Need-returns Inv-loop μ-loop
+returns c =
+    let l = c .before .loop in
+    let s = c .before .before .before .args in
+    let all : l .q ≡ carriedWords = omega (arith, l .inv .0) in
+    l .inv .1 ∙ ap (λ n. packWords twiceWords (λ i. wordCoord (s .x) i + columnTo (s .g .now) (s .r) n i)) all
+
+pub plus-column-spec : {M : Type 1} → statement M
+plus-column-spec =
+    tie.close
+    (tie.spec
+    Inv-loop
+    μ-loop
+    loop-holds
+    mul-plus-at
+    add-plus-at
+    plus-at-requires
+    add-q
+    loop-less
+    loop-again
+    returns)

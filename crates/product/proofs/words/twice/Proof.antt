@@ -1,0 +1,85 @@
+-- `product::words::twice` meets its contract.
+use mathlib.Core.Path.{ap₂, _∙_}
+use mathlib.Core.List.{[], _∷_}
+use Prim.Native.Nat.{ℕ, _+_, _-_, _%_}
+use native.Mathlib.Omega.{arith}
+use lib.ListN.{getD}
+use lib.Bits.{bitXor}
+use mir.Val.{Fits}
+use mir.Syntax.{w64}
+use Rattle.gf2.specs.Coordinates.{value}
+use Rattle.gf2.proofs.Loops.{Filled, filled-none, filled-more, filled-all}
+use Rattle.operand.specs.Words.{wordCoord}
+use Rattle.product.specs.Cells.{twiceWords}
+use Rattle.product.proofs.MoveLaws.{raisedWord, twice-words}
+use borrow.Author.Needs.{needs}
+use Rattle.product.proofs.words.twice.Statement.{statement}
+use Rattle.product.proofs.words.twice.Tie as tie
+
+abbrev Inv-loop : tie.InvT-loop
+Inv-loop x m out₀ w₀ out w = Filled twiceWords (λ k. bitXor (getD x k 0) (raisedWord x m k)) out₀ out w
+
+abbrev μ-loop : tie.MeasureT-loop
+μ-loop x m out₀ w₀ out w = twiceWords - w
+
+loop-holds : tie.Need-loop-holds Inv-loop μ-loop
+loop-holds c = filled-none twiceWords _ _
+
+word-at-requires : tie.Need-word-at-requires Inv-loop μ-loop
+word-at-requires c κs = search needs
+
+add-word-below : tie.Need-add-word-below Inv-loop μ-loop
+add-word-below c = search needs
+
+word-below-requires : tie.Need-word-below-requires Inv-loop μ-loop
+word-below-requires c κs = search needs
+
+word-below-requires-2 : tie.Need-word-below-requires-2 Inv-loop μ-loop
+word-below-requires-2 c κs = search needs
+
+raise-pair-requires : tie.Need-raise-pair-requires Inv-loop μ-loop
+raise-pair-requires c κs = search needs
+
+mul-out : tie.Need-mul-out Inv-loop μ-loop
+mul-out c = search needs
+
+array-write-out : tie.Need-array-write-out Inv-loop μ-loop
+array-write-out c = search needs
+
+add-w : tie.Need-add-w Inv-loop μ-loop
+add-w c = search needs
+
+loop-less : tie.Need-loop-less Inv-loop μ-loop
+loop-less c = search needs
+
+loop-again : tie.Need-loop-again Inv-loop μ-loop
+loop-again c =
+    let m = c .before .before .before .before .before .before .args .m in
+    filled-more (c .before .before .before .before .before .loop .inv) (omega arith) (omega arith)
+    (ap₂ bitXor (c .before .before .before .word-at .ensures)
+    (c .raise-pair .ensures ∙ ap₂ (λ p q. value 64 (λ j. wordCoord (p ∷ q ∷ []) (64 - m % 64 + j))) (c .before .before .word-below .ensures) (c .before .word-below2 .ensures)))
+
+returns : tie.Need-returns Inv-loop μ-loop
+returns c =
+    let a = c .before .before .args in
+    let small : (k : ℕ) → Fits w64 (getD (a .x) k 0) = λ k. search needs in
+    filled-all (c .before .loop .inv) (omega arith) (omega arith) ∙ twice-words twiceWords (a .m) (a .x) (λ k. small k .fits)
+
+pub twice-spec : {M : Type 1} → statement M
+twice-spec =
+    tie.close
+    (tie.spec
+    Inv-loop
+    μ-loop
+    loop-holds
+    word-at-requires
+    add-word-below
+    word-below-requires
+    word-below-requires-2
+    raise-pair-requires
+    mul-out
+    array-write-out
+    add-w
+    loop-less
+    loop-again
+    returns)

@@ -1,0 +1,91 @@
+-- `product::words::window` meets its contract.
+use mathlib.Core.Path.{ap, _∙_}
+use mathlib.Core.List.{[], _∷_}
+use Prim.Native.Nat.{_+_, _-_, _/_, _%_}
+use native.Mathlib.Nat.{div-add-mod'}
+use native.Mathlib.Omega.{arith}
+use lib.ListN.{getD}
+use Rattle.gf2.specs.Coordinates.{value}
+use Rattle.gf2.proofs.Loops.{Filled, filled-none, filled-more, filled-all}
+use Rattle.operand.specs.Words.{carriedWords, wordCoord, packWords}
+use Rattle.operand.proofs.WordLoops.{window-words}
+use borrow.Author.Needs.{needs}
+use Rattle.product.proofs.words.window.Statement.{statement}
+use Rattle.product.proofs.words.window.Tie as tie
+
+abbrev Inv-loop : tie.InvT-loop
+Inv-loop x at first out₀ w₀ out w = Filled carriedWords (λ k. value 64 (λ j. wordCoord (getD x (first + k) 0 ∷ getD x (first + k + 1) 0 ∷ []) (at % 64 + j))) out₀ out w
+
+abbrev μ-loop : tie.MeasureT-loop
+μ-loop x at first out₀ w₀ out w = carriedWords - w
+
+loop-holds : tie.Need-loop-holds Inv-loop μ-loop
+loop-holds c = filled-none carriedWords _ _
+
+add-low : tie.Need-add-low Inv-loop μ-loop
+add-low c = omega arith
+
+mul-low : tie.Need-mul-low Inv-loop μ-loop
+mul-low c = search needs
+
+shared-slice-read-low : tie.Need-shared-slice-read-low Inv-loop μ-loop
+shared-slice-read-low c = omega arith
+
+add-high : tie.Need-add-high Inv-loop μ-loop
+add-high c = omega arith
+
+add-high-2 : tie.Need-add-high-2 Inv-loop μ-loop
+add-high-2 c = omega arith
+
+mul-high : tie.Need-mul-high Inv-loop μ-loop
+mul-high c = search needs
+
+shared-slice-read-high : tie.Need-shared-slice-read-high Inv-loop μ-loop
+shared-slice-read-high c = omega arith
+
+lower-pair-requires : tie.Need-lower-pair-requires Inv-loop μ-loop
+lower-pair-requires c κs = search needs
+
+mul-out : tie.Need-mul-out Inv-loop μ-loop
+mul-out c = search needs
+
+array-write-out : tie.Need-array-write-out Inv-loop μ-loop
+array-write-out c = search needs
+
+add-w : tie.Need-add-w Inv-loop μ-loop
+add-w c = search needs
+
+loop-less : tie.Need-loop-less Inv-loop μ-loop
+loop-less c = search needs
+
+loop-again : tie.Need-loop-again Inv-loop μ-loop
+loop-again c = filled-more (c .before .before .before .before .loop .inv) (omega arith) (omega arith) (c .lower-pair .ensures)
+
+returns : tie.Need-returns Inv-loop μ-loop
+returns c =
+    let a = c .before .before .before .args in
+    filled-all (c .before .loop .inv) (omega arith) (omega arith)
+    ∙ window-words carriedWords (a .at / 64) (a .at % 64) (a .x .now) (omega arith)
+    ∙ ap (λ s. packWords carriedWords (λ i. wordCoord (a .x .now) (s + i))) (div-add-mod' (a .at) 64)
+
+pub window-spec : {M : Type 1} → statement M
+window-spec =
+    tie.close
+    (tie.spec
+    Inv-loop
+    μ-loop
+    loop-holds
+    add-low
+    mul-low
+    shared-slice-read-low
+    add-high
+    add-high-2
+    mul-high
+    shared-slice-read-high
+    lower-pair-requires
+    mul-out
+    array-write-out
+    add-w
+    loop-less
+    loop-again
+    returns)

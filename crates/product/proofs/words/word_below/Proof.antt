@@ -1,0 +1,24 @@
+-- `product::words::word_below` meets its contract.
+use mathlib.Core.Path.{sym, _∙_}
+use native.Mathlib.Omega.{arith}
+use lib.ListN.{getD}
+use Rattle.operand.proofs.TurnWords.{raised-in, raised-out}
+use borrow.Author.Needs.{needs}
+use Rattle.product.proofs.words.word_below.Statement.{statement}
+use Rattle.product.proofs.words.word_below.Tie as tie
+
+word-at-requires : tie.Need-word-at-requires
+word-at-requires c κs = search needs
+
+returns : tie.Need-returns
+returns c =
+    let a = c .before .before .args in
+    c .word-at .ensures ∙ sym (raised-in (a .n) (λ v. getD (a .x) v 0) (a .w) (c .before .if1 .taken))
+
+returns-2 : tie.Need-returns-2
+returns-2 c =
+    let a = c .before .args in
+    sym (raised-out (a .n) (λ v. getD (a .x) v 0) (a .w) (omega arith))
+
+pub word-below-spec : {M : Type 1} → statement M
+word-below-spec = tie.close (tie.spec word-at-requires returns returns-2)
