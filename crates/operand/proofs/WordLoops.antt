@@ -2,15 +2,15 @@
 -- Each law takes the list that a loop fills, word by word, to the words of given coordinates.
 use mathlib.Core.Path.{_≡_, refl, sym, ap, ap₂, _∙_}
 use mathlib.Core.List.{List, [], _∷_}
-use Prim.Native.Nat.{ℕ, zero, suc, _+_, _-_, _*_, _/_, _%_, _^_, _<_, _≤_}
-use native.Mathlib.Nat.{mod-lt, mod-le, div-eq-of-lt, lt-of-le-of-lt, lt-of-lt-of-le}
+use Prim.Native.Nat.{ℕ, zero, suc, _+_, _-_, _*_, _/_, _%_, _^_, _<_, _≤_, min}
+use native.Mathlib.Nat.{min-zero, add-mul, mul-comm, mul-assoc, mod-add-div', add-mul-mod-self-right, mod-lt, mod-le, div-eq-of-lt, lt-of-le-of-lt, lt-of-lt-of-le}
 use native.Mathlib.Decide.{decLt, ℕ-discrete}
 use native.Mathlib.Numerals.{add-one}
 use native.Mathlib.Omega.{arith}
 use lib.Dec.{eqb}
 use lib.ListN.{length, getD}
-use lib.Bits.{bitOr, or-add-and, and-le-l, and-le-r, or-zero-l, bitXor, xor-lt}
-use lib.Pow.{pow-pos, pow-mono, shr-shr, shr-le}
+use lib.Bits.{bitOr, or-lt, or-comm, or-shr, or-add-and, and-step, and-le-l, and-le-r, or-zero-l, bitXor, xor-lt}
+use lib.Pow.{pow-pos, pow-mono, pow-add, shr-shr, shr-le}
 use borrow.Author.Tests.{eq-eqb, eqb-true}
 use Rattle.gf2.specs.Coordinates.{coord, value, tabulate}
 use Rattle.gf2.specs.Operands.{carriedBytes, below, isClear}
@@ -41,6 +41,55 @@ pair-low low high i h = let e : i ≡ 0 * 64 + i = omega arith in ap (wordCoord 
 
 pair-high : (low high i : ℕ) → 64 ≤ i → i < 128 → wordCoord (low ∷ high ∷ []) i ≡ high / 2 ^ (i - 64) % 2
 pair-high low high i h l = let e : i ≡ 1 * 64 + (i - 64) = omega arith in ap (wordCoord (low ∷ high ∷ [])) e ∙ word-digit (low ∷ high ∷ []) 1 (i - 64) (omega arith)
+
+-- a bit of x | y where y has 0
+or-left : (x y j : ℕ) → y / 2 ^ j % 2 ≡ 0 → bitOr x y / 2 ^ j % 2 ≡ x / 2 ^ j % 2
+or-left x y j e =
+    let d = ap (min (x / 2 ^ j % 2)) e ∙ min-zero (x / 2 ^ j % 2) in
+    rw or-shr (omega (arith, or-add-and (x / 2 ^ j) (y / 2 ^ j), and-step (x / 2 ^ j) (y / 2 ^ j), d))
+
+-- two words in a row, from bit t of the first on
+pair-word : (low high t : ℕ) → low < 2 ^ 64 → t ≤ 64 → bitOr (low / 2 ^ t) (high * 2 ^ (64 - t) % 2 ^ 64) ≡ value 64 (λ j. wordCoord (low ∷ high ∷ []) (t + j))
+pair-word low high t hl ht = value-eq 64 _ _ (or-lt 64 _ _ (lt-of-le-of-lt (shr-le low t) hl) (mod-lt _ (pow-pos 64))) (λ j l. elim (decLt (t + j) 64) [
+  | yes q ↦
+      or-left (low / 2 ^ t) up j (shl-bit-out high 64 (64 - t) j (omega arith) l)
+      ∙ omega (arith, shr-shr low t j, pair-low low high (t + j) q)
+  | no q ↦
+      let none = div-eq-of-lt (lt-of-lt-of-le hl (pow-mono {i = 64} {j = t + j} (omega arith))) in
+      let place : j - (64 - t) ≡ t + j - 64 = omega arith in
+      ap (λ y. y / 2 ^ j % 2) (or-comm (low / 2 ^ t) up)
+      ∙ or-left up (low / 2 ^ t) j (omega (arith, shr-shr low t j))
+      ∙ shl-bit high 64 (64 - t) j (omega arith) l
+      ∙ ap (λ k. high / 2 ^ k % 2) place
+      ∙ omega (arith, pair-high low high (t + j) (omega arith) (omega arith))
+])
+  where
+    up : ℕ
+    up = high * 2 ^ (64 - t) % 2 ^ 64
+
+mod-mul : (x y n : ℕ) → x % n * y % n ≡ x * y % n
+mod-mul x y n =
+    sym (ap (λ z. z * y % n) (sym (mod-add-div' x n)) ∙ ap (λ z. z % n) (add-mul (x % n) (x / n * n) y ∙ ap (λ z. x % n * y + z) swap) ∙ add-mul-mod-self-right (x % n * y) (x / n * y) n)
+  where
+    swap : x / n * n * y ≡ x / n * y * n
+    swap = mul-assoc (x / n) n y ∙ ap (λ z. x / n * z) (mul-comm n y) ∙ sym (mul-assoc (x / n) y n)
+
+-- the same by shifts below 64, one of them made of two
+pub lower-pair : (low high skip : ℕ) → low < 2 ^ 64 → skip < 64
+    → bitOr (low / 2 ^ skip) (high * 2 ^ 1 % 2 ^ 64 * 2 ^ (63 - skip) % 2 ^ 64) ≡ value 64 (λ j. wordCoord (low ∷ high ∷ []) (skip + j))
+lower-pair low high skip hl hs =
+    let e : 1 + (63 - skip) ≡ 64 - skip = omega arith in
+    ap (bitOr (low / 2 ^ skip)) (mod-mul (high * 2 ^ 1) (2 ^ (63 - skip)) (2 ^ 64) ∙ ap (λ x. x % 2 ^ 64) (mul-assoc high (2 ^ 1) (2 ^ (63 - skip)) ∙ ap (λ x. high * x) (sym (pow-add 2 1 (63 - skip)) ∙ ap (λ k. 2 ^ k) e)))
+    ∙ pair-word low high skip hl (omega arith)
+
+pub raise-pair : (low high skip : ℕ) → low < 2 ^ 64 → skip < 64
+    → bitOr (high * 2 ^ skip % 2 ^ 64) (low / 2 ^ 1 / 2 ^ (63 - skip)) ≡ value 64 (λ j. wordCoord (low ∷ high ∷ []) (64 - skip + j))
+raise-pair low high skip hl hs =
+    let d : 1 + (63 - skip) ≡ 64 - skip = omega arith in
+    let e : skip ≡ 64 - (64 - skip) = omega arith in
+    or-comm (high * 2 ^ skip % 2 ^ 64) _
+    ∙ ap₂ (λ x k. bitOr x (high * 2 ^ k % 2 ^ 64)) (shr-shr low 1 (63 - skip) ∙ ap (λ k. low / 2 ^ k) d) e
+    ∙ pair-word low high (64 - skip) hl (omega arith)
 
 -- two words in a row, from bit `skip` of the first on
 pub straddle-word : (low high skip : ℕ) → low < 2 ^ 64 → skip < 64

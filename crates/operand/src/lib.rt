@@ -31,6 +31,8 @@ pub use judge::judge_pair;
 pub use judge::judge_turn;
 pub use judge::judge_width;
 pub use words::low_words;
+pub use words::lower_pair;
+pub use words::raise_pair;
 pub use words::slice_words;
 pub use words::to_bytes;
 pub use words::to_words;

@@ -1,6 +1,8 @@
 // A carried operand in words of 64 bits: coordinate i is bit i % 64 of word i / 64.
-// The way from bytes to words and back, by whole words where the bytes reach; sums, and the coordinates below a width.
+// The way from bytes to words and back, by whole words where the bytes reach; sums, the coordinates below a width, and two
+// words in a row shifted.
 ghost use mathlib.Core.Path.{_≡_};
+ghost use mathlib.Core.List.{[], _∷_};
 ghost use Prim.Native.Nat.{ℕ, _+_, _-_, _*_, _/_, _%_, _^_, _<_, _≤_};
 ghost use lib.ListN.{length, getD};
 ghost use lib.Bits.{bitAnd};
@@ -230,4 +232,21 @@ pub fn xored_words(x: [u64; Operand::WORDS], y: [u64; Operand::WORDS]) -> [u64; 
         w += 1;
     }
     out
+}
+
+// Two words in a row, from bit s modulo 64 of the first on. A shift by 64 is made of two; `|` and the shifts are compiled to
+// one shift of two words.
+pub fn lower_pair(low: u64, high: u64, s: usize) -> u64
+    ensures { λ r. ⌜ r ≡ value 64 (λ j. wordCoord (low ∷ high ∷ []) (s % 64 + j)) ⌝ }
+{
+    let skip = s % 64;
+    (low >> skip) | ((high << 1) << (63 - skip))
+}
+
+// Two words in a row, moved up by s modulo 64: the upper of the two that come out.
+pub fn raise_pair(low: u64, high: u64, s: usize) -> u64
+    ensures { λ r. ⌜ r ≡ value 64 (λ j. wordCoord (low ∷ high ∷ []) (64 - s % 64 + j)) ⌝ }
+{
+    let skip = s % 64;
+    (high << skip) | ((low >> 1) >> (63 - skip))
 }

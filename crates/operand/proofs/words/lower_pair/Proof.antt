@@ -1,0 +1,22 @@
+-- `operand::words::lower_pair` meets its contract.
+use Prim.Native.Nat.{_%_}
+use native.Mathlib.Omega.{arith}
+use Rattle.operand.proofs.WordLoops.{lower-pair}
+use borrow.Author.Needs.{needs}
+use Rattle.operand.proofs.words.lower_pair.Statement.{statement}
+use Rattle.operand.proofs.words.lower_pair.Tie as tie
+
+shr-result : tie.Need-shr-result
+shr-result c = search needs
+
+sub-result : tie.Need-sub-result
+sub-result c = search needs
+
+shl-result : tie.Need-shl-result
+shl-result c = search needs
+
+returns : tie.Need-returns
+returns c = lower-pair (c .args .low) (c .args .high) (c .args .s % 64) (c .fits .low .fits) (omega arith)
+
+pub lower-pair-spec : {M : Type 1} → statement M
+lower-pair-spec = tie.close (tie.spec shr-result sub-result shl-result returns)
