@@ -1,20 +1,22 @@
 -- A call on operands of W bytes: it judges the lengths, carries the operands, calls the crate below, and writes the result.
--- Lengths: what holds where no length is at fault.
--- Works: what the call below then gives. whole, written: the call's fault, and the bytes of its result.
+-- Begins: the causes of the lengths stand first. refused, kept, refuses: a call whose lengths are at fault.
+-- One, Two: what holds where no length is at fault. Works: what the call below then gives. done: the call's fault, and the bytes of its result.
 -- The rest says of each call below what it gives for carried operands: the faults after the lengths, and the carried result.
 use mathlib.Core.Path.{_≡_, refl, sym, ap, ap₂, _∙_}
-use mathlib.Core.Bool.{Bool, true, false}
+use mathlib.Core.Bool.{Bool, true, false, not}
 use mathlib.Core.List.{List, [], _∷_, _++_}
 use Prim.Native.Nat.{ℕ, _*_, _%_, _<_, _≤_}
 use native.Mathlib.Omega.{arith}
 use lib.Dec.{eqb}
 use lib.ListN.{length}
-use borrow.Author.Tests.{le-leb}
+use borrow.Author.Tests.{le-leb, not-true, not-false}
 use Rattle.gf2.specs.Sums.{sum}
+use Rattle.gf2.specs.Coordinates.{coord, pack}
 use Rattle.gf2.specs.Operands.{maxWidth, bytesFor, carriedBytes, choose, IsOperand, zeroes, added, turned}
 use Rattle.gf2.specs.Quadratic.{trace, root}
 use Rattle.gf2.specs.Products.{product, reduced}
 use Rattle.gf2.specs.Inverse.{inverse, productsMade}
+use Rattle.gf2.proofs.Coordinates.{pack-coord}
 use Rattle.gf2.proofs.Operands.{from-operand, clear-at}
 use Rattle.operand.specs.declared.Operand.{Operand}
 use Rattle.operand.specs.declared.OperandAnswer.{OperandAnswer}
@@ -23,10 +25,9 @@ use Rattle.operand.specs.declared.fault.Fault.{Fault}
 use Rattle.operand.specs.declared.fault.Fault.the-variants.{None, InverseOfZero, TraceOne}
 use Rattle.operand.specs.Faults.{isNone, when, orElse, firstOf}
 use Rattle.operand.specs.Judgements.{widthFault, lengthFault, highFault, turnFault, traceFault, operandFault, pairFault, bytesFault}
-use Rattle.operand.specs.Calls.{chooseBytes, answer, readCall, writeCall, turnCall, sumCall, traceCall, solveCall}
-use Rattle.operand.proofs.FaultLaws.{or-second, or-none, or-both, or-cong, or-assoc, width-fine, length-fine, high-fine}
-use Rattle.operand.proofs.FaultFree.{IsWidth, carry, width-none, length-none, high-none}
-use Rattle.operand.proofs.CallTheorems.{call-laws}
+use Rattle.operand.specs.Calls.{chooseBytes, answer, readCall, turnCall, sumCall, traceCall, solveCall}
+use Rattle.operand.proofs.FaultLaws.{judged, or-first, or-second, or-none, or-both, or-cong, or-assoc, width-fine, length-fine, high-fine}
+use Rattle.operand.proofs.FaultFree.{IsWidth, carry, width-none, length-none}
 use Rattle.operand.proofs.ByteLoops.{Bytes}
 use Rattle.table.specs.Rows.{carriedBy}
 use Rattle.table.specs.Judgements.{same, rowsFault, rowZeroFault, rowPairFault}
@@ -35,6 +36,7 @@ use Rattle.table.proofs.Carrying.{carried-from, same-carried}
 use Rattle.product.specs.declared.InverseAnswer.{InverseAnswer}
 use Rattle.product.specs.Judgements.{productFault, reducedFault, zeroFault, inverseFault}
 use Rattle.product.specs.Calls.{productCall, reducedCall, inverseCall}
+use Rattle.nb.specs.Packing.{packedAnswer}
 use Rattle.nb.specs.Judgements.{turnBytesFault, sumBytesFault, solveBytesFault, productBytesFault, reducedBytesFault, zeroBytesFault, inverseBytesFault}
 use Rattle.nb.specs.Inner.{oneSizes, twoSizes, carriedAs}
 use Rattle.nb.proofs.CarryLaws.{HasBytes, same-coord, high-carried, turned-carried, turned-is, root-carried, root-is, added-carried, added-is, product-carried, product-is, reduced-carried, reduced-is, inverse-carried, inverse-is, count-carried}
@@ -45,34 +47,69 @@ unfolding firstOf
 first-append [] gs = or-second None _ (none-true refl)
 first-append (f ∷ fs) gs = or-assoc f _ _ ∙ ap (orElse f) (first-append fs gs)
 
+module _ (sizes own : List Fault) {s : Fault} {b : Bool} (e : s ≡ firstOf sizes) (t : b ≡ isNone s) where
+  pub append-ends : not b ≡ true → s ≡ firstOf (sizes ++ own)
+  append-ends q = e ∙ sym (or-first _ (firstOf own) (judged e t (not-true b q))) ∙ first-append sizes own
+
+  pub append-goes : {f : Fault} → not b ≡ false → f ≡ firstOf own → f ≡ firstOf (sizes ++ own)
+  append-goes q h = h ∙ sym (or-second (firstOf sizes) _ (judged e t (not-false b q))) ∙ first-append sizes own
+
+-- the fault `judged` of a call: that of its lengths, or that of its own causes
+pub record Begins (sizes own : List Fault) (judged : Fault) : Type 0 where
+  pub all : judged ≡ firstOf (sizes ++ own)
+
+-- the lengths are at fault, and nothing is done
+module _ {sizes own : List Fault} {f s : Fault} {b : Bool} (call : Begins sizes own f) (e : s ≡ firstOf sizes) (t : b ≡ isNone s) (q : not b ≡ true) where
+  pub refused : s ≡ f
+  refused = append-ends sizes own e t q ∙ sym (call .all)
+
+  none : isNone f ≡ false
+  none = judged refused t (not-true b q)
+
+  pub kept : (z old : List ℕ) → old ≡ chooseBytes (isNone f) z old
+  kept z old = sym (ap (λ b. chooseBytes b z old) none)
+
+  pub refuses : {n : ℕ} (first second : ℕ) → n ≡ packedAnswer s 0 0 → n ≡ packedAnswer f first second
+  unfolding packedAnswer
+  refuses first second h = h ∙ ap (λ s. packedAnswer s 0 0) refused ∙ rw none
+
 width-of : (m : ℕ) → isNone (widthFault m) ≡ true → IsWidth m
 width-of m e = let w = width-fine m e in record { least = w .0; greatest = w .1 }
 
--- an operand and a result whose lengths are not at fault
-pub record One (m : ℕ) (a old : List ℕ) : Type 0 where
+-- a width that has passed is carried as it is
+is-carry : {m : ℕ} → IsWidth m → (a : List ℕ) → carriedAs m a ≡ carry m (carriedBy a)
+is-carry {m} w a = ap (λ b. record { bytes = carriedBy a; width = choose b m 0 }) (le-leb m maxWidth (w .greatest))
+
+-- an operand, as it is carried, and a result whose lengths are not at fault
+pub record One (m : ℕ) (a old : List ℕ) (x : Operand) : Type 0 where
   pub width : IsWidth m
   pub operand : HasBytes m a
+  pub carried : x ≡ carry m (carriedBy a)
   pub room : length old ≡ bytesFor m
 
-pub one-fine : (m : ℕ) (a old : List ℕ) → isNone (firstOf (oneSizes m (length a) (length old))) ≡ true → One m a old
+pub one-fine : (m : ℕ) (a old : List ℕ) {s : Fault} {b : Bool} {x : Operand} → s ≡ firstOf (oneSizes m (length a) (length old)) → b ≡ isNone s → not b ≡ false
+    → x ≡ carriedAs m a → One m a old x
 unfolding firstOf
-one-fine m a old e =
-    let w = or-both _ _ e in
+one-fine m a old {b = b} e t q c =
+    let w = or-both _ _ (judged e t (not-false b q)) in
     let l = or-both _ _ (w .1) in
     let r = or-both _ _ (l .1) in
     let width = width-of m (w .0) in
-    record { width = width; operand = record { greatest = width .greatest; size = length-fine _ _ (l .0) }; room = length-fine _ _ (r .0) }
+    record { width = width; operand = record { greatest = width .greatest; size = length-fine _ _ (l .0) }; carried = c ∙ is-carry width a; room = length-fine _ _ (r .0) }
 
-pub record Two (m : ℕ) (a b old : List ℕ) : Type 0 where
+pub record Two (m : ℕ) (a b old : List ℕ) (x y : Operand) : Type 0 where
   pub width : IsWidth m
   pub left : HasBytes m a
   pub right : HasBytes m b
+  pub isLeft : x ≡ carry m (carriedBy a)
+  pub isRight : y ≡ carry m (carriedBy b)
   pub room : length old ≡ bytesFor m
 
-pub two-fine : (m : ℕ) (a b old : List ℕ) → isNone (firstOf (twoSizes m (length a) (length b) (length old))) ≡ true → Two m a b old
+pub two-fine : (m : ℕ) (a b old : List ℕ) {s : Fault} {c : Bool} {x y : Operand} → s ≡ firstOf (twoSizes m (length a) (length b) (length old)) → c ≡ isNone s → not c ≡ false
+    → x ≡ carriedAs m a → y ≡ carriedAs m b → Two m a b old x y
 unfolding firstOf
-two-fine m a b old e =
-    let w = or-both _ _ e in
+two-fine m a b old {c = c} e t q p h =
+    let w = or-both _ _ (judged e t (not-false c q)) in
     let l = or-both _ _ (w .1) in
     let k = or-both _ _ (l .1) in
     let r = or-both _ _ (k .1) in
@@ -81,6 +118,8 @@ two-fine m a b old e =
       width = width;
       left = record { greatest = width .greatest; size = length-fine _ _ (l .0) };
       right = record { greatest = width .greatest; size = length-fine _ _ (k .0) };
+      isLeft = p ∙ is-carry width a;
+      isRight = h ∙ is-carry width b;
       room = length-fine _ _ (r .0);
     }
 
@@ -92,37 +131,38 @@ pub record Works (m : ℕ) (own : List Fault) (z old : List ℕ) (f : Fault) (v 
   pub operand : IsOperand (bytesFor m) m z
   pub room : length old ≡ bytesFor m
 
+-- what a call does with the fault f and the operand v of the call below
+abbrev Settled : List ℕ → Fault → Operand → Fault → List ℕ → Type 0
+Settled old f v fault new = (fault ≡ f) × (new ≡ chooseBytes (isNone fault) (pack (length old) (coord (v .bytes))) old)
+
 -- an operand is written as its W bytes
-writes : {m : ℕ} {z : List ℕ} (old : List ℕ) → IsWidth m → IsOperand (bytesFor m) m z → length old ≡ bytesFor m → writeCall (carry m (carriedBy z)) old ≡ z
-unfolding answer isNone
+writes : {m : ℕ} {z : List ℕ} (old : List ℕ) → IsWidth m → IsOperand (bytesFor m) m z → length old ≡ bytesFor m → pack (length old) (coord (carriedBy z)) ≡ z
 writes {m} {z} old w o size =
-    rw none at (call-laws .writtenRead m z old (o .byte) none (size ∙ sym (o .size)))
-  where
-    none : bytesFault m z ≡ None
-    none = unfold bytesFault firstOf orElse isNone in rw (width-none m w, length-none _ _ (o .size), high-none m z o)
+    ap₂ pack (size ∙ sym (o .size)) (same-coord (record { greatest = w .greatest; size = o .size })) ∙ sym (pack-coord z (o .byte))
 
 -- the call has the fault `judged`, and leaves z in its result where that is none
 pub record Done (judged : Fault) (z old : List ℕ) (given : Fault) (new : List ℕ) : Type 0 where
   pub fault : given ≡ judged
   pub bytes : new ≡ chooseBytes (isNone judged) z old
 
-module _ {m : ℕ} (sizes own : List Fault) {z old : List ℕ} {s f fault : Fault} {v : Operand} (e : s ≡ firstOf sizes) (j : fault ≡ orElse s f)
-    (h : isNone (firstOf sizes) ≡ true → Works m own z old f v) where
-  whole : fault ≡ firstOf (sizes ++ own)
-  whole = j ∙ ap (λ s. orElse s f) e ∙ or-cong (firstOf sizes) (λ n. h n .fault) ∙ first-append sizes own
+done : {m : ℕ} {sizes own : List Fault} {judged : Fault} {z old : List ℕ} {s f fault : Fault} {b : Bool} {v : Operand} {new : List ℕ}
+    → Begins sizes own judged → s ≡ firstOf sizes → b ≡ isNone s → not b ≡ false → Works m own z old f v → Settled old f v fault new → Done judged z old fault new
+done {m} {sizes} {own} {judged} {z} {old} {s} {f} {fault} {b} {v} {new} call e t q w (p, r) = record {
+  fault = whole;
+  bytes = r ∙ go (isNone fault) refl ∙ ap (λ f. chooseBytes (isNone f) z old) whole;
+}
+  where
+    whole : fault ≡ judged
+    whole = p ∙ append-goes sizes own e t q (w .fault) ∙ sym (call .all)
 
-  written : {new : List ℕ} → new ≡ chooseBytes (isNone fault) (writeCall v old) old → new ≡ chooseBytes (isNone (firstOf (sizes ++ own))) z old
-  written q = q ∙ ap (λ f. chooseBytes (isNone f) (writeCall v old) old) whole ∙ go (isNone (firstOf (sizes ++ own))) refl
-    where
-      go : (b : Bool) → isNone (firstOf (sizes ++ own)) ≡ b → chooseBytes b (writeCall v old) old ≡ chooseBytes b z old
-      go true n =
-          let both = or-both (firstOf sizes) (firstOf own) (ap isNone (first-append sizes own) ∙ n) in
-          let w = h (both .0) in
-          ap (λ v. writeCall v old) (w .value (both .1)) ∙ writes old (w .width) (w .operand) (w .room)
-      go false n = refl
+    go : (b : Bool) → isNone fault ≡ b → chooseBytes b (pack (length old) (coord (v .bytes))) old ≡ chooseBytes b z old
+    go true n = ap (λ (v : Operand). pack (length old) (coord (v .bytes))) (w .value (ap isNone (sym (p ∙ w .fault)) ∙ n)) ∙ writes old (w .width) (w .operand) (w .room)
+    go false n = refl
 
-  done : {new : List ℕ} → new ≡ chooseBytes (isNone fault) (writeCall v old) old → Done (firstOf (sizes ++ own)) z old fault new
-  done q = record { fault = whole; bytes = written q }
+-- a call that returns nothing beside its fault
+pub answered : {judged given : Fault} {z old new : List ℕ} {n : ℕ} → Done judged z old given new → n ≡ packedAnswer given 0 0
+    → (n ≡ packedAnswer judged 0 0) × (new ≡ chooseBytes (isNone judged) z old)
+answered d e = (e ∙ ap (λ f. packedAnswer f 0 0) (d .fault), d .bytes)
 
 -- what stands in the answer of a call below
 answer-fault : {g : Fault} (m : ℕ) (x : List ℕ) {r : OperandAnswer} → r ≡ answer g m x → r .fault ≡ g
@@ -145,11 +185,7 @@ answers {m} own {z} {x} {old} {g} e q y w o room = record {
 }
 
 module _ {m : ℕ} (w : IsWidth m) where
-  -- a width that has passed is carried as it is
-  pub is-carry : (a : List ℕ) → carriedAs m a ≡ carry m (carriedBy a)
-  is-carry a = ap (λ b. record { bytes = carriedBy a; width = choose b m 0 }) (le-leb m maxWidth (w .greatest))
-
-  -- and is not at fault again
+  -- a width that has passed is not at fault again
   same-width : isNone (widthFault m) ≡ true
   same-width = none-true (width-none m w)
 
@@ -206,70 +242,97 @@ trace-carried : {m : ℕ} {a : List ℕ} → HasBytes m a → trace m (carriedBy
 unfolding trace
 trace-carried {m} h = ap (λ f. sum m f % 2) (same-coord h)
 
--- what a call does with the fault of its lengths s, and the fault f and the operand v of the call below
-abbrev Joined : List ℕ → Fault → Fault → Operand → Fault → List ℕ → Type 0
-Joined old s f v fault new = (fault ≡ orElse s f) × (new ≡ chooseBytes (isNone fault) (writeCall v old) old)
-
-module _ (m : ℕ) (a old : List ℕ) {s fault : Fault} {x : Operand} {r : OperandAnswer} {new : List ℕ}
-    (sizes : s ≡ firstOf (oneSizes m (length a) (length old))) (carried : x ≡ carriedAs m a) (joined : Joined old s (r .fault) (r .value) fault new) where
-  pub turn-done : (k : ℕ) → r ≡ turnCall x k → Done (turnBytesFault m a k old) (turned m k a) old fault new
+-- the causes of each call: those of its lengths, and its own
+module _ (m : ℕ) (a old : List ℕ) where
+  pub turn-begins : (k : ℕ) → Begins (oneSizes m (length a) (length old)) (highFault m a ∷ turnFault m k ∷ []) (turnBytesFault m a k old)
   unfolding turnBytesFault
-  turn-done k e = done (oneSizes m (length a) (length old)) (highFault m a ∷ turnFault m k ∷ []) sizes (joined .0) (λ n.
-      let one = one-fine m a old n in
-      answers _ (e ∙ ap (λ x. turnCall x k) (carried ∙ is-carry (one .width) a)) (ap (λ f. firstOf (f ∷ turnFault m k ∷ [])) (operand-high (one .width) (one .operand)))
-      (turned-carried (one .operand) k) (one .width) (turned-is (one .operand) k) (one .room)) (joined .1)
+  turn-begins k = record { all = refl }
+
+  pub solve-begins : Begins (oneSizes m (length a) (length old)) (highFault m a ∷ traceFault m a ∷ []) (solveBytesFault m a old)
+  unfolding solveBytesFault
+  solve-begins = record { all = refl }
+
+  pub inverse-begins : (t : List ℕ) → Begins (oneSizes m (length a) (length old)) (inverseOwn m t a) (inverseBytesFault m t a old)
+  unfolding inverseBytesFault
+  inverse-begins t = record { all = refl }
+
+module _ (m : ℕ) (a b old : List ℕ) where
+  pub sum-begins : Begins (twoSizes m (length a) (length b) (length old)) (highFault m a ∷ highFault m b ∷ []) (sumBytesFault m a b old)
+  unfolding sumBytesFault
+  sum-begins = record { all = refl }
+
+  pub product-begins : (t : List ℕ) → Begins (twoSizes m (length a) (length b) (length old)) (productOwn m t a b) (productBytesFault m t a b old)
+  unfolding productBytesFault
+  product-begins t = record { all = refl }
+
+  pub reduced-begins : (t : List ℕ) → Begins (twoSizes m (length a) (length b) (length old)) (productOwn m t a b ++ (rowZeroFault m t ∷ rowPairFault m t ∷ [])) (reducedBytesFault m t a b old)
+  unfolding reducedBytesFault
+  reduced-begins t = record { all = refl }
+
+-- each call, from its lengths to its result
+module _ (m : ℕ) (a old : List ℕ) {s fault : Fault} {b : Bool} {x : Operand} {r : OperandAnswer} {new : List ℕ}
+    (sizes : s ≡ firstOf (oneSizes m (length a) (length old))) (t : b ≡ isNone s) (q : not b ≡ false) (carried : x ≡ carriedAs m a)
+    (settled : Settled old (r .fault) (r .value) fault new) where
+  pub turn-done : (k : ℕ) → r ≡ turnCall x k → Done (turnBytesFault m a k old) (turned m k a) old fault new
+  turn-done k e =
+      let one = one-fine m a old sizes t q carried in
+      done (turn-begins m a old k) sizes t q (answers _ (e ∙ ap (λ x. turnCall x k) (one .carried)) (ap (λ f. firstOf (f ∷ turnFault m k ∷ [])) (operand-high (one .width) (one .operand)))
+      (turned-carried (one .operand) k) (one .width) (turned-is (one .operand) k) (one .room)) settled
 
   pub solve-done : r ≡ solveCall x → Done (solveBytesFault m a old) (root m a) old fault new
-  unfolding solveBytesFault traceFault
-  solve-done e = done (oneSizes m (length a) (length old)) (highFault m a ∷ traceFault m a ∷ []) sizes (joined .0) (λ n.
-      let one = one-fine m a old n in
-      answers _ (e ∙ ap solveCall (carried ∙ is-carry (one .width) a))
+  unfolding traceFault
+  solve-done e =
+      let one = one-fine m a old sizes t q carried in
+      done (solve-begins m a old) sizes t q (answers _ (e ∙ ap solveCall (one .carried))
       (ap₂ (λ f t. firstOf (f ∷ when (eqb t 1) TraceOne ∷ [])) (operand-high (one .width) (one .operand)) (trace-carried (one .operand)))
-      (root-carried (one .operand)) (one .width) (root-is (one .operand)) (one .room)) (joined .1)
+      (root-carried (one .operand)) (one .width) (root-is (one .operand)) (one .room)) settled
 
-module _ (m : ℕ) (a b old : List ℕ) {s fault : Fault} {x y : Operand} {r : OperandAnswer} {new : List ℕ}
-    (sizes : s ≡ firstOf (twoSizes m (length a) (length b) (length old))) (left : x ≡ carriedAs m a) (right : y ≡ carriedAs m b)
-    (joined : Joined old s (r .fault) (r .value) fault new) where
+module _ (m : ℕ) (a b old : List ℕ) {s fault : Fault} {c : Bool} {x y : Operand} {r : OperandAnswer} {new : List ℕ}
+    (sizes : s ≡ firstOf (twoSizes m (length a) (length b) (length old))) (t : c ≡ isNone s) (q : not c ≡ false) (left : x ≡ carriedAs m a) (right : y ≡ carriedAs m b)
+    (settled : Settled old (r .fault) (r .value) fault new) where
+  -- a call below of two operands, with the fault g, and the bytes z of its result carried
+  two-done : (call : Operand → Operand → OperandAnswer) {own : List Fault} {judged g : Fault} {z bytes : List ℕ} → Begins (twoSizes m (length a) (length b) (length old)) own judged
+      → (Two m a b old x y → (call (carry m (carriedBy a)) (carry m (carriedBy b)) ≡ answer g m bytes) × (g ≡ firstOf own) × (bytes ≡ carriedBy z) × IsOperand (bytesFor m) m z)
+      → r ≡ call x y → Done judged z old fault new
+  two-done call begins h e =
+      let two = two-fine m a b old sizes t q left right in
+      let w = h two in
+      done begins sizes t q (answers _ (e ∙ ap₂ call (two .isLeft) (two .isRight) ∙ w .0) (w .1) (w .2) (two .width) (w .3) (two .room)) settled
+
   pub sum-done : r ≡ sumCall x y → Done (sumBytesFault m a b old) (added m a b) old fault new
-  unfolding sumBytesFault
-  sum-done e = done (twoSizes m (length a) (length b) (length old)) (highFault m a ∷ highFault m b ∷ []) sizes (joined .0) (λ n.
-      let two = two-fine m a b old n in
-      answers _ (e ∙ ap₂ sumCall (left ∙ is-carry (two .width) a) (right ∙ is-carry (two .width) b)) (pair-high (two .width) (two .left) (two .right))
-      (added-carried (two .left) (two .right)) (two .width) (added-is (two .left) (two .right)) (two .room)) (joined .1)
+  sum-done = two-done sumCall (sum-begins m a b old) (λ two.
+      (refl, pair-high (two .width) (two .left) (two .right), added-carried (two .left) (two .right), added-is (two .left) (two .right)))
 
   pub product-done : (t : List ℕ) → r ≡ productCall m t x y → Done (productBytesFault m t a b old) (product m t a b) old fault new
-  unfolding productBytesFault
-  product-done t e = done (twoSizes m (length a) (length b) (length old)) (productOwn m t a b) sizes (joined .0) (λ n.
-      let two = two-fine m a b old n in
-      answers _ (e ∙ ap₂ (productCall m t) (left ∙ is-carry (two .width) a) (right ∙ is-carry (two .width) b)) (product-own (two .width) t (two .left) (two .right))
-      (product-carried (two .left) (two .right) t) (two .width) (product-is (two .left) (two .right) t) (two .room)) (joined .1)
+  product-done t = two-done (productCall m t) (product-begins m a b old t) (λ two.
+      (refl, product-own (two .width) t (two .left) (two .right), product-carried (two .left) (two .right) t, product-is (two .left) (two .right) t))
 
   pub reduced-done : (t : List ℕ) → r ≡ reducedCall m t x y → Done (reducedBytesFault m t a b old) (reduced m t a b) old fault new
-  unfolding reducedBytesFault reducedFault
-  reduced-done t e = done (twoSizes m (length a) (length b) (length old)) (productOwn m t a b ++ (rowZeroFault m t ∷ rowPairFault m t ∷ [])) sizes (joined .0) (λ n.
-      let two = two-fine m a b old n in
-      answers _ (e ∙ ap₂ (reducedCall m t) (left ∙ is-carry (two .width) a) (right ∙ is-carry (two .width) b))
-      (first-then _ _ ∙ ap (λ f. orElse f (firstOf (rowZeroFault m t ∷ rowPairFault m t ∷ []))) (product-own (two .width) t (two .left) (two .right)) ∙ first-append (productOwn m t a b) _)
-      (reduced-carried (two .left) (two .right) t) (two .width) (reduced-is (two .left) (two .right) t) (two .room)) (joined .1)
+  unfolding reducedFault
+  reduced-done t = two-done (reducedCall m t) (reduced-begins m a b old t) (λ two. (
+    refl,
+    first-then _ _ ∙ ap (λ f. orElse f (firstOf (rowZeroFault m t ∷ rowPairFault m t ∷ []))) (product-own (two .width) t (two .left) (two .right)) ∙ first-append (productOwn m t a b) _,
+    reduced-carried (two .left) (two .right) t,
+    reduced-is (two .left) (two .right) t,
+  ))
 
 -- the inverse, of which the call below also counts the products
-module _ (m : ℕ) (t a old : List ℕ) (small : Bytes a) {s fault : Fault} {x : Operand} {r : InverseAnswer} {new : List ℕ}
-    (sizes : s ≡ firstOf (oneSizes m (length a) (length old))) (carried : x ≡ carriedAs m a) (joined : Joined old s (r .fault) (r .value) fault new)
-    (e : r ≡ inverseCall m t x) where
+module _ (m : ℕ) (t a old : List ℕ) (small : Bytes a) {s fault : Fault} {b : Bool} {x : Operand} {r : InverseAnswer} {new : List ℕ}
+    (sizes : s ≡ firstOf (oneSizes m (length a) (length old))) (p : b ≡ isNone s) (q : not b ≡ false) (carried : x ≡ carriedAs m a)
+    (settled : Settled old (r .fault) (r .value) fault new) (e : r ≡ inverseCall m t x) where
   pub inverse-done : Done (inverseBytesFault m t a old) (inverse m t a) old fault new
-  unfolding inverseBytesFault
-  inverse-done = done (oneSizes m (length a) (length old)) (inverseOwn m t a) sizes (joined .0) (λ n.
-      let one = one-fine m a old n in
-      answers _ {r = withoutCount r} (ap withoutCount (e ∙ ap (inverseCall m t) (carried ∙ is-carry (one .width) a))) (inverse-own (one .width) t small (one .operand))
-      (inverse-carried t (one .operand)) (one .width) (inverse-is t (one .operand)) (one .room)) (joined .1)
+  inverse-done =
+      let one = one-fine m a old sizes p q carried in
+      done (inverse-begins m a old t) sizes p q (answers _ {r = withoutCount r} (ap withoutCount (e ∙ ap (inverseCall m t) (one .carried))) (inverse-own (one .width) t small (one .operand))
+      (inverse-carried t (one .operand)) (one .width) (inverse-is t (one .operand)) (one .room)) settled
 
   pub inverse-count : isNone (inverseBytesFault m t a old) ≡ true → r .count ≡ productsMade m t a
-  unfolding inverseBytesFault answer
+  unfolding answer
   inverse-count n =
-      let both = or-both (firstOf (oneSizes m (length a) (length old))) (firstOf (inverseOwn m t a)) (ap isNone (first-append (oneSizes m (length a) (length old)) (inverseOwn m t a)) ∙ n) in
-      let one = one-fine m a old (both .0) in
-      ap (λ (r : InverseAnswer). r .count) (e ∙ ap (inverseCall m t) (carried ∙ is-carry (one .width) a))
-      ∙ ap (λ b. choose b (productsMade m t (carriedBy a)) 0) (ap isNone (inverse-own (one .width) t small (one .operand)) ∙ both .1) ∙ count-carried t (one .operand)
+      let one = one-fine m a old sizes p q carried in
+      let own = inverse-own (one .width) t small (one .operand) in
+      ap (λ (r : InverseAnswer). r .count) (e ∙ ap (inverseCall m t) (one .carried))
+      ∙ ap (λ b. choose b (productsMade m t (carriedBy a)) 0) (ap isNone (append-goes (oneSizes m (length a) (length old)) (inverseOwn m t a) sizes p q own ∙ sym (inverse-begins m a old t .all)) ∙ n) ∙ count-carried t (one .operand)
 
 -- the trace of an operand that is read
 module _ (m : ℕ) (a : List ℕ) {q : OperandAnswer} {r : TraceAnswer} (read : q ≡ readCall m a) (e : r ≡ traceCall (q .value)) where

@@ -1,6 +1,6 @@
 -- The runner on operands of W bytes: its fault and its buffers.
 use mathlib.Core.Path.{_≡_, refl, sym, ap, ap₂, _∙_}
-use mathlib.Core.Bool.{true, false}
+use mathlib.Core.Bool.{Bool, false, not}
 use mathlib.Core.List.{List, [], _∷_, _++_}
 use Prim.Native.Nat.{ℕ, _+_, _*_}
 use lib.ListN.{length, getD}
@@ -12,7 +12,7 @@ use Rattle.operand.specs.declared.fault.Fault.the-variants.{None}
 use Rattle.operand.specs.Faults.{isNone, orElse, firstOf}
 use Rattle.operand.specs.Judgements.{lengthFault, highFault}
 use Rattle.operand.specs.Calls.{chooseBytes}
-use Rattle.operand.proofs.FaultLaws.{or-first, or-second}
+use Rattle.operand.proofs.FaultLaws.{or-second}
 use Rattle.operand.proofs.FaultFree.{carry, width-none, length-none}
 use Rattle.table.specs.Rows.{carriedBy}
 use Rattle.table.proofs.Searches.{none-true}
@@ -23,7 +23,7 @@ use Rattle.netlist.specs.Calls.{runResult, runWires}
 use Rattle.nb.specs.Judgements.{runBytesFault}
 use Rattle.nb.specs.Inner.{twoSizes, carriedAs}
 use Rattle.nb.proofs.CarryLaws.{HasBytes, same-coord, high-carried}
-use Rattle.nb.proofs.CallLaws.{first-append, first-then, is-carry, Two, two-fine}
+use Rattle.nb.proofs.CallLaws.{first-append, append-goes, Begins, Two, two-fine, first-then}
 
 -- the runner looks at coordinates alone
 module _ {m : ℕ} {a b : List ℕ} (h : HasBytes m a) (k : HasBytes m b) (list : Netlist) where
@@ -41,14 +41,11 @@ runOwn m list a b ws =
     wordsFault m list ∷ lengthFault (length ws) (2 * m + gateCount list) ∷ highFault m a ∷ highFault m b ∷ gatesFault m list ∷ []
 
 module _ (m : ℕ) (list a b old ws : List ℕ) where
-  abbrev sizes : List Fault
-  sizes = twoSizes m (length a) (length b) (length old)
-
-  all : runBytesFault m list a b old ws ≡ orElse (firstOf sizes) (firstOf (runOwn m list a b ws))
+  pub run-begins : Begins (twoSizes m (length a) (length b) (length old)) (runOwn m list a b ws) (runBytesFault m list a b old ws)
   unfolding runBytesFault
-  all = sym (first-append sizes (runOwn m list a b ws))
+  run-begins = record { all = refl }
 
-  own : Two m a b old → runFault m list (carry m (carriedBy a)) (carry m (carriedBy b)) (length old) (length ws) ≡ firstOf (runOwn m list a b ws)
+  own : {x y : Operand} → Two m a b old x y → runFault m list (carry m (carriedBy a)) (carry m (carriedBy b)) (length old) (length ws) ≡ firstOf (runOwn m list a b ws)
   unfolding runFault
   own two = first-then _ _ ∙ or-second _ _ (none-true widths) ∙ first-then _ _ ∙ ap₂ orElse lengths (first-then _ _ ∙ ap (λ f. orElse f (firstOf (gatesFault m list ∷ []))) bits
       ∙ first-append (highFault m a ∷ highFault m b ∷ []) (gatesFault m list ∷ []))
@@ -65,36 +62,20 @@ module _ (m : ℕ) (list a b old ws : List ℕ) where
       bits : bitsFault m (carriedBy a) (carriedBy b) ≡ firstOf (highFault m a ∷ highFault m b ∷ [])
       bits = unfold bitsFault in ap₂ (λ f g. firstOf (f ∷ g ∷ [])) (high-carried (two .left)) (high-carried (two .right))
 
-  -- the lengths are at fault: nothing is run
-  module _ {s : Fault} (e : s ≡ firstOf sizes) (n : isNone s ≡ false) where
-    pub run-refused : s ≡ runBytesFault m list a b old ws
-    run-refused = e ∙ sym (or-first _ _ (ap isNone (sym e) ∙ n)) ∙ sym all
-
-    pub run-kept : (z x : List ℕ) → x ≡ chooseBytes (isNone (runBytesFault m list a b old ws)) z x
-    run-kept z x = sym (ap (λ b. chooseBytes b z x) (ap isNone (sym run-refused) ∙ n))
-
-  -- they are not: what the runner gives for the carried operands
-  module _ {s f : Fault} {x y : Operand} (e : s ≡ firstOf sizes) (n : isNone s ≡ true) (left : x ≡ carriedAs m a) (right : y ≡ carriedAs m b)
-      (q : f ≡ runFault m list x y (length old) (length ws)) where
-    none : isNone (firstOf sizes) ≡ true
-    none = ap isNone (sym e) ∙ n
-
-    two : Two m a b old
-    two = two-fine m a b old none
-
-    isLeft : x ≡ carry m (carriedBy a)
-    isLeft = left ∙ is-carry (two .width) a
-
-    isRight : y ≡ carry m (carriedBy b)
-    isRight = right ∙ is-carry (two .width) b
+  -- what the runner gives for the carried operands, where no length is at fault
+  module _ {s f : Fault} {c : Bool} {x y : Operand} (e : s ≡ firstOf (twoSizes m (length a) (length b) (length old))) (t : c ≡ isNone s) (q : not c ≡ false)
+      (left : x ≡ carriedAs m a) (right : y ≡ carriedAs m b) (r : f ≡ runFault m list x y (length old) (length ws)) where
+    two : Two m a b old x y
+    two = two-fine m a b old e t q left right
 
     pub run-fault : f ≡ runBytesFault m list a b old ws
-    run-fault = q ∙ ap₂ (λ x y. runFault m list x y (length old) (length ws)) isLeft isRight ∙ own two ∙ sym (all ∙ or-second _ _ none)
+    run-fault = append-goes (twoSizes m (length a) (length b) (length old)) (runOwn m list a b ws) e t q
+        (r ∙ ap₂ (λ x y. runFault m list x y (length old) (length ws)) (two .isLeft) (two .isRight) ∙ own two) ∙ sym (run-begins .all)
 
     pub run-result : {new : List ℕ} → new ≡ runResult f m list x y old → new ≡ chooseBytes (isNone (runBytesFault m list a b old ws)) (result (bytesFor m) m (readList list m) a b) old
-    run-result r = r ∙ ap₂ (λ x y. runResult f m list x y old) isLeft isRight
+    run-result h = h ∙ ap₂ (λ x y. runResult f m list x y old) (two .isLeft) (two .isRight)
         ∙ ap₂ (λ f z. chooseBytes (isNone f) z old) run-fault (result-carried (two .left) (two .right) (readList list m) (bytesFor m))
 
     pub run-wires : {new : List ℕ} → new ≡ runWires f m list x y ws → new ≡ chooseBytes (isNone (runBytesFault m list a b old ws)) (wires m (readList list m) a b) ws
-    run-wires r = r ∙ ap₂ (λ x y. runWires f m list x y ws) isLeft isRight
+    run-wires h = h ∙ ap₂ (λ x y. runWires f m list x y ws) (two .isLeft) (two .isRight)
         ∙ ap₂ (λ f z. chooseBytes (isNone f) z ws) run-fault (wires-carried (two .left) (two .right) (readList list m))

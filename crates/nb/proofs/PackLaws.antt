@@ -22,7 +22,7 @@ use Rattle.netlist.specs.Running.{gateCount}
 use Rattle.netlist.specs.Judgements.{wordsFault, isGate, isOutput, gatesFault}
 use Rattle.gaussian.specs.Types.{typeOf}
 use Rattle.gaussian.specs.Calls.{typeFault}
-use Rattle.nb.specs.Packing.{packedAnswer, Small}
+use Rattle.nb.specs.Packing.{packedAnswer, Small, Packs}
 use Rattle.nb.specs.Judgements.{turnBytesFault, sumBytesFault, solveBytesFault, productBytesFault, reducedBytesFault, zeroBytesFault, inverseBytesFault, runBytesFault}
 
 -- equal faults and, where these are none, equal values make equal answers
@@ -37,6 +37,10 @@ answer-same {f} {g} {x} {y} {u} {v} e h = ap (λ k. packedAnswer k x u) e ∙ go
 -- a fault beside which nothing is returned
 pub bare : (f : Fault) → numberOf f .1 ≡ 0 → numberOf f .2 ≡ 0 → Small f
 bare f p q = record { first = omega arith; second = omega arith }
+
+-- an answer with nothing beside its fault
+pub packs : {f g : Fault} → f ≡ g → Small g → Packs f 0 0
+packs e s = (rw e s, λ n. (omega arith, omega arith))
 
 small-when : (b : Bool) (f : Fault) → Small f → Small (when b f)
 small-when true f s = s

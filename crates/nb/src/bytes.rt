@@ -1,32 +1,41 @@
 // W bytes and carried operands: the lengths of a call, an operand as it is carried, a result written.
 ghost use mathlib.Core.Path.{_≡_};
-ghost use Rattle.operand.specs.Faults.{isNone, orElse, firstOf};
-ghost use Rattle.operand.specs.Calls.{chooseBytes, writeCall};
+ghost use lib.ListN.{length};
+ghost use Rattle.gf2.specs.Coordinates.{coord, pack};
+ghost use Rattle.operand.specs.Faults.{isNone, firstOf};
+ghost use Rattle.operand.specs.Calls.{chooseBytes};
 ghost use Rattle.nb.specs.Inner.{oneSizes, twoSizes, narrowed, carriedAs};
 use operand::Fault;
 use operand::Operand;
 use operand::OperandAnswer;
 use operand::judge_length;
 use operand::judge_width;
-use operand::or_else;
 
 // The lengths of an operand and a result.
 pub(crate) fn judge_one(m: usize, a: usize, result: usize) -> Fault
     ensures { λ r. ⌜ r ≡ firstOf (oneSizes m a result) ⌝ }
 {
+    let fault = judge_width(m);
+    if !operand::is_none(fault) {
+        return fault;
+    }
     let size = operand::bytes_for(m);
-    let lengths = or_else(judge_length(a, size), judge_length(result, size));
-    or_else(judge_width(m), lengths)
+    let first = judge_length(a, size);
+    if !operand::is_none(first) {
+        return first;
+    }
+    judge_length(result, size)
 }
 
 // The lengths of two operands and a result.
 pub(crate) fn judge_two(m: usize, a: usize, b: usize, result: usize) -> Fault
     ensures { λ r. ⌜ r ≡ firstOf (twoSizes m a b result) ⌝ }
 {
-    let size = operand::bytes_for(m);
-    let last = or_else(judge_length(b, size), judge_length(result, size));
-    let lengths = or_else(judge_length(a, size), last);
-    or_else(judge_width(m), lengths)
+    let fault = judge_one(m, a, b);
+    if !operand::is_none(fault) {
+        return fault;
+    }
+    judge_length(result, operand::bytes_for(m))
 }
 
 fn narrow(m: usize) -> u16
@@ -46,15 +55,15 @@ pub(crate) fn carry(m: usize, s: &[u8]) -> Operand
     }
 }
 
-// The end of a call whose lengths have the fault `sizes` and which the call below answers: the whole fault, and the result written.
-pub(crate) fn settle(sizes: Fault, answer: OperandAnswer, result: &mut [u8]) -> Fault
-    ensures { λ r. ⌜ (r ≡ orElse sizes (answer .fault)) × (now (result .exit) ≡ chooseBytes (isNone r) (writeCall (answer .value) (now (result .entry))) (now (result .entry))) ⌝ }
+// The end of a call whose lengths have no fault: the fault of the call below, and its value written where there is none.
+pub(crate) fn settle(answer: OperandAnswer, result: &mut [u8]) -> Fault
+    ensures { λ r. ⌜ (r ≡ answer .fault) × (now (result .exit) ≡ chooseBytes (isNone r) (pack (length (now (result .entry))) (coord (answer .value .bytes))) (now (result .entry))) ⌝ }
 {
-    let judged = answer.fault;
+    let fault = answer.fault;
     let value = answer.value;
-    let fault = or_else(sizes, judged);
+    let x = value.bytes;
     if operand::is_none(fault) {
-        value.write(result);
+        operand::copy_out(x, result);
     }
     fault
 }

@@ -27,8 +27,11 @@ pub extern "C" fn nb_product(width: u64, table: &[u8], a: &[u8], b: &[u8], resul
 {
     let m = width as usize;
     let sizes = bytes::judge_two(m, a.len(), b.len(), result.len());
+    if !operand::is_none(sizes) {
+        return packing::answer(sizes, 0, 0);
+    }
     let product = product::product(m, table, bytes::carry(m, a), bytes::carry(m, b));
-    packing::answer(bytes::settle(sizes, product, result), 0, 0)
+    packing::answer(bytes::settle(product, result), 0, 0)
 }
 
 #[no_mangle]
@@ -43,8 +46,11 @@ pub extern "C" fn nb_product_reduced(
 {
     let m = width as usize;
     let sizes = bytes::judge_two(m, a.len(), b.len(), result.len());
+    if !operand::is_none(sizes) {
+        return packing::answer(sizes, 0, 0);
+    }
     let product = product::product_reduced(m, table, bytes::carry(m, a), bytes::carry(m, b));
-    packing::answer(bytes::settle(sizes, product, result), 0, 0)
+    packing::answer(bytes::settle(product, result), 0, 0)
 }
 
 #[no_mangle]
@@ -53,6 +59,9 @@ pub extern "C" fn nb_inverse(width: u64, table: &[u8], a: &[u8], result: &mut [u
 {
     let m = width as usize;
     let sizes = bytes::judge_one(m, a.len(), result.len());
+    if !operand::is_none(sizes) {
+        return packing::answer(sizes, 0, 0);
+    }
     let inverse = product::inverse(m, table, bytes::carry(m, a));
     let judged = inverse.fault;
     let value = inverse.value;
@@ -60,5 +69,5 @@ pub extern "C" fn nb_inverse(width: u64, table: &[u8], a: &[u8], result: &mut [u
         fault: judged,
         value,
     };
-    packing::answer(bytes::settle(sizes, answer, result), inverse.count, 0)
+    packing::answer(bytes::settle(answer, result), inverse.count, 0)
 }

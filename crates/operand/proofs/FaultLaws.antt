@@ -17,7 +17,7 @@ use Rattle.operand.specs.declared.OperandAnswer.{OperandAnswer}
 use Rattle.operand.specs.declared.fault.Fault.{Fault}
 use Rattle.operand.specs.declared.fault.Fault.the-variants.{None, Width, Length, HighBit, RowZero, RowPair, Triple, RowSum, TurnCount, InverseOfZero, TraceOne, OutputShort, CardEnds, CardNumber, CardForm, CardPlace, CardTail, NoType, BadGate}
 use Rattle.operand.specs.Faults.{numberOf, isNone, when, chooseFault, orElse, firstOf}
-use Rattle.operand.specs.Judgements.{widthFault, lengthFault, highFault, turnFault, traceFault, operandFault, pairFault, bytesFault, roomFault}
+use Rattle.operand.specs.Judgements.{widthFault, lengthFault, highFault, turnFault, traceFault, operandFault, pairFault, bytesFault}
 use Rattle.operand.specs.Calls.{noOperand, answer}
 
 never : {A : Type 0} → false ≡ true → A
@@ -218,27 +218,20 @@ pub turn-none : (m k : ℕ) → k < m → turnFault m k ≡ None
 unfolding turnFault
 turn-none m k h = rw (lt-leb m k h)
 
--- `size` bytes and an operand x of width m that are given no fault
-pub record FineBytes (m size : ℕ) (x : List ℕ) : Type 0 where
+-- the bytes of an operand of width m that are given no fault
+pub record FineBytes (m : ℕ) (x : List ℕ) : Type 0 where
   pub least : 2 ≤ m
   pub greatest : m ≤ maxWidth
-  pub laidDown : size ≡ bytesFor m
+  pub laidDown : length x ≡ bytesFor m
   pub clear : isClear m x ≡ true
 
-fine-bytes : (m size : ℕ) (x : List ℕ) → isNone (firstOf (widthFault m ∷ lengthFault size (bytesFor m) ∷ highFault m x ∷ [])) ≡ true → FineBytes m size x
-fine-bytes m size x e =
+pub bytes-fine : (m : ℕ) (x : List ℕ) → isNone (bytesFault m x) ≡ true → FineBytes m x
+unfolding bytesFault
+bytes-fine m x e =
     let w = more-fine _ _ _ e in
     let l = two-fine _ _ (w .1) in
     let v = width-fine m (w .0) in
     record { least = v .0; greatest = v .1; laidDown = length-fine _ _ (l .0); clear = high-fine m x (l .1) }
-
-pub bytes-fine : (m : ℕ) (x : List ℕ) → isNone (bytesFault m x) ≡ true → FineBytes m (length x) x
-unfolding bytesFault
-bytes-fine m x e = fine-bytes m (length x) x e
-
-pub room-fine : (a : Operand) (size : ℕ) → isNone (roomFault a size) ≡ true → FineBytes (a .width) size (a .bytes)
-unfolding roomFault
-room-fine a size e = fine-bytes (a .width) size (a .bytes) e
 
 -- a turn by one is never refused for its count
 pub square-fault : (a : Operand) → firstOf (operandFault a ∷ turnFault (a .width) 1 ∷ []) ≡ operandFault a

@@ -8,7 +8,7 @@ use native.Mathlib.Nat.{add-zero, add-comm, mul-comm, mod-eq-of-lt, mod-lt, mod-
 use native.Mathlib.Decide.{decLt}
 use native.Mathlib.Omega.{arith}
 use lib.ListN.{length, getD}
-use lib.Bits.{bitOr, or-shifted-r}
+use lib.Bits.{bitOr, or-shifted, or-shifted-r}
 use lib.Pow.{pow-mono, shl-exact, shr-shr, shr-le}
 use Rattle.gf2.specs.Sums.{sum}
 use Rattle.gf2.specs.Coordinates.{coord, value, tabulate, pack}
@@ -80,12 +80,11 @@ joined-eight s b small = joined-value 8 (λ k. getD s (b + k) 0) (λ j. coord s 
     place k j = omega arith
 
 -- the same, written out
-pub joined-bytes : {a₀ a₁ a₂ a₃ a₄ a₅ a₆ a₇ : ℕ} (s : List ℕ) (b : ℕ) → ((k : ℕ) → getD s k 0 < 256)
-    → a₀ ≡ getD s b 0 → a₁ ≡ getD s (b + 1) 0 → a₂ ≡ getD s (b + 2) 0 → a₃ ≡ getD s (b + 3) 0
-    → a₄ ≡ getD s (b + 4) 0 → a₅ ≡ getD s (b + 5) 0 → a₆ ≡ getD s (b + 6) 0 → a₇ ≡ getD s (b + 7) 0
-    → a₀ + 256 * (a₁ + 256 * (a₂ + 256 * (a₃ + 256 * (a₄ + 256 * (a₅ + 256 * (a₆ + 256 * a₇)))))) ≡ value 64 (λ j. coord s (b * 8 + j))
+pub joined-bytes : (s : List ℕ) (b : ℕ) → ((k : ℕ) → getD s k 0 < 256)
+    → getD s b 0 + 256 * (getD s (b + 1) 0 + 256 * (getD s (b + 2) 0 + 256 * (getD s (b + 3) 0 + 256 * (getD s (b + 4) 0 + 256 * (getD s (b + 5) 0 + 256 * (getD s (b + 6) 0 + 256 * getD s (b + 7) 0))))))
+    ≡ value 64 (λ j. coord s (b * 8 + j))
 unfolding joined
-joined-bytes s b small e₀ e₁ e₂ e₃ e₄ e₅ e₆ e₇ = omega (arith, joined-eight s b small, ap (λ i. getD s i 0) (add-zero b))
+joined-bytes s b small = omega (arith, joined-eight s b small, ap (λ i. getD s i 0) (add-zero b))
 
 -- one byte more above the bits that are there
 or-byte : (k x y : ℕ) → x < 2 ^ k → y < 256 → k + 8 ≤ 64 → bitOr x (y * 2 ^ k % 2 ^ 64) ≡ x + y * 2 ^ k
@@ -104,13 +103,34 @@ or-bytes a b c d e f g h ha hb hc hd he hf hg hh =
     let p7 = or-byte 56 (a + b * 2 ^ 8 + c * 2 ^ 16 + d * 2 ^ 24 + e * 2 ^ 32 + f * 2 ^ 40 + g * 2 ^ 48) h (omega arith) hh (omega arith) in
     rw (p1, p2, p3, p4, p5, p6, p7) (omega arith)
 
+-- eight bytes from b on, by those from b + 1 on: one byte more below, and the last goes
+byte-under : (s : List ℕ) (b : ℕ) → getD s b 0 < 256 → bitOr (value 64 (λ j. coord s ((b + 1) * 8 + j)) * 2 ^ 8 % 2 ^ 64) (getD s b 0) ≡ value 64 (λ j. coord s (b * 8 + j))
+byte-under s b small =
+    ap (λ x. bitOr x (getD s b 0)) (ap (λ x. x % 2 ^ 64) (ap (λ x. x * 2 ^ 8) (value-split 56 8 next)) ∙ drop) ∙ or-shifted (value 56 next) 8 (getD s b 0) small
+    ∙ ap₂ (λ x y. x * 2 ^ 8 + y) (value-ext 56 _ _ (λ j l. ap (λ i. coord s i % 2) (place j)))
+    (value-eq 8 (λ j. coord s (b * 8 + j)) _ small (λ j l. sym (coord-digit s b j l) ∙ sym (mod-eq-of-lt (coord-lt s _))))
+    ∙ add-comm _ _ ∙ sym (value-split 8 56 (λ j. coord s (b * 8 + j)))
+  where
+    next : ℕ → ℕ
+    next j = coord s ((b + 1) * 8 + j)
+
+    place : (j : ℕ) → (b + 1) * 8 + j ≡ b * 8 + (8 + j)
+    place j = omega arith
+
+    drop : (value 56 next + value 8 (λ j. next (56 + j)) * 2 ^ 56) * 2 ^ 8 % 2 ^ 64 ≡ value 56 next * 2 ^ 8
+    drop = omega (arith, value-lt 56 next)
+
+pub byte-more : (s : List ℕ) (b next : ℕ) {word byte : ℕ} → next ≡ b + 1 → word ≡ value 64 (λ j. coord s (next * 8 + j)) → byte ≡ getD s b 0 → getD s b 0 < 256
+    → bitOr (word * 2 ^ 8 % 2 ^ 64) byte ≡ value 64 (λ j. coord s (b * 8 + j))
+byte-more s b next p e q small = ap₂ (λ x y. bitOr (x * 2 ^ 8 % 2 ^ 64) y) (e ∙ ap (λ k. value 64 (λ j. coord s (k * 8 + j))) p) q ∙ byte-under s b small
+
 -- word w of a list from its byte w * 8 on
 pub word-from : (s : List ℕ) (w b : ℕ) → w * 8 ≡ b → value 64 (λ j. coord s (b * 8 + j)) ≡ value 64 (λ j. coord s (w * 64 + j))
 word-from s w b e = value-ext 64 _ _ (λ j l. ap (λ i. coord s i % 2) (omega arith))
 
 -- past the list's end
-pub word-none : (s : List ℕ) (w : ℕ) → length s ≤ w * 8 → 0 ≡ value 64 (λ j. coord s (w * 64 + j))
-word-none s w h = value-eq 64 _ 0 (omega arith) (λ j l. rw (zero-div, coord-past s (w * 64 + j) (omega arith)))
+pub word-none : (s : List ℕ) (k : ℕ) → 8 * length s ≤ k → 0 ≡ value 64 (λ j. coord s (k + j))
+word-none s k h = value-eq 64 _ 0 (omega arith) (λ j l. rw (zero-div, coord-past s (k + j) (omega arith)))
 
 -- a word in which the list ends, from the last eight bytes
 pub word-last : (s : List ℕ) (n w : ℕ) → length s ≡ n → 8 ≤ n → n ≤ w * 8 + 8

@@ -43,6 +43,14 @@ pair-low low high i h = let e : i ≡ 0 * 64 + i = omega arith in ap (wordCoord 
 pub pair-high : (low high i : ℕ) → 64 ≤ i → i < 128 → wordCoord (low ∷ high ∷ []) i ≡ high / 2 ^ (i - 64) % 2
 pair-high low high i h l = let e : i ≡ 1 * 64 + (i - 64) = omega arith in ap (wordCoord (low ∷ high ∷ [])) e ∙ word-digit (low ∷ high ∷ []) 1 (i - 64) (omega arith)
 
+-- in a list
+pub pair-coord : (x : List ℕ) (w i : ℕ) → i < 128 → wordCoord (getD x w 0 ∷ getD x (w + 1) 0 ∷ []) i ≡ wordCoord x (w * 64 + i)
+pair-coord x w i h = elim (decLt i 64) [
+  | yes q ↦ pair-low _ _ i q ∙ sym (word-digit x w i q)
+  | no q ↦ let e : (w + 1) * 64 + (i - 64) ≡ w * 64 + i = omega arith in
+      pair-high _ _ i (omega arith) h ∙ sym (word-digit x (w + 1) (i - 64) (omega arith)) ∙ ap (wordCoord x) e
+]
+
 -- a bit of x | y where y has 0
 or-left : (x y j : ℕ) → y / 2 ^ j % 2 ≡ 0 → bitOr x y / 2 ^ j % 2 ≡ x / 2 ^ j % 2
 or-left x y j e =
@@ -92,12 +100,7 @@ unfolding packWords
 window-words n first skip x hs = tabulate-ext n _ _ (λ w h. value-ext 64 _ _ (λ j l. ap (λ y. y % 2) (bits w j l)))
   where
     bits : (w j : ℕ) → j < 64 → wordCoord (getD x (first + w) 0 ∷ getD x (first + w + 1) 0 ∷ []) (skip + j) ≡ wordCoord x (first * 64 + skip + (w * 64 + j))
-    bits w j l = elim (decLt (skip + j) 64) [
-      | yes q ↦ pair-low (getD x (first + w) 0) _ (skip + j) q ∙ sym (word-digit x (first + w) (skip + j) q) ∙ ap (wordCoord x) (omega arith)
-      | no q ↦
-          pair-high _ (getD x (first + w + 1) 0) (skip + j) (omega arith) (omega arith)
-          ∙ sym (word-digit x (first + w + 1) (skip + j - 64) (omega arith)) ∙ ap (wordCoord x) (omega arith)
-    ]
+    bits w j l = pair-coord x (first + w) (skip + j) (omega arith) ∙ ap (wordCoord x) (omega arith)
 
 -- f 0 or f 1 or .. or f (n - 1), bit by bit
 unfoldable pub ored : ℕ → (ℕ → ℕ) → ℕ

@@ -1,7 +1,7 @@
 -- A carried operand as words of 64 bits: the coordinates of its bytes, in larger digits.
 use mathlib.Core.Path.{_≡_}
 use mathlib.Core.List.{List}
-use Prim.Native.Nat.{ℕ, _+_, _-_, _*_, _/_, _%_, _^_, _<_}
+use Prim.Native.Nat.{ℕ, _+_, _-_, _*_, _/_, _%_, _^_, _<_, _≤_}
 use lib.Dec.{leb}
 use lib.ListN.{length, getD}
 use Rattle.gf2.specs.Coordinates.{value, tabulate}
@@ -28,3 +28,13 @@ pub record Put (t word b : ℕ) (before after : List ℕ) : Type 0 where
   pub size : length after ≡ length before
   pub front : (i : ℕ) → i < b → getD after i 0 ≡ getD before i 0
   pub bytes : (j : ℕ) → j < t → b + j < length before → getD after (b + j) 0 ≡ word / 2 ^ (8 * j) % 256
+
+-- 0 at the places from `first` up to `last`; what stands before them is as it was
+pub record Cleared (first last : ℕ) (before after : List ℕ) : Type 0 where
+  pub size : length after ≡ length before
+  pub front : (i : ℕ) → i < first → getD after i 0 ≡ getD before i 0
+  pub zeroes : (i : ℕ) → first ≤ i → i < last → getD after i 0 ≡ 0
+
+-- the bytes of a list before places m and n have the coordinates of words
+pub record Stored (x : List ℕ) (m n : ℕ) (l : List ℕ) : Type 0 where
+  pub bytes : (i : ℕ) → i < m → i < n → getD l i 0 ≡ value 8 (λ j. wordCoord x (i * 8 + j))

@@ -1,7 +1,7 @@
 // Kernels on the bytes of a carried operand: the sum, the bits below a width, the test of the others,
 // and the way from and to W bytes.
 ghost use mathlib.Core.Path.{_≡_};
-ghost use Prim.Native.Nat.{_+_, _≤_};
+ghost use Prim.Native.Nat.{_+_};
 ghost use lib.ListN.{length};
 ghost use Rattle.gf2.specs.Coordinates.{coord, pack};
 ghost use Rattle.gf2.specs.Operands.{carriedBytes, fromCoords, isClear};
@@ -45,8 +45,7 @@ pub fn carried(s: &[u8]) -> [u8; Operand::BYTES]
 }
 
 // The coordinates of a carried operand, in the bytes of a slice.
-pub(crate) fn copy_out(x: [u8; Operand::BYTES], out: &mut [u8])
-    requires { ⌜ length (now out) ≤ carriedBytes ⌝ }
+pub fn copy_out(x: [u8; Operand::BYTES], out: &mut [u8])
     ensures { λ _. ⌜ now (out .exit) ≡ pack (length (now (out .entry))) (coord x) ⌝ }
 {
     words::store(words::to_words(x), out);

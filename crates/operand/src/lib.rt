@@ -18,6 +18,7 @@ mod words;
 
 pub use bytes::carried;
 pub use bytes::cleared;
+pub use bytes::copy_out;
 pub use fault::Fault;
 pub use fault::FaultNumber;
 pub use fault::is_none;

@@ -4,11 +4,11 @@
 ghost use mathlib.Core.Path.{_≡_};
 ghost use mathlib.Core.List.{[], _∷_};
 ghost use Prim.Native.Nat.{ℕ, _+_, _-_, _*_, _/_, _%_, _^_, _<_, _≤_};
-ghost use lib.ListN.{length, getD};
+ghost use lib.ListN.{length};
 ghost use lib.Bits.{bitAnd};
 ghost use Rattle.gf2.specs.Coordinates.{coord, value, pack};
 ghost use Rattle.gf2.specs.Operands.{carriedBytes, below};
-ghost use Rattle.operand.specs.Words.{carriedWords, wordCoord, packWords, Put};
+ghost use Rattle.operand.specs.Words.{carriedWords, wordCoord, packWords, Put, Cleared, Stored};
 use crate::Operand;
 
 fn wide(x: u8) -> u64
@@ -31,13 +31,6 @@ fn joined(a: u8, b: u8, c: u8, d: u8, e: u8, f: u8, g: u8, h: u8) -> u64
         | (wide(h) << 56)
 }
 
-// Byte b of a slice, 0 past its end.
-fn byte_at(s: &[u8], b: usize) -> u8
-    ensures { λ r. ⌜ r ≡ getD (now (s .entry)) b 0 ⌝ }
-{
-    if b < s.len() { s[b] } else { 0 }
-}
-
 // Eight bytes of a slice, from b on.
 fn eight(s: &[u8], b: usize) -> u64
     requires { ⌜ b + 8 ≤ length (now s) ⌝ }
@@ -55,20 +48,17 @@ fn eight(s: &[u8], b: usize) -> u64
     )
 }
 
-// The first eight bytes of a slice, 0 past its end.
+// The first eight bytes of a slice as one word, 0 past its end: for slices of less than eight.
 fn few(s: &[u8]) -> u64
     ensures { λ r. ⌜ r ≡ value 64 (λ j. coord (now (s .entry)) (0 * 8 + j)) ⌝ }
 {
-    joined(
-        byte_at(s, 0),
-        byte_at(s, 1),
-        byte_at(s, 2),
-        byte_at(s, 3),
-        byte_at(s, 4),
-        byte_at(s, 5),
-        byte_at(s, 6),
-        byte_at(s, 7),
-    )
+    let mut word: u64 = 0;
+    let mut b = s.len();
+    while 0 < b {
+        b -= 1;
+        word = (word << 8) | wide(s[b]);
+    }
+    word
 }
 
 // Word w of a slice, 0 past its end. Where the slice ends in it, its last eight bytes are read and shifted down.
@@ -135,39 +125,72 @@ fn put_whole(word: u64, b: usize, out: &mut [u8])
     }
 }
 
-// A word into the bytes of a slice from b on, of which there are less than eight.
-fn put_part(word: u64, b: usize, out: &mut [u8])
-    requires { ⌜ (b < carriedBytes) × (length (now out) < b + 8) ⌝ }
-    ensures { λ _. ⌜ Put 8 word b (now (out .entry)) (now (out .exit)) ⌝ }
+// A word into the bytes of a slice of less than eight.
+fn put_part(word: u64, out: &mut [u8])
+    requires { ⌜ length (now out) < 8 ⌝ }
+    ensures { λ _. ⌜ Put 8 word 0 (now (out .entry)) (now (out .exit)) ⌝ }
 {
     let mut j = 0;
-    while b + j < out.len() {
-        out[b + j] = byte_of(word, j);
+    while j < out.len() {
+        out[j] = byte_of(word, j);
         j += 1;
     }
 }
 
-fn put_word(word: u64, b: usize, out: &mut [u8])
-    requires { ⌜ b < carriedBytes ⌝ }
-    ensures { λ _. ⌜ Put 8 word b (now (out .entry)) (now (out .exit)) ⌝ }
-{
-    if b + 8 <= out.len() {
-        put_whole(word, b, out);
-    } else {
-        put_part(word, b, out);
-    }
-}
-
-// The coordinates of words, in the bytes of a slice.
-pub(crate) fn store(x: [u64; Operand::WORDS], out: &mut [u8])
-    requires { ⌜ length (now out) ≤ carriedBytes ⌝ }
-    ensures { λ _. ⌜ now (out .exit) ≡ pack (length (now (out .entry))) (wordCoord x) ⌝ }
+// The words that have room in the slice.
+fn put_words(x: [u64; Operand::WORDS], out: &mut [u8])
+    ensures { λ _. ⌜ Stored x carriedBytes (length (now (out .entry)) / 8 * 8) (now (out .exit)) ⌝ }
 {
     let mut w = 0;
     while w < Operand::WORDS {
-        let word = x[w];
-        put_word(word, w * 8, out);
+        if 8 * w + 8 <= out.len() {
+            let word = x[w];
+            put_whole(word, 8 * w, out);
+        }
         w += 1;
+    }
+}
+
+// The word that the slice ends in: the last eight bytes once more, as one word.
+fn put_last(x: [u64; Operand::WORDS], out: &mut [u8])
+    requires { ⌜ (8 ≤ length (now out)) × Stored x carriedBytes (length (now out) / 8 * 8) (now out) ⌝ }
+    ensures { λ _. ⌜ Stored x carriedBytes (length (now (out .entry))) (now (out .exit)) ⌝ }
+{
+    let n = out.len();
+    let s = 8 * (n % 8);
+    let w = n / 8;
+    if Operand::BYTES <= n {
+        return;
+    }
+    if s != 0 {
+        let low = x[w - 1];
+        let high = x[w];
+        put_whole(lower_pair(low, high, s), n - 8, out);
+    }
+}
+
+// 0 in the bytes past those of a carried operand.
+fn clear_rest(out: &mut [u8])
+    ensures { λ _. ⌜ Cleared carriedBytes (length (now (out .entry))) (now (out .entry)) (now (out .exit)) ⌝ }
+{
+    let mut b = Operand::BYTES;
+    while b < out.len() {
+        out[b] = 0;
+        b += 1;
+    }
+}
+
+// The coordinates of words, in the bytes of a slice; bytes past the words become 0.
+pub(crate) fn store(x: [u64; Operand::WORDS], out: &mut [u8])
+    ensures { λ _. ⌜ now (out .exit) ≡ pack (length (now (out .entry))) (wordCoord x) ⌝ }
+{
+    if out.len() < 8 {
+        let word = x[0];
+        put_part(word, out);
+    } else {
+        put_words(x, out);
+        put_last(x, out);
+        clear_rest(out);
     }
 }
 

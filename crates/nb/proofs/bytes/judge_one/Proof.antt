@@ -1,9 +1,20 @@
 -- `nb::bytes::judge_one` meets its contract.
-use Rattle.operand.specs.Faults.{firstOf}
-use Rattle.operand.proofs.FaultLaws.{or-none}
+use mathlib.Core.Path.{ap, _∙_}
+use borrow.Author.Tests.{not-true, not-false}
+use Rattle.operand.specs.Judgements.{lengthFault}
+use Rattle.operand.proofs.FaultLaws.{first-ends, first-goes, first-last}
 use borrow.Author.Needs.{needs}
 use Rattle.nb.proofs.bytes.judge_one.Statement.{statement}
 use Rattle.nb.proofs.bytes.judge_one.Tie as tie
+
+judge-width-requires : tie.Need-judge-width-requires
+judge-width-requires c κs = search needs
+
+is-none-requires : tie.Need-is-none-requires
+is-none-requires c κs = search needs
+
+returns : tie.Need-returns
+returns c = first-ends _ _ _ (c .before .before .judge-width .ensures) (c .before .is-none .ensures) (not-true _ (c .if1 .taken))
 
 bytes-for-requires : tie.Need-bytes-for-requires
 bytes-for-requires c κs = search needs
@@ -11,39 +22,37 @@ bytes-for-requires c κs = search needs
 judge-length-requires : tie.Need-judge-length-requires
 judge-length-requires c κs = search needs
 
+is-none-requires-2 : tie.Need-is-none-requires-2
+is-none-requires-2 c κs = search needs
+
+returns-2 : tie.Need-returns-2
+returns-2 c =
+    let l = c .before .before in
+    let w = l .before .before in
+    first-goes _ _ _ (w .before .before .judge-width .ensures) (w .before .is-none .ensures) (not-false _ (w .if1 .left))
+    (first-ends _ _ _ (l .judge-length .ensures ∙ ap (lengthFault _) (l .before .bytes-for .ensures)) (c .before .is-none2 .ensures) (not-true _ (c .if2 .taken)))
+
 judge-length-requires-2 : tie.Need-judge-length-requires-2
 judge-length-requires-2 c κs = search needs
 
-or-else-requires : tie.Need-or-else-requires
-or-else-requires c κs = search needs
-
-judge-width-requires : tie.Need-judge-width-requires
-judge-width-requires c κs = search needs
-
-or-else-requires-2 : tie.Need-or-else-requires-2
-or-else-requires-2 c κs = search needs
-
-returns : tie.Need-returns
-unfolding firstOf
-returns c =
-    rw (
-      c .or-else2 .ensures,
-      c .before .judge-width .ensures,
-      c .before .before .or-else .ensures,
-      c .before .before .before .judge-length2 .ensures,
-      c .before .before .before .before .judge-length .ensures,
-      c .before .before .before .before .before .bytes-for .ensures,
-      or-none,
-    )
+returns-3 : tie.Need-returns-3
+returns-3 c =
+    let l = c .before .before .before in
+    let w = l .before .before in
+    first-goes _ _ _ (w .before .before .judge-width .ensures) (w .before .is-none .ensures) (not-false _ (w .if1 .left))
+    (first-goes _ _ _ (l .judge-length .ensures ∙ ap (lengthFault _) (l .before .bytes-for .ensures)) (c .before .before .is-none2 .ensures) (not-false _ (c .before .if2 .left))
+    (first-last (c .judge-length2 .ensures ∙ ap (lengthFault _) (l .before .bytes-for .ensures))))
 
 pub judge-one-spec : {M : Type 1} → statement M
 judge-one-spec =
     tie.close
     (tie.spec
+    judge-width-requires
+    is-none-requires
+    returns
     bytes-for-requires
     judge-length-requires
+    is-none-requires-2
+    returns-2
     judge-length-requires-2
-    or-else-requires
-    judge-width-requires
-    or-else-requires-2
-    returns)
+    returns-3)

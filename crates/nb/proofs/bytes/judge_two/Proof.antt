@@ -1,9 +1,25 @@
 -- `nb::bytes::judge_two` meets its contract.
-use Rattle.operand.specs.Faults.{firstOf}
-use Rattle.operand.proofs.FaultLaws.{or-none}
+use mathlib.Core.Path.{ap, _∙_}
+use mathlib.Core.List.{[], _∷_}
+use Rattle.gf2.specs.Operands.{bytesFor}
+use Rattle.operand.specs.Judgements.{lengthFault}
+use Rattle.operand.proofs.FaultLaws.{first-last}
+use Rattle.nb.specs.Inner.{oneSizes}
+use Rattle.nb.proofs.CallLaws.{append-ends, append-goes}
 use borrow.Author.Needs.{needs}
 use Rattle.nb.proofs.bytes.judge_two.Statement.{statement}
 use Rattle.nb.proofs.bytes.judge_two.Tie as tie
+
+judge-one-requires : tie.Need-judge-one-requires
+judge-one-requires c κs = search needs
+
+is-none-requires : tie.Need-is-none-requires
+is-none-requires c κs = search needs
+
+returns : tie.Need-returns
+returns c =
+    let a = c .before .before .before .args in
+    append-ends (oneSizes (a .m) (a .a) (a .b)) (lengthFault (a .result) (bytesFor (a .m)) ∷ []) (c .before .before .judge-one .ensures) (c .before .is-none .ensures) (c .if1 .taken)
 
 bytes-for-requires : tie.Need-bytes-for-requires
 bytes-for-requires c κs = search needs
@@ -11,49 +27,20 @@ bytes-for-requires c κs = search needs
 judge-length-requires : tie.Need-judge-length-requires
 judge-length-requires c κs = search needs
 
-judge-length-requires-2 : tie.Need-judge-length-requires-2
-judge-length-requires-2 c κs = search needs
-
-or-else-requires : tie.Need-or-else-requires
-or-else-requires c κs = search needs
-
-judge-length-requires-3 : tie.Need-judge-length-requires-3
-judge-length-requires-3 c κs = search needs
-
-or-else-requires-2 : tie.Need-or-else-requires-2
-or-else-requires-2 c κs = search needs
-
-judge-width-requires : tie.Need-judge-width-requires
-judge-width-requires c κs = search needs
-
-or-else-requires-3 : tie.Need-or-else-requires-3
-or-else-requires-3 c κs = search needs
-
-returns : tie.Need-returns
-unfolding firstOf
-returns c =
-    rw (
-      c .or-else3 .ensures,
-      c .before .judge-width .ensures,
-      c .before .before .or-else2 .ensures,
-      c .before .before .before .judge-length3 .ensures,
-      c .before .before .before .before .or-else .ensures,
-      c .before .before .before .before .before .judge-length2 .ensures,
-      c .before .before .before .before .before .before .judge-length .ensures,
-      c .before .before .before .before .before .before .before .bytes-for .ensures,
-      or-none,
-    )
+returns-2 : tie.Need-returns-2
+returns-2 c =
+    let s = c .before .before in
+    let a = s .before .before .before .args in
+    append-goes (oneSizes (a .m) (a .a) (a .b)) (lengthFault (a .result) (bytesFor (a .m)) ∷ []) (s .before .before .judge-one .ensures) (s .before .is-none .ensures) (s .if1 .left)
+    (first-last (c .judge-length .ensures ∙ ap (lengthFault _) (c .before .bytes-for .ensures)))
 
 pub judge-two-spec : {M : Type 1} → statement M
 judge-two-spec =
     tie.close
     (tie.spec
+    judge-one-requires
+    is-none-requires
+    returns
     bytes-for-requires
     judge-length-requires
-    judge-length-requires-2
-    or-else-requires
-    judge-length-requires-3
-    or-else-requires-2
-    judge-width-requires
-    or-else-requires-3
-    returns)
+    returns-2)

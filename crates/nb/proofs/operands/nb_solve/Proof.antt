@@ -1,22 +1,38 @@
 -- `nb::operands::nb_solve` meets its contract.
-use mathlib.Core.Path.{ap, _∙_}
-use native.Mathlib.Omega.{arith}
 use Rattle.gf2.specs.Quadratic.{root}
-use Rattle.nb.specs.Packing.{packedAnswer}
 use Rattle.nb.specs.Judgements.{solveBytesFault}
-use Rattle.nb.proofs.PackLaws.{small-solve-call}
-use Rattle.nb.proofs.CallLaws.{Done, solve-done}
+use Rattle.nb.proofs.PackLaws.{packs, small-solve-call}
+use Rattle.nb.proofs.CallLaws.{refused, kept, refuses, Done, answered, solve-begins, solve-done}
 use borrow.Author.Needs.{needs}
 use Rattle.nb.proofs.operands.nb_solve.Statement.{statement}
 use Rattle.nb.proofs.operands.nb_solve.Tie as tie
 
--- the call, from its lengths to its result
-call : (c : tie.After-slice-known2) → let a = c .before .before .before .before .before .before .before .before .before .args in
-    Done (solveBytesFault (a .width) (a .c .now) (a .result .now)) (root (a .width) (a .c .now)) (a .result .now) (c .before .before .settle .result) (c .before .before .settle .last .1 .1 .0)
-call c = solve-done _ _ _ (c .before .before .before .before .before .before .judge-one .ensures) (c .before .before .before .before .before .carry .ensures) (c .before .before .settle .ensures) (c .before .before .before .before .solve .ensures)
+-- the call where its lengths are not at fault
+call : (c : tie.After-slice-known2) → let a = c .before .before .before .before .before .before .before .before .before .before .before .args in
+    Done (solveBytesFault (a .width) (a .c .now) (a .result .now)) (root (a .width) (a .c .now)) (a .result .now) (c .before .before .settle .result) (c .before .before .settle .last .1 .0)
+call c =
+    let s = c .before .before .before .before .before .before in
+    solve-done _ _ _ (s .before .before .judge-one .ensures) (s .before .is-none .ensures) (s .if1 .left) (c .before .before .before .before .before .carry .ensures) (c .before .before .settle .ensures) (c .before .before .before .before .solve .ensures)
 
 judge-one-requires : tie.Need-judge-one-requires
 judge-one-requires c κs = search needs
+
+is-none-requires : tie.Need-is-none-requires
+is-none-requires c κs = search needs
+
+answer-requires : tie.Need-answer-requires
+answer-requires c κs =
+    let a = c .before .before .before .before .before .args in
+    packs (refused (solve-begins (a .width) (a .c .now) (a .result .now)) (c .before .before .judge-one .ensures) (c .before .is-none .ensures) (c .if1 .taken)) (small-solve-call _ _ _)
+
+returns : tie.Need-returns
+returns c =
+    let a = c .before .before .before .before .before .before .args in
+    let s = c .before in
+    let call = solve-begins (a .width) (a .c .now) (a .result .now) in (
+      refuses call (s .before .before .judge-one .ensures) (s .before .is-none .ensures) (s .if1 .taken) 0 0 (c .answer .ensures),
+      kept call (s .before .before .judge-one .ensures) (s .before .is-none .ensures) (s .if1 .taken) _ _,
+    )
 
 carry-requires : tie.Need-carry-requires
 carry-requires c κs = search needs
@@ -27,23 +43,26 @@ solve-requires c κs = search needs
 settle-requires : tie.Need-settle-requires
 settle-requires c κs = search needs
 
-answer-requires : tie.Need-answer-requires
-answer-requires c κs = (rw (call c .fault) (small-solve-call _ _ _), λ e. (omega arith, omega arith))
+answer-requires-2 : tie.Need-answer-requires-2
+answer-requires-2 c κs = packs (call c .fault) (small-solve-call _ _ _)
 
 same-length : tie.Need-same-length
 same-length c = search needs
 
-returns : tie.Need-returns
-returns c = (c .answer .ensures ∙ ap (λ f. packedAnswer f 0 0) (call (c .before) .fault), call (c .before) .bytes)
+returns-2 : tie.Need-returns-2
+returns-2 c = answered (call (c .before)) (c .answer2 .ensures)
 
 pub nb-solve-spec : {M : Type 1} → statement M
 nb-solve-spec =
     tie.close
     (tie.spec
     judge-one-requires
+    is-none-requires
+    answer-requires
+    returns
     carry-requires
     solve-requires
     settle-requires
-    answer-requires
+    answer-requires-2
     same-length
-    returns)
+    returns-2)

@@ -5,25 +5,46 @@ use native.Mathlib.Omega.{arith}
 use Rattle.gf2.specs.Inverse.{inverse, productsMade}
 use Rattle.operand.specs.Faults.{isNone}
 use Rattle.nb.specs.Judgements.{inverseBytesFault}
-use Rattle.nb.proofs.PackLaws.{answer-same, small-inverse-call}
+use Rattle.nb.proofs.PackLaws.{answer-same, packs, small-inverse-call}
 use Rattle.nb.proofs.Bounds.{inverse-small}
-use Rattle.nb.proofs.CallLaws.{Done, inverse-done, inverse-count}
+use Rattle.nb.proofs.CallLaws.{refused, kept, refuses, Done, inverse-begins, inverse-done, inverse-count}
 use borrow.Author.Needs.{needs}
 use Rattle.nb.proofs.tables.nb_inverse.Statement.{statement}
 use Rattle.nb.proofs.tables.nb_inverse.Tie as tie
 
--- the call, from its lengths to its result
-call : (c : tie.After-slice-known2) → let a = c .before .before .before .before .before .before .before .before .before .before .before .args in
-    Done (inverseBytesFault (a .width) (a .table .now) (a .a .now) (a .result .now)) (inverse (a .width) (a .table .now) (a .a .now)) (a .result .now) (c .before .before .settle .result) (c .before .before .settle .last .1 .1 .0)
-call c = inverse-done _ _ _ _ (λ b. c .before .before .before .before .before .before .before .before .before .shared-slice-known2 .given b .fits) (c .before .before .before .before .before .before .before .judge-one .ensures) (c .before .before .before .before .before .before .carry .ensures) (c .before .before .settle .ensures) (c .before .before .before .before .before .inverse .ensures)
+-- the call where its lengths are not at fault
+call : (c : tie.After-slice-known2) → let a = c .before .before .before .before .before .before .before .before .before .before .before .before .before .args in
+    Done (inverseBytesFault (a .width) (a .table .now) (a .a .now) (a .result .now)) (inverse (a .width) (a .table .now) (a .a .now)) (a .result .now) (c .before .before .settle .result) (c .before .before .settle .last .1 .0)
+call c =
+    let s = c .before .before .before .before .before .before .before in
+    inverse-done _ _ _ _ (λ b. s .before .before .before .before .shared-slice-known2 .given b .fits) (s .before .before .judge-one .ensures) (s .before .is-none .ensures) (s .if1 .left) (c .before .before .before .before .before .before .carry .ensures) (c .before .before .settle .ensures) (c .before .before .before .before .before .inverse .ensures)
 
 -- and its number of products
-count : (c : tie.After-slice-known2) → let a = c .before .before .before .before .before .before .before .before .before .before .before .args in
+count : (c : tie.After-slice-known2) → let a = c .before .before .before .before .before .before .before .before .before .before .before .before .before .args in
     isNone (inverseBytesFault (a .width) (a .table .now) (a .a .now) (a .result .now)) ≡ true → c .before .before .before .before .before .inverse .result .count ≡ productsMade (a .width) (a .table .now) (a .a .now)
-count c = inverse-count _ _ _ _ (λ b. c .before .before .before .before .before .before .before .before .before .shared-slice-known2 .given b .fits) (c .before .before .before .before .before .before .before .judge-one .ensures) (c .before .before .before .before .before .before .carry .ensures) (c .before .before .settle .ensures) (c .before .before .before .before .before .inverse .ensures)
+count c =
+    let s = c .before .before .before .before .before .before .before in
+    inverse-count _ _ _ _ (λ b. s .before .before .before .before .shared-slice-known2 .given b .fits) (s .before .before .judge-one .ensures) (s .before .is-none .ensures) (s .if1 .left) (c .before .before .before .before .before .before .carry .ensures) (c .before .before .settle .ensures) (c .before .before .before .before .before .inverse .ensures)
 
 judge-one-requires : tie.Need-judge-one-requires
 judge-one-requires c κs = search needs
+
+is-none-requires : tie.Need-is-none-requires
+is-none-requires c κs = search needs
+
+answer-requires : tie.Need-answer-requires
+answer-requires c κs =
+    let a = c .before .before .before .before .before .before .args in
+    packs (refused (inverse-begins (a .width) (a .a .now) (a .result .now) (a .table .now)) (c .before .before .judge-one .ensures) (c .before .is-none .ensures) (c .if1 .taken)) (small-inverse-call _ _ _ _)
+
+returns : tie.Need-returns
+returns c =
+    let a = c .before .before .before .before .before .before .before .args in
+    let s = c .before in
+    let call = inverse-begins (a .width) (a .a .now) (a .result .now) (a .table .now) in (
+      refuses call (s .before .before .judge-one .ensures) (s .before .is-none .ensures) (s .if1 .taken) (productsMade (a .width) (a .table .now) (a .a .now)) 0 (c .answer .ensures),
+      kept call (s .before .before .judge-one .ensures) (s .before .is-none .ensures) (s .if1 .taken) _ _,
+    )
 
 carry-requires : tie.Need-carry-requires
 carry-requires c κs = search needs
@@ -34,9 +55,9 @@ inverse-requires c κs = search needs
 settle-requires : tie.Need-settle-requires
 settle-requires c κs = search needs
 
-answer-requires : tie.Need-answer-requires
-answer-requires c κs =
-    let a = c .before .before .before .before .before .before .before .before .before .before .before .args in (
+answer-requires-2 : tie.Need-answer-requires-2
+answer-requires-2 c κs =
+    let a = c .before .before .before .before .before .before .before .before .before .before .before .before .before .args in (
       rw (call c .fault) (small-inverse-call (a .width) (a .table .now) (a .a .now) (a .result .now)),
       λ e. let n = ap isNone (sym (call c .fault)) ∙ e in (rw (count c n) (inverse-small (a .width) (a .table .now) (a .a .now) (a .result .now) n), omega arith),
     )
@@ -44,17 +65,20 @@ answer-requires c κs =
 same-length : tie.Need-same-length
 same-length c = search needs
 
-returns : tie.Need-returns
-returns c = (c .answer .ensures ∙ answer-same (call (c .before) .fault) (λ e. (count (c .before) e, refl)), call (c .before) .bytes)
+returns-2 : tie.Need-returns-2
+returns-2 c = (c .answer2 .ensures ∙ answer-same (call (c .before) .fault) (λ e. (count (c .before) e, refl)), call (c .before) .bytes)
 
 pub nb-inverse-spec : {M : Type 1} → statement M
 nb-inverse-spec =
     tie.close
     (tie.spec
     judge-one-requires
+    is-none-requires
+    answer-requires
+    returns
     carry-requires
     inverse-requires
     settle-requires
-    answer-requires
+    answer-requires-2
     same-length
-    returns)
+    returns-2)

@@ -1,22 +1,38 @@
 -- `nb::tables::nb_product` meets its contract.
-use mathlib.Core.Path.{ap, _∙_}
-use native.Mathlib.Omega.{arith}
 use Rattle.gf2.specs.Products.{product}
-use Rattle.nb.specs.Packing.{packedAnswer}
 use Rattle.nb.specs.Judgements.{productBytesFault}
-use Rattle.nb.proofs.PackLaws.{small-product-call}
-use Rattle.nb.proofs.CallLaws.{Done, product-done}
+use Rattle.nb.proofs.PackLaws.{packs, small-product-call}
+use Rattle.nb.proofs.CallLaws.{refused, kept, refuses, Done, answered, product-begins, product-done}
 use borrow.Author.Needs.{needs}
 use Rattle.nb.proofs.tables.nb_product.Statement.{statement}
 use Rattle.nb.proofs.tables.nb_product.Tie as tie
 
--- the call, from its lengths to its result
-call : (c : tie.After-slice-known2) → let a = c .before .before .before .before .before .before .before .before .before .before .before .before .args in
-    Done (productBytesFault (a .width) (a .table .now) (a .a .now) (a .b .now) (a .result .now)) (product (a .width) (a .table .now) (a .a .now) (a .b .now)) (a .result .now) (c .before .before .settle .result) (c .before .before .settle .last .1 .1 .0)
-call c = product-done _ _ _ _ (c .before .before .before .before .before .before .before .judge-two .ensures) (c .before .before .before .before .before .before .carry .ensures) (c .before .before .before .before .before .carry2 .ensures) (c .before .before .settle .ensures) _ (c .before .before .before .before .product .ensures)
+-- the call where its lengths are not at fault
+call : (c : tie.After-slice-known2) → let a = c .before .before .before .before .before .before .before .before .before .before .before .before .before .before .args in
+    Done (productBytesFault (a .width) (a .table .now) (a .a .now) (a .b .now) (a .result .now)) (product (a .width) (a .table .now) (a .a .now) (a .b .now)) (a .result .now) (c .before .before .settle .result) (c .before .before .settle .last .1 .0)
+call c =
+    let s = c .before .before .before .before .before .before .before in
+    product-done _ _ _ _ (s .before .before .judge-two .ensures) (s .before .is-none .ensures) (s .if1 .left) (c .before .before .before .before .before .before .carry .ensures) (c .before .before .before .before .before .carry2 .ensures) (c .before .before .settle .ensures) _ (c .before .before .before .before .product .ensures)
 
 judge-two-requires : tie.Need-judge-two-requires
 judge-two-requires c κs = search needs
+
+is-none-requires : tie.Need-is-none-requires
+is-none-requires c κs = search needs
+
+answer-requires : tie.Need-answer-requires
+answer-requires c κs =
+    let a = c .before .before .before .before .before .before .before .args in
+    packs (refused (product-begins (a .width) (a .a .now) (a .b .now) (a .result .now) (a .table .now)) (c .before .before .judge-two .ensures) (c .before .is-none .ensures) (c .if1 .taken)) (small-product-call _ _ _ _ _)
+
+returns : tie.Need-returns
+returns c =
+    let a = c .before .before .before .before .before .before .before .before .args in
+    let s = c .before in
+    let call = product-begins (a .width) (a .a .now) (a .b .now) (a .result .now) (a .table .now) in (
+      refuses call (s .before .before .judge-two .ensures) (s .before .is-none .ensures) (s .if1 .taken) 0 0 (c .answer .ensures),
+      kept call (s .before .before .judge-two .ensures) (s .before .is-none .ensures) (s .if1 .taken) _ _,
+    )
 
 carry-requires : tie.Need-carry-requires
 carry-requires c κs = search needs
@@ -30,24 +46,27 @@ product-requires c κs = search needs
 settle-requires : tie.Need-settle-requires
 settle-requires c κs = search needs
 
-answer-requires : tie.Need-answer-requires
-answer-requires c κs = (rw (call c .fault) (small-product-call _ _ _ _ _), λ e. (omega arith, omega arith))
+answer-requires-2 : tie.Need-answer-requires-2
+answer-requires-2 c κs = packs (call c .fault) (small-product-call _ _ _ _ _)
 
 same-length : tie.Need-same-length
 same-length c = search needs
 
-returns : tie.Need-returns
-returns c = (c .answer .ensures ∙ ap (λ f. packedAnswer f 0 0) (call (c .before) .fault), call (c .before) .bytes)
+returns-2 : tie.Need-returns-2
+returns-2 c = answered (call (c .before)) (c .answer2 .ensures)
 
 pub nb-product-spec : {M : Type 1} → statement M
 nb-product-spec =
     tie.close
     (tie.spec
     judge-two-requires
+    is-none-requires
+    answer-requires
+    returns
     carry-requires
     carry-requires-2
     product-requires
     settle-requires
-    answer-requires
+    answer-requires-2
     same-length
-    returns)
+    returns-2)

@@ -1,6 +1,5 @@
 -- `operand::Operand::write` meets its contract.
-use native.Mathlib.Omega.{arith}
-use Rattle.operand.proofs.FaultLaws.{judged, room-fine}
+use Rattle.operand.proofs.FaultLaws.{judged}
 use borrow.Author.Needs.{needs}
 use Rattle.operand.proofs.Operand.write.Statement.{statement}
 use Rattle.operand.proofs.Operand.write.Tie as tie
@@ -12,10 +11,7 @@ is-none-requires : tie.Need-is-none-requires
 is-none-requires c κs = search needs
 
 copy-out-requires : tie.Need-copy-out-requires
-copy-out-requires c κs =
-    let s = c .before .before in
-    let fine = room-fine _ _ (judged (s .before .judge-room .ensures) (s .is-none .ensures) (c .before .if1 .taken)) in
-    omega (arith, fine .greatest, fine .laidDown)
+copy-out-requires c κs = search needs
 
 same-length : tie.Need-same-length
 same-length c = search needs

@@ -1,5 +1,5 @@
 -- `operand::words::eight` meets its contract.
-use mathlib.Core.Path.{refl, _∙_}
+use mathlib.Core.Path.{_∙_}
 use Rattle.operand.proofs.WordCoords.{joined-bytes}
 use borrow.Author.Needs.{needs}
 use Rattle.operand.proofs.words.eight.Statement.{statement}
@@ -56,7 +56,7 @@ joined-requires c κs = search needs
 returns : tie.Need-returns
 returns c =
     let s = c .before .before .before .before .before .before .before .before .before .before in
-    c .joined .ensures ∙ joined-bytes (s .args .s .now) (s .args .b) (λ k. c .before .shared-slice-known9 .given k .fits) refl refl refl refl refl refl refl refl
+    c .joined .ensures ∙ joined-bytes (s .args .s .now) (s .args .b) (λ k. c .before .shared-slice-known9 .given k .fits)
 
 pub eight-spec : {M : Type 1} → statement M
 eight-spec =

@@ -1,58 +1,55 @@
 -- `operand::words::few` meets its contract.
-use mathlib.Core.Path.{_∙_}
-use Rattle.operand.proofs.WordCoords.{joined-bytes}
+use mathlib.Core.Path.{_≡_, ap, _∙_}
+use Prim.Native.Nat.{_+_, _-_, _*_, _≤_}
+use native.Mathlib.Omega.{arith}
+use lib.ListN.{length}
+use Rattle.gf2.specs.Coordinates.{coord, value}
+use Rattle.operand.proofs.WordCoords.{byte-more, word-none}
 use borrow.Author.Needs.{needs}
 use Rattle.operand.proofs.words.few.Statement.{statement}
 use Rattle.operand.proofs.words.few.Tie as tie
 
-byte-at-requires : tie.Need-byte-at-requires
-byte-at-requires c κs = search needs
+abbrev Inv-loop : tie.InvT-loop
+Inv-loop s word₀ b₀ word b = (b ≤ length s) × (word ≡ value 64 (λ j. coord s (b * 8 + j)))
 
-byte-at-requires-2 : tie.Need-byte-at-requires-2
-byte-at-requires-2 c κs = search needs
+abbrev μ-loop : tie.MeasureT-loop
+μ-loop s word₀ b₀ word b = b
 
-byte-at-requires-3 : tie.Need-byte-at-requires-3
-byte-at-requires-3 c κs = search needs
+loop-holds : tie.Need-loop-holds Inv-loop μ-loop
+loop-holds c = (omega arith, word-none (c .before .args .s .now) _ (omega arith))
 
-byte-at-requires-4 : tie.Need-byte-at-requires-4
-byte-at-requires-4 c κs = search needs
+sub-b : tie.Need-sub-b Inv-loop μ-loop
+sub-b c = search needs
 
-byte-at-requires-5 : tie.Need-byte-at-requires-5
-byte-at-requires-5 c κs = search needs
+shared-slice-read-wide : tie.Need-shared-slice-read-wide Inv-loop μ-loop
+shared-slice-read-wide c = search needs
 
-byte-at-requires-6 : tie.Need-byte-at-requires-6
-byte-at-requires-6 c κs = search needs
+wide-requires : tie.Need-wide-requires Inv-loop μ-loop
+wide-requires c κs = search needs
 
-byte-at-requires-7 : tie.Need-byte-at-requires-7
-byte-at-requires-7 c κs = search needs
+loop-less : tie.Need-loop-less Inv-loop μ-loop
+loop-less c = search needs
 
-byte-at-requires-8 : tie.Need-byte-at-requires-8
-byte-at-requires-8 c κs = search needs
+loop-again : tie.Need-loop-again Inv-loop μ-loop
+loop-again c =
+    let s = c .before .before .before in
+    (omega arith, byte-more (s .before .before .args .s .now) (s .loop .b - 1) (s .loop .b) (omega arith) (s .loop .inv .1) (c .wide .ensures) (c .before .shared-slice-known2 .given _ .fits))
 
-joined-requires : tie.Need-joined-requires
-joined-requires c κs = search needs
-
-returns : tie.Need-returns
+returns : tie.Need-returns Inv-loop μ-loop
 returns c =
-    let b7 = c .before .before in
-    let b5 = b7 .before .before in
-    let b3 = b5 .before .before in
-    let b1 = b3 .before .before in
-    let s = b1 .before .before in
-    c .joined .ensures ∙ joined-bytes (s .args .s .now) 0 (λ k. b1 .before .shared-slice-known .given k .fits) (b1 .byte-at .ensures) (b3 .before .byte-at2 .ensures)
-    (b3 .byte-at3 .ensures) (b5 .before .byte-at4 .ensures) (b5 .byte-at5 .ensures) (b7 .before .byte-at6 .ensures) (b7 .byte-at7 .ensures) (c .before .byte-at8 .ensures)
+    let zero : c .before .loop .b ≡ 0 = omega arith in
+    c .before .loop .inv .1 ∙ ap (λ b. value 64 (λ j. coord (c .before .before .before .args .s .now) (b * 8 + j))) zero
 
 pub few-spec : {M : Type 1} → statement M
 few-spec =
     tie.close
     (tie.spec
-    byte-at-requires
-    byte-at-requires-2
-    byte-at-requires-3
-    byte-at-requires-4
-    byte-at-requires-5
-    byte-at-requires-6
-    byte-at-requires-7
-    byte-at-requires-8
-    joined-requires
+    Inv-loop
+    μ-loop
+    loop-holds
+    sub-b
+    shared-slice-read-wide
+    wide-requires
+    loop-less
+    loop-again
     returns)

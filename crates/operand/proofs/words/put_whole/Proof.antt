@@ -1,6 +1,6 @@
 -- `operand::words::put_whole` meets its contract.
-use mathlib.Core.Path.{_≡_, _∙_}
-use Prim.Native.Nat.{ℕ, _-_, _≤_}
+use mathlib.Core.Path.{refl}
+use Prim.Native.Nat.{_-_, _≤_}
 use native.Mathlib.Omega.{arith}
 use Rattle.operand.specs.Words.{Put}
 use Rattle.operand.proofs.WordStores.{put-none, put-more, put-all}
@@ -35,7 +35,7 @@ loop-less c = search needs
 loop-again : tie.Need-loop-again Inv-loop μ-loop
 loop-again c =
     let s = c .before .before in
-    (omega (arith, s .loop .inv .1 .size), put-more (s .loop .inv .1) (omega (arith, s .loop .inv .1 .size)) (c .byte-of .ensures))
+    (omega (arith, s .loop .inv .1 .size), put-more (s .loop .inv .1) refl (omega (arith, s .loop .inv .1 .size)) (c .byte-of .ensures))
 
 same-length : tie.Need-same-length Inv-loop μ-loop
 same-length c = c .before .loop .inv .1 .size

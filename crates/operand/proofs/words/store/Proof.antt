@@ -1,63 +1,58 @@
 -- `operand::words::store` meets its contract.
-use Prim.Native.Nat.{ℕ, _-_, _≤_}
+use mathlib.Core.Path.{_≡_}
 use native.Mathlib.Omega.{arith}
+use lib.ListN.{length}
 use Rattle.operand.specs.Words.{carriedWords}
-use Rattle.operand.proofs.WordStores.{Stored, stored-none, stored-more, stored-all}
+use Rattle.operand.proofs.WordStores.{stored-by, cleared-pack, part-pack}
 use borrow.Author.Needs.{needs}
 use Rattle.operand.proofs.words.store.Statement.{statement}
 use Rattle.operand.proofs.words.store.Tie as tie
 
-abbrev Inv-loop : tie.InvT-loop
-Inv-loop out₀ x w₀ out w = (w ≤ carriedWords) × Stored x w out₀ out
-
-abbrev μ-loop : tie.MeasureT-loop
-μ-loop out₀ x w₀ out w = carriedWords - w
-
-loop-holds : tie.Need-loop-holds Inv-loop μ-loop
-loop-holds c = (omega arith, stored-none _ _)
-
-mul-word : tie.Need-mul-word Inv-loop μ-loop
-mul-word c = search needs
-
-array-read-word : tie.Need-array-read-word Inv-loop μ-loop
+array-read-word : tie.Need-array-read-word
 array-read-word c = search needs
 
-mul-put-word : tie.Need-mul-put-word Inv-loop μ-loop
-mul-put-word c = search needs
+put-part-requires : tie.Need-put-part-requires
+put-part-requires c κs = search needs
 
-put-word-requires : tie.Need-put-word-requires Inv-loop μ-loop
-put-word-requires c κs = search needs
+put-words-requires : tie.Need-put-words-requires
+put-words-requires c κs = search needs
 
-add-w : tie.Need-add-w Inv-loop μ-loop
-add-w c = search needs
+put-last-requires : tie.Need-put-last-requires
+put-last-requires c κs =
+    let w = c .before .before .before .put-words in
+    (omega (arith, w .kept .1), stored-by (w .ensures) _ _ (λ i p q. (p, omega (arith, w .kept .1))))
 
-loop-less : tie.Need-loop-less Inv-loop μ-loop
-loop-less c = search needs
+clear-rest-requires : tie.Need-clear-rest-requires
+clear-rest-requires c κs = search needs
 
-loop-again : tie.Need-loop-again Inv-loop μ-loop
-loop-again c =
-    let s = c .before .before in
-    (omega arith, stored-more (s .before .before .before .loop .inv .1) (s .put-word .ensures))
+same-length : tie.Need-same-length
+same-length c = search needs
 
-same-length : tie.Need-same-length Inv-loop μ-loop
-same-length c = c .before .loop .inv .1 .size
+returns : tie.Need-returns
+returns c = part-pack _ (c .before .before .put-part .ensures) (c .before .before .before .before .if1 .taken)
 
-returns : tie.Need-returns Inv-loop μ-loop
-returns c = stored-all (c .before .loop .inv .1) (omega arith)
+same-length-2 : tie.Need-same-length-2
+same-length-2 c = search needs
+
+returns-2 : tie.Need-returns-2
+returns-2 c =
+    let last = c .before .before .before .before .before .before in
+    let words = last .before .before .before .before in
+    let size : length (words .before .before .before .before .args .t1) ≡ carriedWords = search needs in
+    let w = words .put-words .kept .1 in
+    let l = last .put-last .kept .1 in
+    cleared-pack size (last .put-last .ensures) (c .before .before .clear-rest .ensures) (omega arith) (omega arith) (omega arith)
 
 pub store-spec : {M : Type 1} → statement M
 store-spec =
     tie.close
     (tie.spec
-    Inv-loop
-    μ-loop
-    loop-holds
-    mul-word
     array-read-word
-    mul-put-word
-    put-word-requires
-    add-w
-    loop-less
-    loop-again
+    put-part-requires
+    put-words-requires
+    put-last-requires
+    clear-rest-requires
     same-length
-    returns)
+    returns
+    same-length-2
+    returns-2)

@@ -1,6 +1,6 @@
 -- `operand::words::word_at` meets its contract.
-use mathlib.Core.Path.{_≡_, refl, ap, _∙_}
-use Prim.Native.Nat.{ℕ, _+_, _-_, _*_, _/_, _^_}
+use mathlib.Core.Path.{refl, ap, _∙_}
+use Prim.Native.Nat.{_+_, _-_, _*_, _/_, _^_}
 use native.Mathlib.Omega.{arith}
 use lib.ListN.{length}
 use Rattle.operand.proofs.WordCoords.{word-from, word-none, word-last}
@@ -12,7 +12,7 @@ mul-b : tie.Need-mul-b
 mul-b c = search needs
 
 returns : tie.Need-returns
-returns c = word-none (c .before .before .args .s .now) (c .before .before .args .w) (c .if1 .taken)
+returns c = word-none (c .before .before .args .s .now) _ (omega arith)
 
 add-if2 : tie.Need-add-if2
 add-if2 c = search needs

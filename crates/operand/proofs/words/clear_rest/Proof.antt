@@ -1,0 +1,51 @@
+-- `operand::words::clear_rest` meets its contract.
+use Prim.Native.Nat.{_-_, _≤_}
+use native.Mathlib.Omega.{arith}
+use lib.ListN.{length}
+use Rattle.gf2.specs.Operands.{carriedBytes}
+use Rattle.operand.specs.Words.{Cleared}
+use Rattle.operand.proofs.WordStores.{cleared-none, cleared-more, cleared-all}
+use borrow.Author.Needs.{needs}
+use Rattle.operand.proofs.words.clear_rest.Statement.{statement}
+use Rattle.operand.proofs.words.clear_rest.Tie as tie
+
+abbrev Inv-loop : tie.InvT-loop
+Inv-loop out₀ b₀ out b = (carriedBytes ≤ b) × Cleared carriedBytes b out₀ out
+
+abbrev μ-loop : tie.MeasureT-loop
+μ-loop out₀ b₀ out b = length out₀ - b
+
+loop-holds : tie.Need-loop-holds Inv-loop μ-loop
+loop-holds c = (omega arith, cleared-none _ _)
+
+slice-write-out : tie.Need-slice-write-out Inv-loop μ-loop
+slice-write-out c = search needs
+
+add-b : tie.Need-add-b Inv-loop μ-loop
+add-b c = search needs
+
+loop-less : tie.Need-loop-less Inv-loop μ-loop
+loop-less c = omega (arith, c .before .loop .inv .1 .size)
+
+loop-again : tie.Need-loop-again Inv-loop μ-loop
+loop-again c = let done = c .before .loop .inv .1 in (omega arith, cleared-more done (omega arith) (omega (arith, done .size)))
+
+same-length : tie.Need-same-length Inv-loop μ-loop
+same-length c = c .before .loop .inv .1 .size
+
+returns : tie.Need-returns Inv-loop μ-loop
+returns c = let done = c .before .loop .inv .1 in cleared-all done (omega (arith, done .size))
+
+pub clear-rest-spec : {M : Type 1} → statement M
+clear-rest-spec =
+    tie.close
+    (tie.spec
+    Inv-loop
+    μ-loop
+    loop-holds
+    slice-write-out
+    add-b
+    loop-less
+    loop-again
+    same-length
+    returns)
