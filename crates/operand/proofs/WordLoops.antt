@@ -58,7 +58,7 @@ or-left x y j e =
     rw or-shr (omega (arith, or-add-and (x / 2 ^ j) (y / 2 ^ j), and-step (x / 2 ^ j) (y / 2 ^ j), d))
 
 -- two words in a row, from bit t of the first on
-pair-word : (low high t : ℕ) → low < 2 ^ 64 → t ≤ 64 → bitOr (low / 2 ^ t) (high * 2 ^ (64 - t) % 2 ^ 64) ≡ value 64 (λ j. wordCoord (low ∷ high ∷ []) (t + j))
+pub pair-word : (low high t : ℕ) → low < 2 ^ 64 → t ≤ 64 → bitOr (low / 2 ^ t) (high * 2 ^ (64 - t) % 2 ^ 64) ≡ value 64 (λ j. wordCoord (low ∷ high ∷ []) (t + j))
 pair-word low high t hl ht = value-eq 64 _ _ (or-lt 64 _ _ (lt-of-le-of-lt (shr-le low t) hl) (mod-lt _ (pow-pos 64))) (λ j l. elim (decLt (t + j) 64) [
   | yes q ↦
       or-left (low / 2 ^ t) up j (shl-bit-out high 64 (64 - t) j (omega arith) l)

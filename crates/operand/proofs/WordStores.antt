@@ -89,7 +89,7 @@ stored-word {x} w done put h = record {
 
 -- the last eight bytes
 pub stored-last : {x : List ℕ} {m n : ℕ} {l after : List ℕ} {word : ℕ} → Stored x m (n / 8 * 8) l → Put 8 word (n - 8) l after → n ≡ length l → 8 ≤ n
-    → word ≡ value 64 (λ j. wordCoord (getD x (n / 8 - 1) 0 ∷ getD x (n / 8) 0 ∷ []) (8 * (n % 8) % 64 + j)) → Stored x m n after
+    → word ≡ value 64 (λ j. wordCoord (getD x (n / 8 - 1) 0 ∷ getD x (n / 8) 0 ∷ []) (8 * (n % 8) + j)) → Stored x m n after
 stored-last {x} {m} {n} {l} {after} {word} done put size h e = record {
   bytes = λ i p q. elim (decLt i (n - 8)) [
     | yes r ↦ put .front i r ∙ done .bytes i p (omega arith)
@@ -99,11 +99,11 @@ stored-last {x} {m} {n} {l} {after} {word} done put size h e = record {
   where
     bits : (t : ℕ) → t < 64 → word / 2 ^ t % 2 ≡ wordCoord x ((n - 8) * 8 + t) % 2
     bits t k =
-        let place : (n / 8 - 1) * 64 + (8 * (n % 8) % 64 + t) ≡ (n - 8) * 8 + t = omega arith in
+        let place : (n / 8 - 1) * 64 + (8 * (n % 8) + t) ≡ (n - 8) * 8 + t = omega arith in
         let next : n / 8 ≡ n / 8 - 1 + 1 = omega arith in
         ap (λ y. y / 2 ^ t % 2) e ∙ value-bit 64 _ t k
-        ∙ ap (λ k. wordCoord (getD x (n / 8 - 1) 0 ∷ getD x k 0 ∷ []) (8 * (n % 8) % 64 + t) % 2) next
-        ∙ ap (λ y. y % 2) (pair-coord x (n / 8 - 1) (8 * (n % 8) % 64 + t) (omega arith) ∙ ap (wordCoord x) place)
+        ∙ ap (λ k. wordCoord (getD x (n / 8 - 1) 0 ∷ getD x k 0 ∷ []) (8 * (n % 8) + t) % 2) next
+        ∙ ap (λ y. y % 2) (pair-coord x (n / 8 - 1) (8 * (n % 8) + t) (omega arith) ∙ ap (wordCoord x) place)
 
 -- all bytes
 pub stored-pack : {x : List ℕ} {m n : ℕ} {l : List ℕ} → Stored x m n l → n ≤ m → length l ≡ n → l ≡ pack n (wordCoord x)

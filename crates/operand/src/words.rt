@@ -151,7 +151,8 @@ fn put_words(x: [u64; Operand::WORDS], out: &mut [u8])
     }
 }
 
-// The word that the slice ends in: the last eight bytes once more, as one word.
+// The word that the slice ends in: the last eight bytes once more, as one word. By lower_pair, whose lowest byte is known to
+// come from one word, they would be stored one by one.
 fn put_last(x: [u64; Operand::WORDS], out: &mut [u8])
     requires { ⌜ (8 ≤ length (now out)) × Stored x carriedBytes (length (now out) / 8 * 8) (now out) ⌝ }
     ensures { λ _. ⌜ Stored x carriedBytes (length (now (out .entry))) (now (out .exit)) ⌝ }
@@ -165,7 +166,7 @@ fn put_last(x: [u64; Operand::WORDS], out: &mut [u8])
     if s != 0 {
         let low = x[w - 1];
         let high = x[w];
-        put_whole(lower_pair(low, high, s), n - 8, out);
+        put_whole((low >> s) | (high << (64 - s)), n - 8, out);
     }
 }
 

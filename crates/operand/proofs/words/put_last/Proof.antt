@@ -1,6 +1,11 @@
 -- `operand::words::put_last` meets its contract.
 use mathlib.Core.Path.{refl}
+use Prim.Native.Nat.{ℕ}
 use native.Mathlib.Omega.{arith}
+use lib.ListN.{getD}
+use mir.Val.{Fits}
+use mir.Syntax.{w64}
+use Rattle.operand.proofs.WordLoops.{pair-word}
 use Rattle.operand.proofs.WordStores.{stored-by, stored-last}
 use borrow.Author.Needs.{needs}
 use Rattle.operand.proofs.words.put_last.Statement.{statement}
@@ -27,11 +32,17 @@ mul-high c = search needs
 array-read-high : tie.Need-array-read-high
 array-read-high c = search needs
 
-lower-pair-requires : tie.Need-lower-pair-requires
-lower-pair-requires c κs = search needs
+shr-put-whole : tie.Need-shr-put-whole
+shr-put-whole c = search needs
 
 sub-put-whole : tie.Need-sub-put-whole
 sub-put-whole c = search needs
+
+shl-put-whole : tie.Need-shl-put-whole
+shl-put-whole c = search needs
+
+sub-put-whole-2 : tie.Need-sub-put-whole-2
+sub-put-whole-2 c = search needs
 
 put-whole-requires : tie.Need-put-whole-requires
 put-whole-requires c κs = search needs
@@ -42,7 +53,8 @@ same-length c = search needs
 returns-2 : tie.Need-returns-2
 returns-2 c =
     let s = c .before .before .before .before .before .before .before in
-    stored-last (s .before .pre .1) (c .before .before .put-whole .ensures) refl (s .before .pre .0) (c .before .before .before .before .lower-pair .ensures)
+    let word : (k : ℕ) → Fits w64 (getD (s .args .t1) k 0) = λ k. search needs in
+    stored-last (s .pre .1) (c .before .before .put-whole .ensures) refl (s .pre .0) (pair-word _ _ _ (word _ .fits) (omega arith))
 
 returns-3 : tie.Need-returns-3
 returns-3 c = stored-by (c .before .before .before .pre .1) _ _ (λ i p q. (p, omega arith))
@@ -58,8 +70,10 @@ put-last-spec =
     array-read-low
     mul-high
     array-read-high
-    lower-pair-requires
+    shr-put-whole
     sub-put-whole
+    shl-put-whole
+    sub-put-whole-2
     put-whole-requires
     same-length
     returns-2
