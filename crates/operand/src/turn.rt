@@ -11,18 +11,17 @@ use crate::Operand;
 use crate::words;
 
 // Word w, 0 past the last.
-fn word_at(x: [u64; Operand::WORDS], w: usize) -> u64
+pub fn word_at(x: [u64; Operand::WORDS], w: usize) -> u64
     ensures { λ r. ⌜ r ≡ getD x w 0 ⌝ }
 {
     if w < Operand::WORDS { x[w] } else { 0 }
 }
 
 // Word w of the words moved n up, 0 before the first.
-fn word_below(x: [u64; Operand::WORDS], w: usize, n: usize) -> u64
-    requires { ⌜ w < carriedWords ⌝ }
+pub fn word_below(x: [u64; Operand::WORDS], w: usize, n: usize) -> u64
     ensures { λ r. ⌜ r ≡ raised n (λ v. getD x v 0) w ⌝ }
 {
-    if n <= w { x[w - n] } else { 0 }
+    if n <= w { word_at(x, w - n) } else { 0 }
 }
 
 fn pick(c: bool, yes: u64, no: u64) -> u64

@@ -81,7 +81,7 @@ fn word_at(s: &[u8], w: usize) -> u64
 }
 
 // The coordinates of a slice, in the words of a carried operand.
-pub fn slice_words(s: &[u8]) -> [u64; Operand::WORDS]
+pub(crate) fn slice_words(s: &[u8]) -> [u64; Operand::WORDS]
     ensures { λ r. ⌜ r ≡ packWords carriedWords (coord (now (s .entry))) ⌝ }
 {
     let mut out = [0u64; Operand::WORDS];

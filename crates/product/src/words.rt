@@ -1,7 +1,7 @@
 // Kernels in words of 64 bits: coordinates multiplied, an operand written twice, and the coordinates from a place on.
 ghost use mathlib.Core.Path.{_≡_};
 ghost use Prim.Native.Nat.{_+_, _*_, _/_, _<_};
-ghost use lib.ListN.{length, getD};
+ghost use lib.ListN.{length};
 ghost use Rattle.operand.specs.Words.{carriedWords, wordCoord, packWords, raised};
 ghost use Rattle.product.specs.Cells.{twiceWords};
 use operand::Operand;
@@ -22,20 +22,6 @@ pub(crate) fn masked(x: [u64; Operand::WORDS], y: [u64; Operand::WORDS]) -> [u64
     out
 }
 
-// Word w, 0 past the last.
-fn word_at(x: [u64; Operand::WORDS], w: usize) -> u64
-    ensures { λ r. ⌜ r ≡ getD x w 0 ⌝ }
-{
-    if w < Operand::WORDS { x[w] } else { 0 }
-}
-
-// Word w of x moved n words up, 0 outside x.
-fn word_below(x: [u64; Operand::WORDS], w: usize, n: usize) -> u64
-    ensures { λ r. ⌜ r ≡ raised n (λ v. getD x v 0) w ⌝ }
-{
-    if n <= w { word_at(x, w - n) } else { 0 }
-}
-
 // The operand and the same again m places up: below 2m, coordinate i is that of i modulo m.
 pub(crate) fn twice(x: [u64; Operand::WORDS], m: usize) -> [u64; TWICE]
     ensures { λ r. ⌜ r ≡ packWords twiceWords (λ i. wordCoord x i + raised m (wordCoord x) i) ⌝ }
@@ -43,8 +29,9 @@ pub(crate) fn twice(x: [u64; Operand::WORDS], m: usize) -> [u64; TWICE]
     let mut out = [0u64; TWICE];
     let mut w = 0;
     while w < TWICE {
-        out[w] = word_at(x, w)
-            ^ operand::raise_pair(word_below(x, w, m / 64 + 1), word_below(x, w, m / 64), m);
+        let low = operand::word_below(x, w, m / 64 + 1);
+        let high = operand::word_below(x, w, m / 64);
+        out[w] = operand::word_at(x, w) ^ operand::raise_pair(low, high, m);
         w += 1;
     }
     out

@@ -25,9 +25,6 @@ abbrev μ-loop : tie.MeasureT-loop
 loop-holds : tie.Need-loop-holds Inv-loop μ-loop
 loop-holds c = filled-none twiceWords _ _
 
-word-at-requires : tie.Need-word-at-requires Inv-loop μ-loop
-word-at-requires c κs = search needs
-
 add-word-below : tie.Need-add-word-below Inv-loop μ-loop
 add-word-below c = search needs
 
@@ -36,6 +33,9 @@ word-below-requires c κs = search needs
 
 word-below-requires-2 : tie.Need-word-below-requires-2 Inv-loop μ-loop
 word-below-requires-2 c κs = search needs
+
+word-at-requires : tie.Need-word-at-requires Inv-loop μ-loop
+word-at-requires c κs = search needs
 
 raise-pair-requires : tie.Need-raise-pair-requires Inv-loop μ-loop
 raise-pair-requires c κs = search needs
@@ -56,8 +56,8 @@ loop-again : tie.Need-loop-again Inv-loop μ-loop
 loop-again c =
     let m = c .before .before .before .before .before .before .args .m in
     filled-more (c .before .before .before .before .before .loop .inv) (omega arith) (omega arith)
-    (ap₂ bitXor (c .before .before .before .word-at .ensures)
-    (c .raise-pair .ensures ∙ ap₂ (λ p q. value 64 (λ j. wordCoord (p ∷ q ∷ []) (64 - m % 64 + j))) (c .before .before .word-below .ensures) (c .before .word-below2 .ensures)))
+    (ap₂ bitXor (c .before .word-at .ensures)
+    (c .raise-pair .ensures ∙ ap₂ (λ p q. value 64 (λ j. wordCoord (p ∷ q ∷ []) (64 - m % 64 + j))) (c .before .before .before .word-below .ensures) (c .before .before .word-below2 .ensures)))
 
 returns : tie.Need-returns Inv-loop μ-loop
 returns c =
@@ -72,10 +72,10 @@ twice-spec =
     Inv-loop
     μ-loop
     loop-holds
-    word-at-requires
     add-word-below
     word-below-requires
     word-below-requires-2
+    word-at-requires
     raise-pair-requires
     mul-out
     array-write-out
