@@ -26,17 +26,23 @@ fn runs(call: &mut impl FnMut()) -> u64 {
     }
 }
 
-/// Nanoseconds that two calls take, run in turns: of each the least of seven.
+/// Nanoseconds that one of `runs` calls takes.
+fn time(runs: u64, call: &mut impl FnMut()) -> f64 {
+    let start = Instant::now();
+    (0..runs).for_each(|_| call());
+    start.elapsed().as_nanos() as f64 / runs as f64
+}
+
+/// How often each of two calls is timed in a pass, and how many passes there are over all of them; the least time counts.
+const TRIES: usize = 5;
+const PASSES: usize = 5;
+
+/// Nanoseconds that two calls take, run in turns.
 fn times(mut ours: impl FnMut(), mut theirs: impl FnMut()) -> (f64, f64) {
-    let runs = runs(&mut ours);
-    let time = |call: &mut dyn FnMut()| {
-        let start = Instant::now();
-        (0..runs).for_each(|_| call());
-        start.elapsed().as_nanos() as f64 / runs as f64
-    };
+    let counts = (runs(&mut ours), runs(&mut theirs));
     let mut least = (f64::INFINITY, f64::INFINITY);
-    for _ in 0..7 {
-        least = (least.0.min(time(&mut ours)), least.1.min(time(&mut theirs)));
+    for _ in 0..TRIES {
+        least = (least.0.min(time(counts.0, &mut ours)), least.1.min(time(counts.1, &mut theirs)));
     }
     least
 }
@@ -121,20 +127,32 @@ fn measure(case: &Case) -> Vec<(&'static str, f64, f64)> {
     rows
 }
 
+/// Each call's name and its least times over the passes, case by case.
+fn least(cases: &[Case]) -> Vec<Vec<(&'static str, f64, f64)>> {
+    let mut all: Vec<_> = cases.iter().map(measure).collect();
+    for _ in 1..PASSES {
+        for (rows, case) in all.iter_mut().zip(cases) {
+            for (row, (_, ours, theirs)) in rows.iter_mut().zip(measure(case)) {
+                *row = (row.0, row.1.min(ours), row.2.min(theirs));
+            }
+        }
+    }
+    all
+}
+
 fn compared(cases: &[Case]) {
     println!("| call | width, table | proved | Rust, same source | proved / Rust |");
     println!("|---|---|---|---|---|");
-    for case in cases {
-        for (name, ours, theirs) in measure(case) {
-            println!("| {name} | {} | {} | {} | {:.2} |", case.label, shown(ours), shown(theirs), ours / theirs);
+    let all = least(cases);
+    for (case, rows) in cases.iter().zip(&all) {
+        for (name, ours, theirs) in rows {
+            println!("| {name} | {} | {} | {} | {:.2} |", case.label, shown(*ours), shown(*theirs), ours / theirs);
         }
     }
-    let case = &cases[1];
-    let (mut result, mut result2) = (vec![0; bits::bytes_for(case.m)], vec![0; bits::bytes_for(case.m)]);
-    let (theirs, ours) = times(
-        || { field::product(case.m, &case.table, &case.a, &case.b, &mut result2).ok(); },
-        || { proved::product(case.m, &case.table, &case.a, &case.b, &mut result).ok(); },
-    );
+    let (case, ours) = (&cases[1], all[1][0].1);
+    let mut result = vec![0; bits::bytes_for(case.m)];
+    let mut by_definition = || { field::product(case.m, &case.table, &case.a, &case.b, &mut result).ok(); };
+    let theirs = (0..TRIES * PASSES).map(|_| time(1, &mut by_definition)).fold(f64::INFINITY, f64::min);
     println!();
     println!("By definition (compare/src/field.rs), product at {}: {}; the proved call is {:.0} times as quick.", case.label, shown(theirs), theirs / ours);
 }
@@ -147,9 +165,10 @@ fn calls() {
 
 fn growth() {
     println!("width,call,nanoseconds");
-    for m in [65, 81, 97, 113, 130, 146, 163, 178, 194, 210, 226, 233, 243, 255] {
-        for (name, ours, _) in measure(&Case::drawn(m)) {
-            println!("{m},{name},{ours:.1}");
+    let cases = [65, 81, 97, 113, 130, 146, 163, 178, 194, 210, 226, 233, 243, 255].map(Case::drawn);
+    for (case, rows) in cases.iter().zip(least(&cases)) {
+        for (name, ours, _) in rows {
+            println!("{},{name},{ours:.1}", case.m);
         }
     }
 }
