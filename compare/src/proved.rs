@@ -49,19 +49,29 @@ fn unpacked(answer: u64) -> Answer<(usize, usize)> {
     }
 }
 
-/// Each call with a slice for a pointer and a length. A slice's pointer is never null, and a `&mut` slice overlaps nothing.
+/// Each call with a slice for a pointer and a length, and in `packed` with its one number as it comes. A slice's pointer is never
+/// null, and a `&mut` slice overlaps nothing.
 macro_rules! calls {
-    ($($(#[$doc:meta])* $public:ident = $raw:ident($($p:ident: $kind:tt),*);)*) => {
-        $($(#[$doc])* pub fn $public($($p: calls!(@type $kind)),*) -> Answer<(usize, usize)> {
-            calls!(@call $raw [] $($p $kind)*)
+    ($($public:ident = $raw:ident($($p:ident: $kind:tt),*);)*) => {
+        $(pub fn $public($($p: calls!(@type $kind)),*) -> Answer<(usize, usize)> {
+            unpacked(packed::$public($($p),*))
         })*
+
+        pub mod packed {
+            use super::raw;
+
+            $(#[inline]
+            pub fn $public($($p: calls!(@type $kind)),*) -> u64 {
+                calls!(@call $raw [] $($p $kind)*)
+            })*
+        }
     };
     (@type num) => { usize };
     (@type bytes) => { &[u8] };
     (@type words) => { &[u32] };
     (@type out) => { &mut [u8] };
     (@type outwords) => { &mut [u32] };
-    (@call $raw:ident [$($done:expr,)*]) => { unpacked(unsafe { raw::$raw($($done,)*) }) };
+    (@call $raw:ident [$($done:expr,)*]) => { unsafe { raw::$raw($($done,)*) } };
     (@call $raw:ident [$($done:expr,)*] $p:ident num $($rest:tt)*) => { calls!(@call $raw [$($done,)* $p as u64,] $($rest)*) };
     (@call $raw:ident [$($done:expr,)*] $p:ident bytes $($rest:tt)*) => { calls!(@call $raw [$($done,)* $p.as_ptr(), $p.len(),] $($rest)*) };
     (@call $raw:ident [$($done:expr,)*] $p:ident words $($rest:tt)*) => { calls!(@call $raw [$($done,)* $p.as_ptr(), $p.len(),] $($rest)*) };

@@ -8,7 +8,8 @@
 
 use compare::inputs::{dense, Source};
 use compare::same::nb as same;
-use compare::{bits, card, field, gates, gaussian, proved};
+use compare::proved::packed as proved;
+use compare::{bits, card, field, gates, gaussian};
 use std::hint::black_box;
 use std::time::Instant;
 
@@ -104,7 +105,7 @@ fn measure(case: &Case) -> Vec<(&'static str, f64, f64)> {
     let mut rows = vec![];
     macro_rules! row {
         ($name:expr, $ours:expr, $theirs:expr) => {{
-            let (ours, theirs) = times(|| { black_box($ours).ok(); }, || { black_box($theirs); });
+            let (ours, theirs) = times(|| { black_box($ours); }, || { black_box($theirs); });
             rows.push(($name, ours, theirs));
         }};
     }
