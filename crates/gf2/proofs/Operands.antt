@@ -2,18 +2,18 @@
 -- Operands made from coordinates: their form, their coordinates, equality of two.
 -- The test of the bits at the width and above.
 -- Indices modulo the width. Turns and sums: their form and their coordinates.
-use mathlib.Core.Path.{_≡_, refl, sym, ap, _∙_}
+use mathlib.Core.Path.{_≡_, sym, ap, _∙_}
 use mathlib.Core.List.{List}
 use mathlib.Core.Bool.{Bool, true, false, _||_}
-use Prim.Native.Nat.{ℕ, zero, suc, _+_, _-_, _*_, _/_, _%_, _<_, _≤_}
+use Prim.Native.Nat.{ℕ, _+_, _-_, _*_, _%_, _<_, _≤_}
 use native.Mathlib.Nat.{mod-eq-of-lt, add-mod-left, lt-of-le-of-lt}
-use native.Mathlib.Decide.{decLt, ℕ-discrete}
+use native.Mathlib.Decide.{decLt}
 use native.Mathlib.Omega.{arith}
-use lib.ListN.{length, getD}
+use lib.ListN.{length}
 use lib.Dec.{ltb, eqb}
-use borrow.Author.Tests.{lt-ltb, le-ltb, eq-eqb, eqb-true}
+use borrow.Author.Tests.{lt-ltb, le-ltb, eqb-true}
 use Rattle.gf2.specs.Coordinates.{coord, pack}
-use Rattle.gf2.specs.Operands.{minus, IsOperand, isClear, choose, below, fromCoords, added, turned}
+use Rattle.gf2.specs.Operands.{minus, IsOperand, isClear, below, fromCoords, added, turned}
 use Rattle.gf2.proofs.Sums.{every-at, every-of}
 use Rattle.gf2.proofs.Coordinates.{coord-lt, coord-past, coord-pack, length-pack, pack-byte, pack-eq, pack-ext}
 
@@ -88,13 +88,6 @@ clear-of m a h = every-of (8 * length a) _ (λ i l. elim (decLt i m) [
   | yes q ↦ rw (lt-ltb i m q)
   | no q ↦ rw (le-ltb i m (omega arith), h i (omega arith))
 ])
-
-pub clear-not : (m : ℕ) (a : List ℕ) (i : ℕ) → m ≤ i → (coord a i ≡ 0 → ⊥) → isClear m a ≡ false
-clear-not m a i h n = go (isClear m a) refl
-  where
-    go : (t : Bool) → isClear m a ≡ t → t ≡ false
-    go true e = absurd (n (clear-at m a e i h))
-    go false e = refl
 
 -- i - k modulo m, without the modulus
 pub minus-below : (m i k : ℕ) → k ≤ i → i < m → minus m i k ≡ i - k

@@ -32,9 +32,6 @@ module _ {m : ℕ} {a : List ℕ} (h : HasBytes m a) where
   pub made-operand : (f : ℕ → ℕ) → IsOperand (bytesFor m) m (fromCoords (length a) m f)
   made-operand f = rw (h .size) (from-operand (bytesFor m) m f)
 
-  pub made-bytes : (f : ℕ → ℕ) → HasBytes m (fromCoords (length a) m f)
-  made-bytes f = record { greatest = h .greatest; size = made-operand f .size }
-
   pub high-carried : highFault m (carriedBy a) ≡ highFault m a
   unfolding highFault
   high-carried = rw (bool-ext (isClear m (carriedBy a)) (isClear m a)

@@ -2,12 +2,12 @@
 -- Faults: none is the only fault with number 0, and no number is above 18; the first of two.
 -- Answers: what an answer is, with and without a fault.
 -- Judgements: what holds of a width, a length, an operand that is given no fault.
-use mathlib.Core.Path.{_≡_, refl, sym, ap, ap₂, _∙_}
+use mathlib.Core.Path.{_≡_, refl, sym, ap, _∙_}
 use mathlib.Core.Bool.{Bool, true, false, not, _&&_}
 use mathlib.Core.List.{List, [], _∷_}
 use Prim.Native.Nat.{ℕ, _<_, _≤_}
 use native.Mathlib.Omega.{arith}
-use lib.Dec.{leb, eqb}
+use lib.Dec.{leb}
 use lib.ListN.{length}
 use borrow.Author.Tests.{leb-true, leb-false, lt-leb, eqb-true, eq-eqb, ne-eqb}
 use Rattle.gf2.specs.Operands.{maxWidth, bytesFor, isClear}
@@ -16,7 +16,7 @@ use Rattle.operand.specs.declared.Operand.{Operand}
 use Rattle.operand.specs.declared.OperandAnswer.{OperandAnswer}
 use Rattle.operand.specs.declared.fault.Fault.{Fault}
 use Rattle.operand.specs.declared.fault.Fault.the-variants.{None, Width, Length, HighBit, RowZero, RowPair, Triple, RowSum, TurnCount, InverseOfZero, TraceOne, OutputShort, CardEnds, CardNumber, CardForm, CardPlace, CardTail, NoType, BadGate}
-use Rattle.operand.specs.Faults.{numberOf, isNone, when, chooseFault, orElse, firstOf}
+use Rattle.operand.specs.Faults.{numberOf, isNone, when, orElse, firstOf}
 use Rattle.operand.specs.Judgements.{widthFault, lengthFault, highFault, turnFault, traceFault, operandFault, pairFault, bytesFault}
 use Rattle.operand.specs.Calls.{noOperand, answer}
 
@@ -185,10 +185,6 @@ operand-fine a e =
     let q = or-both _ _ (ap isNone (sym (first-two _ _)) ∙ e) in
     let w = width-fine (a .width) (q .0) in
     record { least = w .0; greatest = w .1; clear = high-fine (a .width) (a .bytes) (q .1) }
-
--- the fault of a call that judges two things one after the other
-pub judged-two : {f f′ g g′ r : Fault} → f ≡ f′ → g ≡ g′ → r ≡ orElse f g → r ≡ firstOf (f′ ∷ g′ ∷ [])
-judged-two {f} {f′} {g} {g′} p q e = e ∙ ap₂ orElse p q ∙ sym (first-two f′ g′)
 
 pub two-fine : (f g : Fault) → isNone (firstOf (f ∷ g ∷ [])) ≡ true → (isNone f ≡ true) × (isNone g ≡ true)
 two-fine f g e = or-both f g (ap isNone (sym (first-two f g)) ∙ e)

@@ -42,6 +42,7 @@ pub record Within (m : ℕ) (g : List ℕ) : Type 0 where
   pub empty : (s i : ℕ) → m ≤ s → i < places → cell g s i ≡ 0
   pub clear : (s i : ℕ) → m ≤ i → i < places → cell g s i ≡ 0
 
+-- a width that has passed
 abbrev pub IsWidth : ℕ → Type 0
 IsWidth m = (2 ≤ m) × (m ≤ maxWidth)
 
@@ -50,7 +51,7 @@ abbrev pub isOneWay : Bool → ℕ → ℕ → Bool
 isOneWay false m d = true
 isOneWay true m d = eqb (2 * d) m
 
--- coordinate i of what row d meets: the products of the pair i, i + d, where both ways are asked for both ways round
+-- coordinate i of what row d meets: the product of the pair i, i + d, and unless it is met one way that of the pair the other way round
 unfoldable pub metWords : Bool → ℕ → ℕ → List ℕ → List ℕ → ℕ → ℕ
 metWords both m d x y i = wordCoord x i * wordCoord y ((i + d) % m) + choose (isOneWay both m d) 0 (wordCoord y i * wordCoord x ((i + d) % m))
 
