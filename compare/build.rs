@@ -1,5 +1,5 @@
-//! Links the proved library, target/staticlib/libnb.a or the one that NB_ARCHIVE names, and makes same.rs: the Rattle source without its contracts, which is
-//! Rust. The benchmark compares the two compilers on that one text.
+//! Links the proved library, target/staticlib/libnb.a or the one that NB_ARCHIVE names, and makes same.rs: the Rattle source
+//! without its contracts, which is Rust. The benchmark compares the two compilers on that one text.
 
 use std::path::{Path, PathBuf};
 use std::{env, fs};

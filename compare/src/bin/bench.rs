@@ -7,8 +7,8 @@
 //! call, with every judgement in it; lent buffers are not cleared before a call.
 
 use compare::inputs::{dense, Source};
-use compare::same::nb as same;
 use compare::proved::packed as proved;
+use compare::same::nb as same;
 use compare::{bits, card, field, gates, gaussian};
 use std::hint::black_box;
 use std::time::Instant;

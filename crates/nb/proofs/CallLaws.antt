@@ -28,7 +28,7 @@ use Rattle.operand.specs.Judgements.{widthFault, lengthFault, highFault, turnFa
 use Rattle.operand.specs.Calls.{chooseBytes, answer, readCall, turnCall, sumCall, traceCall, solveCall}
 use Rattle.operand.proofs.FaultLaws.{judged, or-first, or-second, or-none, or-both, or-cong, or-assoc, width-fine, length-fine, high-fine}
 use Rattle.operand.proofs.FaultFree.{IsWidth, carry, width-none, length-none}
-use Rattle.operand.proofs.ByteLoops.{Bytes}
+use Rattle.operand.proofs.ByteLists.{Bytes}
 use Rattle.table.specs.Rows.{carriedBy}
 use Rattle.table.specs.Judgements.{same, rowsFault, rowZeroFault, rowPairFault}
 use Rattle.table.proofs.Searches.{none-true}

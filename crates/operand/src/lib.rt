@@ -31,13 +31,13 @@ pub use judge::judge_operand;
 pub use judge::judge_pair;
 pub use judge::judge_turn;
 pub use judge::judge_width;
-pub use turn::word_at;
-pub use turn::word_below;
 pub use words::low_words;
 pub use words::lower_pair;
 pub use words::raise_pair;
 pub use words::to_bytes;
 pub use words::to_words;
+pub use words::word_at;
+pub use words::word_below;
 pub use words::xored_words;
 
 // Coordinate i is bit i % 8 of byte i / 8, and bits at the width and above are 0.

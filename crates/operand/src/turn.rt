@@ -10,20 +10,6 @@ ghost use Rattle.operand.specs.Words.{carriedWords, wordCoord, packWords
 use crate::Operand;
 use crate::words;
 
-// Word w, 0 past the last.
-pub fn word_at(x: [u64; Operand::WORDS], w: usize) -> u64
-    ensures { λ r. ⌜ r ≡ getD x w 0 ⌝ }
-{
-    if w < Operand::WORDS { x[w] } else { 0 }
-}
-
-// Word w of the words moved n up, 0 before the first.
-pub fn word_below(x: [u64; Operand::WORDS], w: usize, n: usize) -> u64
-    ensures { λ r. ⌜ r ≡ raised n (λ v. getD x v 0) w ⌝ }
-{
-    if n <= w { word_at(x, w - n) } else { 0 }
-}
-
 fn pick(c: bool, yes: u64, no: u64) -> u64
     ensures { λ r. ⌜ r ≡ choose c yes no ⌝ }
 {
@@ -39,7 +25,7 @@ fn lower_if(c: bool, x: [u64; Operand::WORDS], n: usize) -> [u64; Operand::WORDS
     let mut w = 0;
     while w < Operand::WORDS {
         let word = x[w];
-        out[w] = pick(c, word_at(x, w + n), word);
+        out[w] = pick(c, words::word_at(x, w + n), word);
         w += 1;
     }
     out
@@ -53,7 +39,7 @@ fn raise_if(c: bool, x: [u64; Operand::WORDS], n: usize) -> [u64; Operand::WORDS
     let mut w = 0;
     while w < Operand::WORDS {
         let word = x[w];
-        out[w] = pick(c, word_below(x, w, n), word);
+        out[w] = pick(c, words::word_below(x, w, n), word);
         w += 1;
     }
     out
@@ -99,7 +85,7 @@ fn lower(x: [u64; Operand::WORDS], k: usize) -> [u64; Operand::WORDS]
     let mut w = 0;
     while w < Operand::WORDS {
         let word = moved[w];
-        out[w] = words::lower_pair(word, word_at(moved, w + 1), k);
+        out[w] = words::lower_pair(word, words::word_at(moved, w + 1), k);
         w += 1;
     }
     out
@@ -115,7 +101,7 @@ fn raise(x: [u64; Operand::WORDS], k: usize) -> [u64; Operand::WORDS]
     let mut w = 0;
     while w < Operand::WORDS {
         let word = moved[w];
-        out[w] = words::raise_pair(word_below(moved, w, 1), word, k);
+        out[w] = words::raise_pair(words::word_below(moved, w, 1), word, k);
         w += 1;
     }
     out

@@ -1,14 +1,14 @@
 // A carried operand in words of 64 bits: coordinate i is bit i % 64 of word i / 64.
-// The way from bytes to words and back, by whole words where the bytes reach; sums, the coordinates below a width, and two
-// words in a row shifted.
+// The way from bytes to words and back, by whole words where the bytes reach; sums, the coordinates below a width, a word by its
+// place, and two words in a row shifted.
 ghost use mathlib.Core.Path.{_≡_};
 ghost use mathlib.Core.List.{[], _∷_};
 ghost use Prim.Native.Nat.{ℕ, _+_, _-_, _*_, _/_, _%_, _^_, _<_, _≤_};
-ghost use lib.ListN.{length};
+ghost use lib.ListN.{length, getD};
 ghost use lib.Bits.{bitAnd};
 ghost use Rattle.gf2.specs.Coordinates.{coord, value, pack};
 ghost use Rattle.gf2.specs.Operands.{carriedBytes, below};
-ghost use Rattle.operand.specs.Words.{carriedWords, wordCoord, packWords, Put, Cleared, Stored};
+ghost use Rattle.operand.specs.Words.{carriedWords, wordCoord, packWords, raised, Put, Cleared, Stored};
 use crate::Operand;
 
 fn wide(x: u8) -> u64
@@ -62,7 +62,7 @@ fn few(s: &[u8]) -> u64
 }
 
 // Word w of a slice, 0 past its end. Where the slice ends in it, its last eight bytes are read and shifted down.
-fn word_at(s: &[u8], w: usize) -> u64
+fn slice_word(s: &[u8], w: usize) -> u64
     requires { ⌜ w < carriedWords ⌝ }
     ensures { λ r. ⌜ r ≡ value 64 (λ j. coord (now (s .entry)) (w * 64 + j)) ⌝ }
 {
@@ -87,7 +87,7 @@ pub(crate) fn slice_words(s: &[u8]) -> [u64; Operand::WORDS]
     let mut out = [0u64; Operand::WORDS];
     let mut w = 0;
     while w < Operand::WORDS {
-        out[w] = word_at(s, w);
+        out[w] = slice_word(s, w);
         w += 1;
     }
     out
@@ -256,6 +256,20 @@ pub fn xored_words(x: [u64; Operand::WORDS], y: [u64; Operand::WORDS]) -> [u64; 
         w += 1;
     }
     out
+}
+
+// Word w, 0 past the last.
+pub fn word_at(x: [u64; Operand::WORDS], w: usize) -> u64
+    ensures { λ r. ⌜ r ≡ getD x w 0 ⌝ }
+{
+    if w < Operand::WORDS { x[w] } else { 0 }
+}
+
+// Word w of the words moved n up, 0 before the first.
+pub fn word_below(x: [u64; Operand::WORDS], w: usize, n: usize) -> u64
+    ensures { λ r. ⌜ r ≡ raised n (λ v. getD x v 0) w ⌝ }
+{
+    if n <= w { word_at(x, w - n) } else { 0 }
 }
 
 // Two words in a row, from bit s modulo 64 of the first on. A shift by 64 is made of two; `|` and the shifts are compiled to

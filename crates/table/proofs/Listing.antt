@@ -19,7 +19,7 @@ use Rattle.gf2.specs.Tables.{row}
 use Rattle.gf2.proofs.Sums.{sum-ext}
 use Rattle.gf2.proofs.Coordinates.{tabulate-ext, coord-digit, pack-of, xor-bit}
 use Rattle.gf2.proofs.Operands.{coord-from, from-operand, from-ext, length-from, clear-of}
-use Rattle.operand.proofs.ByteLoops.{Bytes}
+use Rattle.operand.proofs.ByteLists.{Bytes}
 use Rattle.operand.proofs.CallLaws.{coord-carried, zero-bytes, sum-bytes}
 use Rattle.table.specs.Rows.{Shaped, carriedRow, rowsOver}
 use Rattle.table.specs.Lists.{Stored, Places, Listed}

@@ -23,7 +23,7 @@ use Rattle.operand.specs.declared.fault.Fault.{Fault}
 use Rattle.operand.specs.declared.fault.Fault.the-variants.{None, HighBit}
 use Rattle.operand.specs.Faults.{isNone, when, orElse, firstOf, firstFrom}
 use Rattle.operand.specs.Words.{carriedWords, wordCoord, packWords}
-use Rattle.operand.proofs.ByteLoops.{Bytes}
+use Rattle.operand.proofs.ByteLists.{Bytes}
 use Rattle.operand.proofs.WordCoords.{length-words, words-coord}
 use Rattle.operand.proofs.WordLoops.{ored, ored-at, ored-of}
 use Rattle.operand.proofs.FaultLaws.{none-is, or-first, or-second, or-both, first-two, first-more}

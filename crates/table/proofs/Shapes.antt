@@ -23,7 +23,7 @@ use Rattle.operand.specs.declared.fault.Fault.the-variants.{None, HighBit}
 use Rattle.operand.specs.Faults.{isNone, orElse, firstOf}
 use Rattle.operand.specs.Judgements.{widthFault, lengthFault, bytesFault}
 use Rattle.operand.specs.Calls.{answer}
-use Rattle.operand.proofs.ByteLoops.{Bytes}
+use Rattle.operand.proofs.ByteLists.{Bytes}
 use Rattle.operand.proofs.WordLoops.{ored, ored-at, ored-of, ored-shr}
 use Rattle.operand.proofs.CallLaws.{coord-carried}
 use Rattle.operand.proofs.FaultLaws.{or-second, or-assoc, first-two, first-more, two-fine, width-fine, length-fine}

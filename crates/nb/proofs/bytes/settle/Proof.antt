@@ -1,5 +1,7 @@
 -- `nb::bytes::settle` meets its contract.
-use mathlib.Core.Path.{refl, sym, _∙_}
+use mathlib.Core.Path.{_≡_, refl, sym, _∙_}
+use mathlib.Core.Bool.{true}
+use Rattle.operand.specs.Faults.{isNone}
 use borrow.Author.Needs.{needs}
 use Rattle.nb.proofs.bytes.settle.Statement.{statement}
 use Rattle.nb.proofs.bytes.settle.Tie as tie
@@ -15,7 +17,8 @@ same-length c = search needs
 
 returns : tie.Need-returns
 returns c =
-    let n = sym (c .before .before .before .before .before .is-none .ensures) ∙ c .before .before .before .before .if1 .taken in
+    let s = c .before .before .before .before .before .before .before .before .before .args in
+    let n : isNone (s .answer .fault) ≡ true = sym (c .before .before .before .before .before .is-none .ensures) ∙ c .before .before .before .before .if1 .taken in
     (refl, rw n (c .before .before .copy-out .ensures))
 
 returns-2 : tie.Need-returns-2

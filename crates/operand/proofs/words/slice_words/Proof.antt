@@ -17,8 +17,8 @@ abbrev μ-loop : tie.MeasureT-loop
 loop-holds : tie.Need-loop-holds Inv-loop μ-loop
 loop-holds c = filled-none carriedWords _ _
 
-word-at-requires : tie.Need-word-at-requires Inv-loop μ-loop
-word-at-requires c κs = search needs
+slice-word-requires : tie.Need-slice-word-requires Inv-loop μ-loop
+slice-word-requires c κs = search needs
 
 mul-out : tie.Need-mul-out Inv-loop μ-loop
 mul-out c = search needs
@@ -33,7 +33,7 @@ loop-less : tie.Need-loop-less Inv-loop μ-loop
 loop-less c = search needs
 
 loop-again : tie.Need-loop-again Inv-loop μ-loop
-loop-again c = filled-more (c .before .before .loop .inv) (omega arith) (omega arith) (c .word-at .ensures)
+loop-again c = filled-more (c .before .before .loop .inv) (omega arith) (omega arith) (c .slice-word .ensures)
 
 returns : tie.Need-returns Inv-loop μ-loop
 returns c = unfold packWords in filled-all (c .before .loop .inv) (omega arith) (omega arith)
@@ -45,7 +45,7 @@ slice-words-spec =
     Inv-loop
     μ-loop
     loop-holds
-    word-at-requires
+    slice-word-requires
     mul-out
     array-write-out
     add-w

@@ -1,11 +1,11 @@
--- `operand::turn::word_below` meets its contract.
+-- `operand::words::word_below` meets its contract.
 use mathlib.Core.Path.{sym, _∙_}
 use native.Mathlib.Omega.{arith}
 use lib.ListN.{getD}
 use Rattle.operand.proofs.TurnWords.{raised-in, raised-out}
 use borrow.Author.Needs.{needs}
-use Rattle.operand.proofs.turn.word_below.Statement.{statement}
-use Rattle.operand.proofs.turn.word_below.Tie as tie
+use Rattle.operand.proofs.words.word_below.Statement.{statement}
+use Rattle.operand.proofs.words.word_below.Tie as tie
 
 word-at-requires : tie.Need-word-at-requires
 word-at-requires c κs = search needs
