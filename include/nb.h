@@ -10,7 +10,8 @@
  *
  * Answers. Each call returns one number: number + 2^8 · first + 2^36 · second. Number 0 is success; else it is the number of the
  * fault in document 01's table (NB_.. below), the lowest that applies, except that a card is judged in byte order. With a fault
- * every buffer is as it was, and first and second are 0 but for NB_ROW_PAIR (first is d) and NB_TRIPLE (first is i, second j).
+ * every buffer is as it was, and first and second are 0 but for NB_ROW_PAIR (first is d) and NB_TRIPLE (first is i, second j; i is
+ * always 0).
  *
  * What the proofs take for granted of the caller: a pointer is not null, even at length 0, and points to as many elements as the
  * length says, aligned for their type; a buffer that a call writes overlaps no other argument of that call.
@@ -38,7 +39,7 @@ enum nb_fault {
     NB_HIGH_BIT = 3,         /* bit set at m or above */
     NB_ROW_ZERO = 4,         /* row 0 wrong */
     NB_ROW_PAIR = 5,         /* rows d, m-d differ: least d */
-    NB_TRIPLE = 6,           /* triple differs: i, j */
+    NB_TRIPLE = 6,           /* triple differs: i, j; i is always 0 */
     NB_ROW_SUM = 7,          /* row sum wrong */
     NB_TURN_COUNT = 8,       /* turn count m or more */
     NB_INVERSE_OF_ZERO = 9,  /* inverse of zero */
@@ -54,7 +55,8 @@ enum nb_fault {
 };
 
 /* The check. Success just where the operands of the width form a field under the table whose square is the turn by one.
- * Faults: 1; 2 table; 3 in a row; 4; 5 with d; 6 with i, j; 7 (which never comes: rules 4, 5 and 6 entail rule 7). */
+ * Faults: 1; 2 table; 3 in a row; 4; 5 with d; 6 with i, j (i is always 0: under rules 4 and 5 a triple differs at i = 0 first); 7 (which
+ * never comes: rules 4, 5 and 6 entail rule 7). Takes as many sums of rows as the table has ones. */
 uint64_t nb_check(uint64_t width, const uint8_t *table, size_t table_len);
 
 /* first: C, the number of ones in the table. Faults: 1; 2 table; 3 in a row. */

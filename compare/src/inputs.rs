@@ -54,16 +54,18 @@ pub fn drawable(m: usize) -> bool {
     m % 8 != 0
 }
 
-/// The drawn table of each drawable width, by the rule, at the index of its width.
+/// The drawn table of a width, by the rule; zeros where there is none.
+pub fn drawn_at(m: usize) -> Vec<u8> {
+    let mut table = vec![0; m * bytes_for(m)];
+    if m >= 2 && drawable(m) {
+        gaussian::draw(m, &mut table).unwrap();
+    }
+    table
+}
+
+/// The drawn table of each width, at the index of its width.
 pub fn drawn() -> Vec<Vec<u8>> {
-    let table = |m: usize| {
-        let mut table = vec![0; m * bytes_for(m)];
-        if m >= 2 && drawable(m) {
-            gaussian::draw(m, &mut table).unwrap();
-        }
-        table
-    };
-    (0..=MAX_WIDTH).map(table).collect()
+    (0..=MAX_WIDTH).map(drawn_at).collect()
 }
 
 fn packed(rows: &[Bits]) -> Vec<u8> {
@@ -91,6 +93,36 @@ pub fn symmetric(source: &mut Source, m: usize) -> Vec<u8> {
         rows[d] = row;
     }
     packed(&rows)
+}
+
+/// Every table of a width that passes 4 and 5: row 0 is given, rows 1 to m/2 are free, row m/2 of an even m but for its second half.
+pub fn all_symmetric(m: usize) -> impl Iterator<Item = Vec<u8>> {
+    let free = (m * (m - 1)) / 2;
+    (0u64..1 << free).map(move |choice| {
+        let mut bit = (0..free).map(|k| choice >> k & 1 == 1);
+        let mut rows: Vec<Bits> = vec![vec![false; m]; m];
+        rows[0][1 % m] = true;
+        for d in 1..=m / 2 {
+            let row: Bits = if 2 * d == m {
+                let half: Bits = bit.by_ref().take(d).collect();
+                half.iter().chain(&half).copied().collect()
+            } else {
+                bit.by_ref().take(m).collect()
+            };
+            rows[m - d] = turned(&row, m - d);
+            rows[d] = row;
+        }
+        packed(&rows)
+    })
+}
+
+/// A table with coordinate s of row d changed, and the coordinate of row m-d with it that rule 5 ties to it.
+pub fn changed_pair(m: usize, table: &[u8], d: usize, s: usize) -> Vec<u8> {
+    let mut changed = table.to_vec();
+    let mut flip = |row: usize, place: usize| changed[row * bytes_for(m) + place / 8] ^= 1 << (place % 8);
+    flip(d, s);
+    flip(m - d, (s + m - d) % m);
+    changed
 }
 
 /// A table of the right shape: drawn, one bit away from it, symmetric, or random.

@@ -7,6 +7,7 @@
 //! - `card`: reading and writing cards, and the report of a card
 //! - `inputs`: inputs for the comparison, from one seed
 //! - `proved`: the calls of the proved library, linked from target/staticlib/libnb.a
+//! - `stack`: how much stack a call takes
 //! - `same`: the Rattle source without its contracts, compiled as Rust, for the benchmark
 
 pub mod bits;
@@ -17,6 +18,7 @@ pub mod gaussian;
 pub mod inputs;
 pub mod proved;
 pub mod same;
+pub mod stack;
 
 /// A fault of document 01: its number and the values returned beside it.
 #[derive(Clone, Copy, Debug, PartialEq, Eq)]

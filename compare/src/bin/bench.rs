@@ -3,10 +3,10 @@
 //!     rt staticlib nb && cargo run --release --offline --manifest-path compare/Cargo.toml --bin bench
 //!
 //! Prints a table in Markdown, the ratio proved / Rust last. With the argument `growth` it prints how each cost grows from
-//! width 64 to 255 instead, with `calls` the times at 233, type 2, which compare/before-after reads. Every time is of a whole
-//! call, with every judgement in it; lent buffers are not cleared before a call.
+//! width 64 to 255 instead, with `calls` the times at 233, type 2, and those of the check over more tables, which
+//! compare/before-after reads. Every time is of a whole call, with every judgement in it; lent buffers are not cleared before a call.
 
-use compare::inputs::{dense, Source};
+use compare::inputs::{changed_pair, dense, Source};
 use compare::proved::packed as proved;
 use compare::same::nb as same;
 use compare::{bits, card, field, gates, gaussian};
@@ -158,9 +158,29 @@ fn compared(cases: &[Case]) {
     println!("By definition (compare/src/field.rs), product at {}: {}; the proved call is {:.0} times as quick.", case.label, shown(theirs), theirs / ours);
 }
 
+/// Of the tables that differ from an accepted one in one pair of rows the one whose first difference comes last, and its j.
+fn latest(m: usize, table: &[u8]) -> (Vec<u8>, usize) {
+    let changed = (1..=m / 2).map(|d| changed_pair(m, table, d, 0));
+    changed.map(|t| { let j = compare::proved::check(m, &t).unwrap_err().second; (t, j) }).max_by_key(|(_, j)| *j).unwrap()
+}
+
 fn calls() {
     for (name, ours, theirs) in measure(&Case::drawn(233)) {
         println!("{name},{ours:.1},{theirs:.1}");
+    }
+    let mut checks = vec![];
+    for m in [65, 97, 130, 163, 194, 233, 255] {
+        let Case { label, table, .. } = Case::drawn(m);
+        let (late, j) = latest(m, &table);
+        checks.push((label.clone(), m, table));
+        checks.push((format!("{label}, refused with 6 at j = {j}"), m, late));
+    }
+    for m in [163, 233, 255] {
+        checks.push((format!("{m}, dense"), m, dense(&mut Source::new(5), m, &Case::drawn(m).table)));
+    }
+    for (label, m, table) in checks {
+        let (ours, theirs) = times(|| { black_box(proved::check(m, &table)); }, || { black_box(same::tables::nb_check(m as u64, &table)); });
+        println!("check at {},{ours:.1},{theirs:.1}", label.replace(',', ";"));
     }
 }
 

@@ -1,14 +1,14 @@
 -- Sums over all indices in any commutative monoid, so that the same laws serve bits and counts.
 -- Σ M f: the sum of f over all indices; ext, plus, swap, shift, reflect, point, the links to big and to the crate's sum.
--- For bits: and, diagonal (a symmetric square adds up to its diagonal).
+-- For bits: and, diagonal (a symmetric square adds up to its diagonal). For numbers: mono, const; odd-count: the parity of a count.
 use mathlib.Core.Path.{_≡_, refl, sym, _∙_, ap, fun-ext}
 use mathlib.Core.Logic.{_≢_}
 use mathlib.Core.Bool.{Bool, _&&_}
-use Prim.Native.Nat.{ℕ, zero, suc, _-_}
+use Prim.Native.Nat.{ℕ, zero, suc, _-_, _*_, _≤_}
 use native.Mathlib.Omega.{arith}
 use Rattle.gf2.specs.Sums.{sum}
-use Rattle.gf2.proofs.Monoid.{Adds, nats, sum-big, big, big-ext, big-nil, big-plus, big-swap, big-turn, big-reverse, big-point}
-use Rattle.gf2.proofs.Parity.{bits, odd, odd-sum, big-and, big-diagonal}
+use Rattle.gf2.proofs.Monoid.{Adds, nats, sum-big, big, big-ext, big-nil, big-plus, big-swap, big-turn, big-reverse, big-point, big-mono, big-const}
+use Rattle.gf2.proofs.Parity.{bits, bit, odd, odd-bit, odd-sum, big-and, big-diagonal}
 use Rattle.gf2.proofs.Index.{Ix, at, at-sub, _⊹_, _⊖_, sub-add, sub-eq, add-c, add-right, num-at, at-num, at-add, at-all, add-z}
 
 module _ {p : ℕ} {A : Type 0} (M : Adds A) where
@@ -63,6 +63,10 @@ pub Σ-nil : {A : Type 0} (p : ℕ) (M : Adds A) → Σ {p = p} M (λ i. M .nil)
 unfolding Σ
 Σ-nil p M = big-nil M (suc p)
 
+pub Σ-const : (p c : ℕ) → Σ {p = p} nats (λ i. c) ≡ suc p * c
+unfolding Σ
+Σ-const p c = big-const (suc p) c
+
 -- the crate's sum, as a count and modulo 2
 pub sum-Σ : (p : ℕ) (f : ℕ → ℕ) → sum (suc p) f ≡ Σ {p = p} nats (λ x. f (x .num))
 sum-Σ p f = sum-big (suc p) f ∙ sym (Σ-big nats _ f (λ x. refl))
@@ -78,3 +82,12 @@ module _ {p : ℕ} where
   pub Σ-diagonal : (f : Ix p → Ix p → Bool) → ((i j : Ix p) → f i j ≡ f j i) → Σ bits (λ i. Σ bits (f i)) ≡ Σ bits (λ i. f i i)
   unfolding Σ
   Σ-diagonal f s = big-diagonal (suc p) (λ i j. f (at i) (at j)) (λ i j. s (at i) (at j))
+
+  pub Σ-mono : (f g : Ix p → ℕ) → ((i : Ix p) → f i ≤ g i) → Σ nats f ≤ Σ nats g
+  unfolding Σ
+  Σ-mono f g h = big-mono (suc p) (λ i. f (at i)) (λ i. g (at i)) (λ i l. h (at i))
+
+  -- whether the number of ones is odd
+  pub odd-count : (f : Ix p → Bool) → odd (Σ nats (λ i. bit (f i))) ≡ Σ bits f
+  unfolding Σ
+  odd-count f = ap odd (sym (sum-big (suc p) _)) ∙ odd-sum (suc p) _ ∙ simp odd-bit

@@ -2,10 +2,11 @@
 -- Adds: a commutative monoid; nats: the numbers.
 -- big M n f: f 0 + .. + f (n - 1).
 -- Laws: ext, nil, plus, swap, first, turn (one cyclic turn), reverse, append, point (one term counts), square (diagonal and pairs).
+-- For numbers: mono, const.
 use mathlib.Core.Path.{_≡_, refl, sym, _∙_, ap, ap₂}
 use mathlib.Core.Logic.{_≢_, ⊎-elim}
-use Prim.Native.Nat.{ℕ, zero, suc, _+_, _-_, _<_}
-use native.Mathlib.Nat.{add-zero, add-suc, add-comm, add-assoc, eq-or-lt-of-le}
+use Prim.Native.Nat.{ℕ, zero, suc, _+_, _-_, _*_, _<_, _≤_}
+use native.Mathlib.Nat.{add-zero, add-suc, add-comm, add-assoc, zero-mul, suc-mul, eq-or-lt-of-le}
 use native.Mathlib.Omega.{arith}
 use Rattle.gf2.specs.Sums.{sum}
 
@@ -102,3 +103,14 @@ module _ {A : Type 0} (M : Adds A) where
       ap (λ z. z ⋆ (big M n (f n) ⋆ f n n)) (big-plus n (λ i. big M n (f i)) (λ i. f i n) ∙ ap (λ z. z ⋆ big M n (λ i. f i n)) (big-square n f))
       ∙ five (big M n (λ i. f i i)) (big M n (λ j. big M j (λ i. f i j ⋆ f j i))) (big M n (λ i. f i n)) (big M n (f n)) (f n n)
       ∙ ap (λ z. (big M n (λ i. f i i) ⋆ f n n) ⋆ (big M n (λ j. big M j (λ i. f i j ⋆ f j i)) ⋆ z)) (sym (big-plus n (λ i. f i n) (f n)))
+
+-- sums of numbers
+pub big-mono : (n : ℕ) (f g : ℕ → ℕ) → ((i : ℕ) → i < n → f i ≤ g i) → big nats n f ≤ big nats n g
+unfolding big
+big-mono zero f g h = omega arith
+big-mono (suc n) f g h = omega (arith, big-mono n f g (λ i l. h i (omega arith)), h n (omega arith))
+
+pub big-const : (n c : ℕ) → big nats n (λ i. c) ≡ n * c
+unfolding big
+big-const zero c = sym (zero-mul c)
+big-const (suc n) c = rw (suc-mul, big-const n c)

@@ -1,20 +1,35 @@
 -- Laws of `sum` and `every`.
--- Sums: equal terms, a sum split at a place, two sums exchanged, a sum by digits, a sum modulo 2.
--- Tests: a test that holds of every number below a bound, both ways.
+-- Sums: equal terms, terms added, no term but 0, a sum split at a place, two sums exchanged, a sum by digits, a sum modulo 2.
+-- Tests: a test that holds of every number below a bound, both ways; a search for one of which it doesn't.
 use mathlib.Core.Path.{_≡_, refl, sym, ap, ap₂, fun-ext, _∙_}
 use mathlib.Core.Bool.{Bool, true, false, _&&_, true≢false}
-use Prim.Native.Nat.{ℕ, zero, suc, _+_, _*_, _%_, _<_}
+use Prim.Native.Nat.{ℕ, zero, suc, _+_, _-_, _*_, _%_, _<_, _≤_}
 use native.Mathlib.Decide.{ℕ-discrete}
-use native.Mathlib.Nat.{zero-mul, suc-mul}
+use native.Mathlib.Nat.{add-zero, zero-mul, suc-mul}
+use native.Mathlib.Numerals.{add-one}
 use native.Mathlib.Omega.{arith}
 use Rattle.gf2.specs.Sums.{sum, every}
-use Rattle.gf2.proofs.Monoid.{nats, big, sum-big, big-ext, big-append, big-swap}
+use Rattle.gf2.proofs.Monoid.{nats, big, sum-big, big-ext, big-plus, big-append, big-swap}
 
 pub sum-ext : (n : ℕ) (f g : ℕ → ℕ) → ((i : ℕ) → i < n → f i ≡ g i) → sum n f ≡ sum n g
 sum-ext n f g h = sum-big n f ∙ big-ext nats n f g h ∙ sym (sum-big n g)
 
+pub sum-plus : (n : ℕ) (f g : ℕ → ℕ) → sum n (λ i. f i + g i) ≡ sum n f + sum n g
+sum-plus n f g = simp sum-big (big-plus nats n f g)
+
+pub sum-none : (n : ℕ) (f : ℕ → ℕ) → ((i : ℕ) → i < n → f i ≡ 0) → sum n f ≡ 0
+unfolding sum
+sum-none zero f z = refl
+sum-none (suc n) f z = rw (sum-none n f (λ i l. z i (omega arith)), z n (omega arith))
+
 pub sum-split : (n k : ℕ) (f : ℕ → ℕ) → sum (n + k) f ≡ sum n f + sum k (λ i. f (n + i))
 sum-split n k f = sum-big (n + k) f ∙ big-append nats n k f ∙ sym (ap₂ _+_ (sum-big n f) (sum-big k (λ i. f (n + i))))
+
+-- terms from m on that are 0
+pub sum-clear : (m n : ℕ) (f : ℕ → ℕ) → m ≤ n → ((i : ℕ) → m ≤ i → f i ≡ 0) → sum n f ≡ sum m f
+sum-clear m n f h e =
+    let s : n ≡ m + (n - m) = omega arith in
+    ap (λ k. sum k f) s ∙ sum-split m (n - m) f ∙ ap (λ r. sum m f + r) (sum-none (n - m) _ (λ i l. e (m + i) (omega arith))) ∙ add-zero _
 
 pub sum-swap : (n k : ℕ) (f : ℕ → ℕ → ℕ) → sum n (λ i. sum k (f i)) ≡ sum k (λ j. sum n (λ i. f i j))
 sum-swap n k f =
@@ -49,3 +64,19 @@ pub every-of : (n : ℕ) (test : ℕ → Bool) → ((i : ℕ) → i < n → test
 unfolding every
 every-of zero test h = refl
 every-of (suc n) test h = rw (every-of n test (λ i l. h i (omega arith))) (h n (omega arith))
+
+-- a search through tests that are all to be true
+pub every-none : (test : ℕ → Bool) → every 0 test ≡ true
+unfolding every
+every-none test = refl
+
+pub every-more : (test : ℕ → Bool) (k : ℕ) → every k test ≡ true → test k ≡ true → every (k + 1) test ≡ true
+unfolding every
+every-more test k e h = rw (add-one, e) h
+
+pub every-not : (n : ℕ) (test : ℕ → Bool) (k : ℕ) → k < n → test k ≡ false → every n test ≡ false
+every-not n test k l h = go (every n test) refl
+  where
+    go : (b : Bool) → every n test ≡ b → b ≡ false
+    go true e = sym (every-at n test e k l) ∙ h
+    go false e = refl

@@ -1,5 +1,5 @@
 -- The proofs of Statements, each by the theorem of that name over vectors.
--- theoremA, theoremB, theoremC, theoremD, theoremE.
+-- theoremA, theoremB, theoremC, theoremF, theoremD, theoremE, theoremG.
 use mathlib.Core.Path.{_≡_, sym, _∙_, ap, ap₂}
 use mathlib.Core.Bool.{true}
 use mathlib.Core.List.{List}
@@ -12,17 +12,17 @@ use Rattle.gf2.specs.Tables.{IsTable, row, pairProduct, onesIn}
 use Rattle.gf2.specs.Products.{product}
 use Rattle.gf2.specs.Check.{Accepted}
 use Rattle.gf2.specs.Inverse.{inverse}
-use Rattle.gf2.specs.Statements.{TheoremA, TheoremB, GivesInverse, TheoremC, TheoremD, TheoremE, CountsPairs, pairsWith, pairsBelow, pairsAbove}
+use Rattle.gf2.specs.Statements.{TheoremA, TheoremB, GivesInverse, TheoremC, TheoremD, TheoremE, CountsPairs, TheoremF, TheoremG, pairsWith, pairsBelow, pairsAbove}
 use Rattle.gf2.proofs.Monoid.{nats, big, big-ext, sum-big}
 use Rattle.gf2.proofs.Parity.{bit, bit-inj}
-use Rattle.gf2.proofs.Index.{Ix, ix-path, at, num-at, num-minus}
+use Rattle.gf2.proofs.Index.{Ix, ix-path, at, at-num, num-at, num-minus}
 use Rattle.gf2.proofs.IndexSums.{Σ-ext, sum-Σ}
 use Rattle.gf2.proofs.Vector.{Vec, turn}
 use Rattle.gf2.proofs.VectorProduct.{pair}
-use Rattle.gf2.proofs.VectorField.{Laws, rule7 as rule7ᵛ, check-field, rows-differ, t, t-inverse, t-turn-pow, t-unique}
-use Rattle.gf2.proofs.VectorCounts.{onesOf, halfPairs, count-pairs, diagonal-pair, count-swap, count-half}
+use Rattle.gf2.proofs.VectorField.{Laws, field, rule7 as rule7ᵛ, check-field, rule6-first, rows-differ, t, t-inverse, t-turn-pow, t-unique}
+use Rattle.gf2.proofs.VectorCounts.{onesOf, halfPairs, count-pairs, diagonal-pair, count-swap, count-half, count-least}
 use Rattle.gf2.proofs.OperandVectors.{bit-coord, bytes-fit, vec, bytes, operand-vec, zeroes-vec, ones-vec, bytes-inj}
-use Rattle.gf2.proofs.TableVectors.{rows, row-vec, pair-odd, product-vec, product-bytes, reduced-vec, distance-vec, symmetric, rule7}
+use Rattle.gf2.proofs.TableVectors.{rows, row-vec, pair-odd, product-vec, product-bytes, reduced-vec, distance-vec, symmetric, rule6, rule7}
 use Rattle.gf2.proofs.FieldVectors.{laws, accepted, from-field, from-squares, to-field, to-squares}
 use Rattle.gf2.proofs.Chain.{log2-bounds, products-made, inverse-vec, power-vec}
 
@@ -63,6 +63,11 @@ theoremB = record { inverses = given; products = λ m table a. products-made m t
 pub theoremC : TheoremC
 theoremC zero table two is s six = absurd (omega arith)
 theoremC (suc p) table two is s six = rule7 p table is .1 (rule7ᵛ (rows p table) (laws p table is two s six))
+
+pub theoremF : TheoremF
+theoremF zero table two is s first i j li lj = absurd (omega arith)
+theoremF (suc p) table two is s first i j li lj = rule6 p table is i j li lj .1 (rule6-first (rows p table) (symmetric p table is two .0 s)
+    (λ j. simp at-num at (rule6 p table is 0 (j .num) (omega arith) (j .below) .0 (first (j .num) (j .below)))) (at i) (at j))
 
 pub theoremD : TheoremD
 theoremD zero table two is s a b = absurd (omega arith)
@@ -116,3 +121,9 @@ module _ (p : ℕ) (table : List ℕ) (is : IsTable (suc p) table) where
 pub theoremE : TheoremE
 theoremE zero table two is = absurd (omega arith)
 theoremE (suc p) table two is = counts p table is two
+
+pub theoremG : TheoremG
+theoremG zero table two is k = absurd (omega arith)
+theoremG (suc p) table two is k =
+    let f = field (rows p table) (laws p table is two (k .symmetric) (k .rule6)) in
+    omega (arith, ones-count p table is, count-least (rows p table) f (rule7 p table is .0 (k .rule7)))

@@ -1,8 +1,9 @@
 -- A table's rules are those of a field whose squaring is a turn.
 -- Rules 4, 5 and 6 (Laws), with rule 7 (Check); Field and Squares.
+-- rule6-first: under rules 4 and 5, rule 6 for i = 0 is rule 6.
 -- t k a: the power of a with exponent 2^k - 1, by the chain of Itoh and Tsujii; t-add: one law for doubling and adding.
 -- rule7: 4, 5 and 6 imply 7; check-field: Check and Field with Squares imply each other.
--- unique-inverse: in a field b is determined by a·b = one; rows-differ: in a field no two rows are equal.
+-- unique-inverse: in a field b is determined by a·b = one; rows-differ, rows-span: in a field no two rows are equal, and the rows span all vectors.
 use mathlib.Core.Path.{_≡_, refl, sym, _∙_, ap, fun-ext}
 use mathlib.Core.Logic.{_↔_}
 use mathlib.Core.Bool.{true≢false}
@@ -11,10 +12,10 @@ use native.Mathlib.Nat.{add-zero, zero-add, suc-add, add-suc}
 use native.Mathlib.Omega.{arith}
 use lib.Pow.{pow-pos}
 use Rattle.gf2.proofs.Parity.{bits}
-use Rattle.gf2.proofs.Index.{Ix, at, o, _⊖_, z-add, sub-add, sub-self}
+use Rattle.gf2.proofs.Index.{Ix, at, at-num, at-suc, o, _⊖_, z-add, sub-add, sub-self}
 use Rattle.gf2.proofs.IndexSums.{Σ}
 use Rattle.gf2.proofs.Vector.{Vec, turn, β, ones, zeros, add, lin, lin-β, lin-basis, lin-lin, lin-swap, turn-β, turn-z, turn-swap, turn-suc, turn-all, turn-ones, all-same, β≢zeros, β-eq, β-refl}
-use Rattle.gf2.proofs.VectorProduct.{_·_ as mul, pair, mul-lin, mul-add, zeros-mul, turn-mul, mul-β, mul-ββ, pair-o, Symmetric, mul-comm, mul-square}
+use Rattle.gf2.proofs.VectorProduct.{_·_ as mul, pair, mul-lin, mul-comb, mul-add, zeros-mul, turn-mul, mul-β, mul-ββ, mul-o, pair-o, Symmetric, mul-comm, mul-square}
 
 module _ {p : ℕ} (T : Ix p → Vec p) where
   infixl 70 _·_
@@ -44,18 +45,40 @@ module _ {p : ℕ} (T : Ix p → Vec p) where
   abbrev pub Squares : Type 0
   Squares = (a : Vec p) → a · a ≡ turn (at 1) a
 
+  β-from : (i j : Ix p) → β j ≡ turn i (β (j ⊖ i))
+  β-from i j = simp (turn-β, sub-add)
+
+  -- rule 6 for i = 0 says that β1 acts as β0 twice, and by turns β(k+1) as βk twice: so each acts as a power of β0
+  module _ (s : Symmetric T) (first : (j : Ix p) → (β o · β o) · β j ≡ β o · (β o · β j)) where
+    twice-β : (k j : Ix p) → (β k · β k) · β j ≡ β k · (β k · β j)
+    twice-β k j = rw (β-from k j, β-from k k) (simp (sub-self, ← turn-mul) (ap (turn k) (first (j ⊖ k))))
+
+    twice : (k : ℕ) (x : Vec p) → β (at (suc k)) · x ≡ β (at k) · (β (at k) · x)
+    twice k x = rw (← lin-basis x) (simp (mul-comb, ← at-suc, ← turn-β, ← mul-square T s, twice-β))
+
+    commute : (k : ℕ) (x : Vec p) → β o · (β (at k) · x) ≡ β (at k) · (β o · x)
+    commute zero x = refl
+    commute (suc k) x = rw (twice k x, commute k (β (at k) · x), commute k x) (sym (twice k (β o · x)))
+
+    pub rule6-first : (i j : Ix p) → (β o · β i) · β j ≡ β o · (β i · β j)
+    rule6-first i j = mul-comm T s _ (β j) ∙ rw (← at-num j) (sym (commute (j .num) (β i)) ∙ ap (λ x. β o · x) (mul-comm T s _ (β i)))
+
   -- a · b = one has one solution b at most
   module _ (f : Field) where
     pub unique-inverse : (a b c : Vec p) → a · b ≡ f .unit → a · c ≡ f .unit → b ≡ c
     unique-inverse a b c hb hc =
         sym (f .neutral b) ∙ ap (λ u. u · b) (sym hc ∙ f .comm a c) ∙ f .assoc c a b ∙ ap (λ u. c · u) hb ∙ f .comm c (f .unit) ∙ f .neutral c
 
+    inv : (b : Vec p) × (β o · b ≡ f .unit)
+    inv = f .inverse (β o) (β≢zeros o)
+
+    -- the rows span all vectors
+    pub rows-span : (x : Vec p) → (y : Vec p) × (lin y T ≡ x)
+    rows-span x = (inv .0 · x, sym (mul-o T _) ∙ sym (f .assoc (β o) (inv .0) x) ∙ ap (λ u. u · x) (inv .1) ∙ f .neutral x)
+
     pub rows-differ : (d e : Ix p) → T d ≡ T e → d ≡ e
     rows-differ d e h = β-eq d e (ap (λ f. f e) (sym back) ∙ β-refl e)
       where
-        inv : (b : Vec p) × (β o · b ≡ f .unit)
-        inv = f .inverse (β o) (β≢zeros o)
-
         from : (x : Ix p) → β x ≡ inv .0 · T x
         from x = sym (f .neutral (β x)) ∙ ap (λ u. u · β x) (sym (inv .1) ∙ f .comm (β o) (inv .0)) ∙ f .assoc (inv .0) (β o) (β x)
             ∙ ap (λ u. inv .0 · u) (mul-ββ T o x ∙ pair-o T x)
@@ -64,7 +87,7 @@ module _ {p : ℕ} (T : Ix p → Vec p) where
         back = from e ∙ ap (λ u. inv .0 · u) (sym h) ∙ sym (from d)
 
   sum-rows : β o · ones ≡ β o → Rule7
-  sum-rows e r = unfold lin in ap (λ f. f r) (ap (lin ones) (fun-ext (λ d. sym (pair-o T d))) ∙ sym (mul-β T o ones) ∙ e)
+  sum-rows e r = unfold lin in ap (λ f. f r) (sym (mul-o T ones) ∙ e)
 
   -- the power of exponent 2 ^ k - 1
   unfoldable pub t : ℕ → Vec p → Vec p
@@ -86,9 +109,6 @@ module _ {p : ℕ} (T : Ix p → Vec p) where
 
     square : Squares
     square = mul-square T (c .symmetric)
-
-    β-from : (i j : Ix p) → β j ≡ turn i (β (j ⊖ i))
-    β-from i j = simp (turn-β, sub-add)
 
     assoc-β : (i j l : Ix p) → (β i · β j) · β l ≡ β i · (β j · β l)
     assoc-β i j l = rw (β-from i j, β-from i l, β-from i i) (simp (sub-self, ← turn-mul) (ap (turn i) (c .rule6 (j ⊖ i) (l ⊖ i))))

@@ -1,6 +1,6 @@
 -- The product of two vectors under a table T, row d of which is the vector T d.
 -- _·_: the product; pair i j: the product of two basis elements.
--- For any table: the product is bilinear, and a turn respects it; rule6-left, rule6-right: rule 6 by sums of rows.
+-- For any table: the product is bilinear, and a turn respects it; mul-comb: a factor that is a linear combination; rule6-left, rule6-right: rule 6 by sums of rows.
 -- Under rule 5 it is commutative; under rules 4 and 5 a square is the turn by one.
 use mathlib.Core.Path.{_≡_, _∙_, ap, fun-ext}
 use mathlib.Core.Bool.{_&&_, and-self-left}
@@ -8,7 +8,7 @@ use Prim.Native.Nat.{ℕ}
 use Rattle.gf2.proofs.Parity.{bits, and-left}
 use Rattle.gf2.proofs.Index.{Ix, at, o, _⊹_, _⊖_, add-c, sub-add, sub-self, sub-z, sub-sum, sub-both}
 use Rattle.gf2.proofs.IndexSums.{Σ, Σ-and, Σ-diagonal, Σ-ext}
-use Rattle.gf2.proofs.Vector.{Vec, turn, β, zeros, add, lin, lin-β, lin-basis, lin-swap, lin-turn, turn-lin, lin-add, lin-sum, lin-zero, turn-β, β-shift, turn-turn, turn-z}
+use Rattle.gf2.proofs.Vector.{Vec, turn, β, zeros, add, lin, lin-β, lin-basis, lin-lin, lin-swap, lin-turn, turn-lin, lin-add, lin-sum, lin-zero, turn-β, β-shift, turn-turn, turn-z}
 
 module _ {p : ℕ} (T : Ix p → Vec p) where
   infixl 70 _·_
@@ -27,6 +27,9 @@ module _ {p : ℕ} (T : Ix p → Vec p) where
 
   pub mul-add : (a b c : Vec p) → a · add b c ≡ add (a · b) (a · c)
   mul-add a b c = simp (mul-lin, lin-add) (lin-sum a (λ i. lin b (pair i)) (λ i. lin c (pair i)))
+
+  pub mul-comb : (a x : Vec p) (v : Ix p → Vec p) → a · lin x v ≡ lin x (λ j. a · v j)
+  mul-comb a x v = simp (mul-lin, lin-lin) (lin-swap a x (λ i j. lin (v j) (pair i)))
 
   pub zeros-mul : (a : Vec p) → zeros · a ≡ zeros
   zeros-mul a = mul-lin zeros a ∙ lin-zero (λ i. lin a (pair i))
@@ -48,12 +51,15 @@ module _ {p : ℕ} (T : Ix p → Vec p) where
   unfolding pair
   pair-o d = rw (turn-z, sub-z)
 
+  pub mul-o : (b : Vec p) → β o · b ≡ lin b T
+  mul-o b = mul-β o b ∙ ap (lin b) (fun-ext pair-o)
+
   -- the two sides of rule 6, read off the table
   pub rule6-left : (i j : Ix p) → (β o · β i) · β j ≡ lin (T i) (λ k. pair k j)
   rule6-left i j = simp (mul-lin, lin-β, pair-o)
 
   pub rule6-right : (i j : Ix p) → β o · (β i · β j) ≡ lin (pair i j) T
-  rule6-right i j = simp (mul-lin, lin-β) (ap (lin (pair i j)) (fun-ext pair-o))
+  rule6-right i j = rw (mul-o, mul-ββ)
 
   -- rules 4 and 5
   pub record Symmetric : Type 0 where

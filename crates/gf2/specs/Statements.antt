@@ -2,8 +2,10 @@
 -- A: the check accepts a table just when its operands form a field whose square is the turn by one.
 -- B: the chain gives the inverse, with a known number of products.
 -- C: rule 7 follows from rules 4, 5 and 6.
+-- F: under rules 4 and 5, rule 6 follows from rule 6 for i = 0.
 -- D: the reduced product is the product, by pairs and by distances.
 -- E: for every r, as many pairs (i, j) have coordinate r in βi·βj as the table has ones.
+-- G: an accepted table has 2m - 1 ones at least.
 use mathlib.Core.Path.{_≡_}
 use mathlib.Core.Logic.{_↔_}
 use mathlib.Core.List.{List}
@@ -47,6 +49,12 @@ abbrev pub TheoremC : Type 0
 TheoremC = (m : ℕ) (table : List ℕ) → 2 ≤ m → IsTable m table → Symmetric m table →
     ((i j : ℕ) → i < m → j < m → Rule6 m table i j) → Rule7 m table
 
+-- Under rules 4 and 5, rule 6 for i = 0 and every j implies it for every i and j: rule 6 for i = 0 says that β1 acts as β0 twice, and the
+-- turn carries that on, so that every βj acts as a power of β0, and all of them commute.
+abbrev pub TheoremF : Type 0
+TheoremF = (m : ℕ) (table : List ℕ) → 2 ≤ m → IsTable m table → Symmetric m table →
+    ((j : ℕ) → j < m → Rule6 m table 0 j) → (i j : ℕ) → i < m → j < m → Rule6 m table i j
+
 -- Under rules 4 and 5 the reduced product is the product, of any bytes, and so is its form by distances.
 pub record Reduces (m : ℕ) (table a b : List ℕ) : Type 0 where
   pub pairs : reduced m table a b ≡ product m table a b
@@ -80,3 +88,7 @@ pub record CountsPairs (m : ℕ) (table : List ℕ) : Type 0 where
 
 abbrev pub TheoremE : Type 0
 TheoremE = (m : ℕ) (table : List ℕ) → 2 ≤ m → IsTable m table → CountsPairs m table
+
+-- An accepted table has 2m - 1 ones at least. A normal basis with C = 2m - 1 is called optimal.
+abbrev pub TheoremG : Type 0
+TheoremG = (m : ℕ) (table : List ℕ) → 2 ≤ m → IsTable m table → Accepted m table → 2 * m - 1 ≤ onesIn m table

@@ -2,7 +2,7 @@
 use mathlib.Core.Path.{_≡_, refl, ap, _∙_}
 use mathlib.Core.Bool.{Bool, true, false, not, _&&_}
 use mathlib.Core.List.{List, [], _∷_}
-use Prim.Native.Nat.{ℕ, zero, suc, _+_, _-_, _^_, _<_, _≤_}
+use Prim.Native.Nat.{ℕ, _+_, _-_, _^_, _<_, _≤_}
 use native.Mathlib.Omega.{arith}
 use lib.Dec.{leb, ltb, eqb}
 use lib.ListN.{length}
@@ -16,7 +16,7 @@ use Rattle.operand.specs.declared.fault.Fault.{Fault}
 use Rattle.operand.specs.declared.fault.Fault.the-variants.{None, Width, Length, HighBit, RowZero, RowPair, Triple, RowSum, TurnCount, InverseOfZero, TraceOne, OutputShort, NoType, BadGate}
 use Rattle.operand.specs.Faults.{numberOf, isNone, when, orElse, firstOf, firstFrom}
 use Rattle.operand.specs.Judgements.{widthFault, lengthFault, highFault, turnFault, traceFault, bytesFault}
-use Rattle.operand.proofs.FaultLaws.{or-first, or-second, or-both, width-fine}
+use Rattle.operand.proofs.FaultLaws.{when-keeps, or-keeps, first-keeps, from-keeps, or-both, width-fine}
 use Rattle.table.specs.Judgements.{same, rowsFault, shapeFault, rowZeroFault, rowPairFault, tripleFault, rowSumFault, symmetryFault, checkFault}
 use Rattle.netlist.specs.Running.{gateCount}
 use Rattle.netlist.specs.Judgements.{wordsFault, isGate, isOutput, gatesFault}
@@ -43,35 +43,26 @@ pub packs : {f g : Fault} → f ≡ g → Small g → Packs f 0 0
 packs e s = (rw e s, λ n. (omega arith, omega arith))
 
 small-when : (b : Bool) (f : Fault) → Small f → Small (when b f)
-small-when true f s = s
-small-when false f s = bare None refl refl
+small-when = when-keeps Small (bare None refl refl)
 
 bare-when : (b : Bool) (f : Fault) → numberOf f .1 ≡ 0 → numberOf f .2 ≡ 0 → Small (when b f)
 bare-when b f p q = small-when b f (bare f p q)
 
 pub small-or : {f g : Fault} → Small f → (isNone f ≡ true → Small g) → Small (orElse f g)
-small-or {f} {g} p q = go (isNone f) refl
-  where
-    go : (b : Bool) → isNone f ≡ b → Small (orElse f g)
-    go true e = rw (or-second f g e) (q e)
-    go false e = rw (or-first f g e) p
+small-or p q = or-keeps Small p q
 
 pub small-none : Small (firstOf [])
 unfolding firstOf
 small-none = bare None refl refl
 
 pub small-then : {f : Fault} (fs : List Fault) → Small f → (isNone f ≡ true → Small (firstOf fs)) → Small (firstOf (f ∷ fs))
-unfolding firstOf
-small-then fs p q = small-or p q
+small-then = first-keeps Small
 
 pub small-first : {f : Fault} (fs : List Fault) → Small f → Small (firstOf fs) → Small (firstOf (f ∷ fs))
 small-first fs p q = small-then fs p (λ e. q)
 
 pub small-from : (start count : ℕ) (f : ℕ → Fault) → ((d : ℕ) → start ≤ d → d < start + count → Small (f d)) → Small (firstFrom start count f)
-unfolding firstFrom
-small-from start zero f h = bare None refl refl
-small-from start (suc count) f h =
-    small-or (h start (omega arith) (omega arith)) (λ e. small-from (start + 1) count f (λ d l k. h d (omega arith) (omega arith)))
+small-from = from-keeps Small (bare None refl refl)
 
 pub small-width : (m : ℕ) → Small (widthFault m)
 unfolding widthFault

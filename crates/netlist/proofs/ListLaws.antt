@@ -18,7 +18,7 @@ use Rattle.gf2.specs.Tables.{IsTable, row, pairProduct, onesIn}
 use Rattle.gf2.specs.Products.{product, reduced as reducedProduct}
 use Rattle.gf2.specs.Check.{Symmetric}
 use Rattle.gf2.specs.Statements.{CountsPairs, pairsWith, pairsBelow}
-use Rattle.gf2.proofs.Sums.{sum-ext, sum-split, sum-mod, every-at, every-of}
+use Rattle.gf2.proofs.Sums.{sum-ext, sum-plus, sum-split, sum-mod, every-at, every-of}
 use Rattle.gf2.proofs.Parity.{bool-ext, and-both}
 use Rattle.gf2.proofs.Coordinates.{coord-lt}
 use Rattle.gf2.proofs.Operands.{coord-from, coord-turned, minus-below, minus-round}
@@ -28,7 +28,7 @@ use Rattle.netlist.specs.Gates.{Gate, XOR, Netlist, andGates, xorGates}
 use Rattle.netlist.specs.Lists.{pairs, before, andWire, ands, fold, folded, has, plainTerms, plain, mixes, mixWire, reducedTerms, reduced, allOnes, fullRows, isShared, sharedTerms, sharedWire, otherTerms, sharing, ifNone, common}
 use Rattle.netlist.specs.Running.{valueOn, wires}
 use Rattle.netlist.specs.Counts.{commonXors}
-use Rattle.netlist.proofs.SumLaws.{num, num-and, num-bit, sum-const, sum-plus, sum-triangle, sum-below, sum-mono, sum-next}
+use Rattle.netlist.proofs.SumLaws.{num, num-and, num-bit, sum-const, sum-triangle, sum-below, sum-mono, sum-next}
 use Rattle.netlist.proofs.FoldLaws.{Below, Earlier, Holds, AllAnd, AllXor, total, total-append, total-cons, total-one, total-pairs, length-pairs, length-fold, below-append, below-cons, below-one, below-pairs, below-mono, end-below, earlier-append, earlier-fold, earlier-pairs, holds-append, holds-pairs, fold-value, and-append, xor-append, and-pairs, xor-pairs, xor-fold}
 use Rattle.netlist.proofs.NetlistLaws.{folded-value, folded-start, folded-length, folded-ands, folded-xors, folded-earlier, outputs-below, length-outputs, length-ands, and-below, earlier-ands, wires-hold, and-value, picked-value}
 

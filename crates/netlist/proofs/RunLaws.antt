@@ -29,22 +29,6 @@ use Rattle.netlist.proofs.FoldLaws.{Bits, run-length, run-bits, length-
 use Rattle.netlist.proofs.NetlistLaws.{length-inputs, inputs-bits}
 use Rattle.netlist.proofs.StoreLaws.{sets-append, sets-whole}
 
--- a search through tests that are all to be true
-pub every-none : (test : ℕ → Bool) → every 0 test ≡ true
-unfolding every
-every-none test = refl
-
-pub every-more : (test : ℕ → Bool) (k : ℕ) → every k test ≡ true → test k ≡ true → every (k + 1) test ≡ true
-unfolding every
-every-more test k e h = rw (add-one, e) h
-
-pub every-not : (n : ℕ) (test : ℕ → Bool) (k : ℕ) → k < n → test k ≡ false → every n test ≡ false
-every-not n test k l h = go (every n test) refl
-  where
-    go : (b : Bool) → every n test ≡ b → b ≡ false
-    go true e = sym (every-at n test e k l) ∙ h
-    go false e = refl
-
 module _ (m : ℕ) (list : List ℕ) where
   pub gate-kind : (k x : ℕ) → x ≡ kindAt list k → 1 < x → false ≡ isGate m list k
   unfolding isGate

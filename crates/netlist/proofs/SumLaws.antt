@@ -9,7 +9,6 @@ use lib.Dec.{ltb, eqb}
 use borrow.Author.Tests.{lt-ltb, le-ltb}
 use Rattle.gf2.specs.Sums.{sum}
 use Rattle.gf2.specs.Operands.{choose}
-use Rattle.gf2.proofs.Monoid.{nats, sum-big, big-plus}
 use Rattle.gf2.proofs.Sums.{sum-ext, sum-swap}
 
 -- a test as a number
@@ -37,9 +36,6 @@ pub sum-const : (n c : ℕ) → sum n (λ i. c) ≡ n * c
 unfolding sum
 sum-const zero c = sym (zero-mul c)
 sum-const (suc n) c = rw (sum-const n c, suc-mul)
-
-pub sum-plus : (n : ℕ) (f g : ℕ → ℕ) → sum n (λ i. f i + g i) ≡ sum n f + sum n g
-sum-plus n f g = simp sum-big (big-plus nats n f g)
 
 pub sum-mono : (f : ℕ → ℕ) (i n : ℕ) → i ≤ n → sum i f ≤ sum n f
 unfolding sum

@@ -1,11 +1,11 @@
 -- Laws of faults and judgements.
--- Faults: none is the only fault with number 0, and no number is above 18; the first of two.
+-- Faults: none is the only fault with number 0, and no number is above 18; the first of two, and what it has of all.
 -- Answers: what an answer is, with and without a fault.
 -- Judgements: what holds of a width, a length, an operand that is given no fault.
 use mathlib.Core.Path.{_≡_, refl, sym, ap, _∙_}
 use mathlib.Core.Bool.{Bool, true, false, not, _&&_}
 use mathlib.Core.List.{List, [], _∷_}
-use Prim.Native.Nat.{ℕ, _<_, _≤_}
+use Prim.Native.Nat.{ℕ, zero, suc, _+_, _<_, _≤_}
 use native.Mathlib.Omega.{arith}
 use lib.Dec.{leb}
 use lib.ListN.{length}
@@ -16,7 +16,7 @@ use Rattle.operand.specs.declared.Operand.{Operand}
 use Rattle.operand.specs.declared.OperandAnswer.{OperandAnswer}
 use Rattle.operand.specs.declared.fault.Fault.{Fault}
 use Rattle.operand.specs.declared.fault.Fault.the-variants.{None, Width, Length, HighBit, RowZero, RowPair, Triple, RowSum, TurnCount, InverseOfZero, TraceOne, OutputShort, CardEnds, CardNumber, CardForm, CardPlace, CardTail, NoType, BadGate}
-use Rattle.operand.specs.Faults.{numberOf, isNone, when, orElse, firstOf}
+use Rattle.operand.specs.Faults.{numberOf, isNone, when, orElse, firstOf, firstFrom}
 use Rattle.operand.specs.Judgements.{widthFault, lengthFault, highFault, turnFault, traceFault, operandFault, pairFault, bytesFault}
 use Rattle.operand.specs.Calls.{noOperand, answer}
 
@@ -89,6 +89,29 @@ or-both f g e = go (isNone f) refl
     go : (b : Bool) → isNone f ≡ b → (isNone f ≡ true) × (isNone g ≡ true)
     go true q = (q, ap isNone (sym (or-second f g q)) ∙ e)
     go false q = never (sym q ∙ ap isNone (sym (or-first f g q)) ∙ e)
+
+-- what holds of none and of each of several faults holds of the first of them
+module _ (P : Fault → Type 0) where
+  pub when-keeps : P None → (b : Bool) (f : Fault) → P f → P (when b f)
+  when-keeps n true f p = p
+  when-keeps n false f p = n
+
+  pub or-keeps : {f g : Fault} → P f → (isNone f ≡ true → P g) → P (orElse f g)
+  or-keeps {f} {g} p q = go (isNone f) refl
+    where
+      go : (b : Bool) → isNone f ≡ b → P (orElse f g)
+      go true e = rw (or-second f g e) (q e)
+      go false e = rw (or-first f g e) p
+
+  pub first-keeps : {f : Fault} (fs : List Fault) → P f → (isNone f ≡ true → P (firstOf fs)) → P (firstOf (f ∷ fs))
+  unfolding firstOf
+  first-keeps fs p q = or-keeps p q
+
+  pub from-keeps : P None → (start count : ℕ) (f : ℕ → Fault) → ((d : ℕ) → start ≤ d → d < start + count → P (f d)) → P (firstFrom start count f)
+  unfolding firstFrom
+  from-keeps n start zero f h = n
+  from-keeps n start (suc count) f h =
+      or-keeps (h start (omega arith) (omega arith)) (λ e. from-keeps n (start + 1) count f (λ d l k. h d (omega arith) (omega arith)))
 
 pub first-two : (f g : Fault) → firstOf (f ∷ g ∷ []) ≡ orElse f g
 unfolding firstOf

@@ -7,12 +7,12 @@ use Prim.Native.Nat.{ℕ, zero, suc, _+_, _-_, _*_, _/_, _%_, _^_, _<_, _≤_}
 use native.Mathlib.Nat.{add-zero, add-comm, mul-comm, mod-eq-of-lt, mod-lt, mod-mod, zero-div, div-eq-of-lt, lt-of-le-of-lt, lt-of-lt-of-le}
 use native.Mathlib.Decide.{decLt}
 use native.Mathlib.Omega.{arith}
-use lib.ListN.{length, getD}
+use lib.ListN.{length, getD, replicate, length-replicate, getD-replicate, List·getD-eq-default}
 use lib.Bits.{bitOr, or-shifted, or-shifted-r}
 use lib.Pow.{pow-mono, shl-exact, shr-shr, shr-le}
 use Rattle.gf2.specs.Sums.{sum}
 use Rattle.gf2.specs.Coordinates.{coord, value, tabulate, pack}
-use Rattle.gf2.proofs.Coordinates.{value-ext, value-lt, value-bit, value-eq, value-split, length-tabulate, digit-at, digit-past, packed-lt, digit-packed, packed-of, packed-eq, coord-lt, coord-past, coord-digit, pack-of, pack-ext, mod-bit}
+use Rattle.gf2.proofs.Coordinates.{value-ext, value-lt, value-bit, value-eq, value-split, length-tabulate, digit-at, digit-past, packed-lt, digit-packed, packed-of, packed-eq, digit-none, coord-lt, coord-past, coord-digit, pack-of, pack-ext, mod-bit}
 use Rattle.gf2.specs.Operands.{carriedBytes, below}
 use Rattle.gf2.proofs.Operands.{below-in, below-out}
 use Rattle.operand.specs.Words.{carriedWords, wordCoord, packWords}
@@ -50,6 +50,24 @@ words-of n g f small e = packed-of 64 (omega arith) n g f small e
 pub words-ext : (n : ℕ) (f g : ℕ → ℕ) → ((i : ℕ) → i < 64 * n → f i % 2 ≡ g i % 2) → packWords n f ≡ packWords n g
 unfolding packWords wordCoord
 words-ext n f g e = packed-eq 64 (omega arith) n g (packWords n f) (length-words n f) (words-lt n f) (λ i h. word-pack n f i (omega arith) ∙ e i (omega arith))
+
+-- words are known by their coordinates
+pub words-eq : (n : ℕ) (f : ℕ → ℕ) {x : List ℕ} → length x ≡ n → ((w : ℕ) → getD x w 0 < 2 ^ 64) → ((i : ℕ) → i < 64 * n → wordCoord x i ≡ f i % 2) → x ≡ packWords n f
+unfolding packWords wordCoord
+words-eq n f {x} size small e = packed-eq 64 (omega arith) n f x size small (λ i h. e i (omega arith))
+
+pub word-zero : (n i : ℕ) → wordCoord (replicate n 0) i ≡ 0
+unfolding wordCoord
+word-zero n i = digit-none 64 (omega arith) n i
+
+pub words-zero : (n : ℕ) (f : ℕ → ℕ) → ((i : ℕ) → i < 64 * n → f i % 2 ≡ 0) → replicate n 0 ≡ packWords n f
+words-zero n f e = words-eq n f (length-replicate n 0) small (λ i h. word-zero n i ∙ sym (e i h))
+  where
+    small : (k : ℕ) → getD {A = ℕ} (replicate n 0) k 0 < 2 ^ 64
+    small k = elim (decLt k n) [
+      | yes h ↦ rw (getD-replicate {A = ℕ} n k 0 0 h) (omega arith)
+      | no h ↦ rw (List·getD-eq-default {A = ℕ} (replicate n 0) 0 {n = k} (omega (arith, length-replicate {A = ℕ} n 0))) (omega arith)
+    ]
 
 -- bytes in a row as one number, the first lowest
 unfoldable pub joined : ℕ → (ℕ → ℕ) → ℕ

@@ -7,23 +7,19 @@ use Prim.Native.Nat.{ℕ, zero, suc, _+_, _-_, _*_, _/_, _%_, _^_, _<_, _≤_}
 use native.Mathlib.Nat.{mul-add}
 use native.Mathlib.Decide.{decLt, ℕ-discrete}
 use native.Mathlib.Omega.{arith}
-use lib.ListN.{length, getD, set, length-set, replicate}
+use lib.ListN.{length, getD, set, length-set}
 use lib.Seq.{getD-set-same, getD-set-other}
 use lib.Dec.{eqb}
 use lib.Bits.{bitAnd, and-lt, bitXor, xor-lt}
 use borrow.Author.Tests.{eq-eqb, ne-eqb}
 use Rattle.gf2.specs.Coordinates.{tabulate}
 use Rattle.gf2.specs.Operands.{choose, below}
-use Rattle.gf2.proofs.Coordinates.{digit-none, and-bit, xor-bit}
+use Rattle.gf2.proofs.Coordinates.{and-bit, xor-bit}
 use Rattle.gf2.proofs.Operands.{below-in, below-out}
 use Rattle.operand.specs.Words.{carriedWords, wordCoord, packWords}
 use Rattle.operand.proofs.WordCoords.{word-lt, word-digit, words-of}
 use Rattle.operand.proofs.WordLoops.{Words}
 use Rattle.product.specs.Cells.{places, HasPlaces, cell, Added}
-
-pub word-none : (n i : ℕ) → wordCoord (replicate n 0) i ≡ 0
-unfolding wordCoord
-word-none n i = digit-none 64 (omega arith) n i
 
 pub bit-mul : (x y : ℕ) → x < 2 → y < 2 → x * y ≡ x * y % 2
 bit-mul zero y h l = omega arith

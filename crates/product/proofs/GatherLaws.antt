@@ -9,7 +9,7 @@ use native.Mathlib.Omega.{arith}
 use Rattle.gf2.specs.Sums.{sum}
 use Rattle.gf2.specs.Coordinates.{coord}
 use Rattle.gf2.specs.Operands.{carriedBytes, minus, below}
-use Rattle.gf2.proofs.Sums.{sum-ext, sum-split, sum-swap, sum-mod}
+use Rattle.gf2.proofs.Sums.{sum-ext, sum-plus, sum-none, sum-split, sum-swap, sum-mod}
 use Rattle.gf2.proofs.Operands.{minus-below, minus-round, below-in, below-out, from-ext}
 use Rattle.operand.specs.declared.Operand.{Operand}
 use Rattle.operand.specs.declared.OperandAnswer.{OperandAnswer}
@@ -20,7 +20,6 @@ use Rattle.operand.proofs.TurnWords.{raised-in, raised-out}
 use Rattle.product.specs.Kernels.{carried}
 use Rattle.product.specs.Cells.{twiceWords, places, cell, cellRaised, Within, IsWidth}
 use Rattle.product.proofs.SoundOperands.{made, sum-parts, sum-made}
-use Rattle.product.proofs.MoveLaws.{sum-none, sum-both}
 
 -- place by place: of the two parts, one has the coordinate that comes to place i and the other has 0 there
 module _ (m : ℕ) (g : List ℕ) (fits : m ≤ places) (within : Within m g) where
@@ -58,7 +57,7 @@ module _ (m : ℕ) (g : List ℕ) (fits : m ≤ places) (within : Within m g) wh
   all-turned : (i : ℕ) → i < m → sum places (λ s. cellRaised g s s i) + sum places (λ s. cellRaised g s s (m + i)) ≡ sum m (λ s. cell g s (minus m i s))
   all-turned i l =
       let e : places ≡ m + (places - m) = omega arith in
-      sym (sum-both places _ _) ∙ ap (λ n. sum n (λ s. cellRaised g s s i + cellRaised g s s (m + i))) e ∙ sum-split m (places - m) _
+      sym (sum-plus places _ _) ∙ ap (λ n. sum n (λ s. cellRaised g s s i + cellRaised g s s (m + i))) e ∙ sum-split m (places - m) _
       ∙ ap₂ _+_ (sum-ext m _ _ (λ s h. place-turned s i h l)) (sum-none (places - m) _ (λ s h. ap₂ _+_ (none-raised (m + s) (omega arith) i) (none-raised (m + s) (omega arith) (m + i))))
       ∙ add-zero _
 

@@ -13,20 +13,19 @@ use Rattle.gf2.specs.Sums.{sum}
 use Rattle.gf2.specs.Coordinates.{coord, pack}
 use Rattle.gf2.specs.Operands.{carriedBytes, maxWidth, minus, choose, fromCoords}
 use Rattle.gf2.specs.Tables.{row}
-use Rattle.gf2.proofs.Sums.{sum-ext}
+use Rattle.gf2.proofs.Sums.{sum-ext, sum-none}
 use Rattle.gf2.proofs.Coordinates.{coord-lt, length-pack, pack-ext}
 use Rattle.gf2.proofs.Operands.{below-in, below-out}
 use Rattle.operand.specs.declared.Operand.{Operand}
 use Rattle.operand.specs.Words.{carriedWords, wordCoord, packWords, raised}
-use Rattle.operand.proofs.WordCoords.{word-lt, word-pack, words-ext, words-same, bytes-words}
+use Rattle.operand.proofs.WordCoords.{word-lt, word-pack, words-ext, word-zero, words-same, bytes-words}
 use Rattle.operand.proofs.TurnWords.{raised-in, raised-out}
 use Rattle.operand.proofs.CallLaws.{coord-carried}
 use Rattle.table.specs.Rows.{Shaped}
 use Rattle.table.proofs.Shapes.{row-short, sized}
 use Rattle.product.specs.Kernels.{Sound, carried}
 use Rattle.product.specs.Cells.{twiceWords, places, cell, Added, Clear, Within, isOneWay, metWords}
-use Rattle.product.proofs.CellLaws.{word-none, added-none, added-more, added-same}
-use Rattle.product.proofs.MoveLaws.{sum-none}
+use Rattle.product.proofs.CellLaws.{added-none, added-more, added-same}
 use Rattle.product.proofs.SoundOperands.{made, sum-parts}
 use Rattle.product.proofs.GatherLaws.{gathered-rows}
 
@@ -126,7 +125,7 @@ module _ (both : Bool) (m : ℕ) (t x y : List ℕ) (from : ℕ) where
   -- from empty places on
   module _ (n c : ℕ) {g : List ℕ} (p : Added (rowsTo both m t x y from n) (replicate c 0) g) where
     rows-cell : (s i : ℕ) → i < places → cell g s i ≡ rowsTo both m t x y from n s i % 2
-    rows-cell s i l = p .coords s i l ∙ ap (λ z. (z + rowsTo both m t x y from n s i) % 2) (word-none c (s * places + i)) ∙ ap (λ z. z % 2) (omega arith)
+    rows-cell s i l = p .coords s i l ∙ ap (λ z. (z + rowsTo both m t x y from n s i) % 2) (word-zero c (s * places + i)) ∙ ap (λ z. z % 2) (omega arith)
 
     pub rows-within : Shaped m t → Clear m x → Clear m y → from + n ≤ m → Within m g
     rows-within shaped cx cy h = record {

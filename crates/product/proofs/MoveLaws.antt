@@ -10,8 +10,8 @@ use lib.Bits.{bitOr, bitXor}
 use lib.Pow.{shr-shr}
 use Rattle.gf2.specs.Sums.{sum}
 use Rattle.gf2.specs.Coordinates.{value, tabulate}
-use Rattle.gf2.proofs.Sums.{sum-ext}
-use Rattle.gf2.proofs.Coordinates.{packed-eq, value-bit, value-lt, tabulate-ext}
+use Rattle.gf2.proofs.Sums.{sum-ext, sum-none}
+use Rattle.gf2.proofs.Coordinates.{value-bit, value-lt, tabulate-ext}
 use Rattle.operand.specs.Words.{wordCoord, packWords, raised}
 use Rattle.operand.proofs.WordCoords.{word-lt, word-digit, word-pack, words-of, words-ext}
 use Rattle.operand.proofs.WordLoops.{Words, raise-pair}
@@ -39,16 +39,6 @@ raised-twice j k f i = elim (decLt i j) [
   ]
 ]
 
-pub sum-none : (n : ℕ) (f : ℕ → ℕ) → ((i : ℕ) → i < n → f i ≡ 0) → sum n f ≡ 0
-unfolding sum
-sum-none zero f z = refl
-sum-none (suc n) f z = rw (sum-none n f (λ i l. z i (omega arith)), z n (omega arith))
-
-pub sum-both : (n : ℕ) (f g : ℕ → ℕ) → sum n (λ i. f i + g i) ≡ sum n f + sum n g
-unfolding sum
-sum-both zero f g = refl
-sum-both (suc n) f g = omega (arith, sum-both n f g)
-
 pub sum-one : (f : ℕ → ℕ) → sum 1 f ≡ f 0
 unfolding sum
 sum-one f = zero-add (f 0)
@@ -58,11 +48,6 @@ raised-sum k n f i = elim (decLt i k) [
   | yes l ↦ raised-out k (λ j. sum n (λ q. f q j)) i l ∙ sym (sum-none n _ (λ q h. raised-out k (f q) i l))
   | no l ↦ raised-in k (λ j. sum n (λ q. f q j)) i (omega arith) ∙ sum-ext n _ _ (λ q h. sym (raised-in k (f q) i (omega arith)))
 ]
-
--- words are known by their coordinates
-pub words-eq : (n : ℕ) (f : ℕ → ℕ) {x : List ℕ} → length x ≡ n → Words x → ((i : ℕ) → i < 64 * n → wordCoord x i ≡ f i % 2) → x ≡ packWords n f
-unfolding packWords wordCoord
-words-eq n f {x} size small e = packed-eq 64 (omega arith) n f x size small (λ i h. e i (omega arith))
 
 -- what is made from the coordinates of packed words
 pub packed-plus : (n : ℕ) (f c : ℕ → ℕ) {x r : List ℕ} → x ≡ packWords n f → r ≡ packWords n (λ i. wordCoord x i + c i) → r ≡ packWords n (λ i. f i + c i)

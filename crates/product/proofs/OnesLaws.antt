@@ -1,17 +1,18 @@
 -- The ones of a word, taken off from the lowest on, and of a row word by word; what they add at their places.
-use mathlib.Core.Path.{_≡_, refl, sym, ap, ap₂, _∙_}
+use mathlib.Core.Path.{_≡_, refl, sym, ap, _∙_}
 use mathlib.Core.List.{List}
-use Prim.Native.Nat.{ℕ, zero, suc, _+_, _-_, _*_, _/_, _%_, _^_, _<_, _≤_, min}
-use native.Mathlib.Nat.{add-zero, add-mul, div-eq-of-lt, div-one, lt-of-lt-of-le, min-zero, zero-min, pow-suc, zero-div}
+use Prim.Native.Nat.{ℕ, _+_, _-_, _*_, _/_, _%_, _^_, _<_, _≤_}
+use native.Mathlib.Nat.{add-zero, add-mul, div-eq-of-lt, lt-of-lt-of-le, zero-div}
 use native.Mathlib.Decide.{decLt, ℕ-discrete}
 use native.Mathlib.Omega.{arith}
 use lib.ListN.{length, getD}
-use lib.Dec.{eqb, eqb·zero-suc, eqb·suc-zero, eqb·suc-suc}
-use lib.Bits.{bitAnd, and-step, and-self, and-le-r}
-use lib.Pow.{pow-mono, shr-shr}
-use lib.Count.{trailingZeros, under}
+use lib.Dec.{eqb}
+use lib.Bits.{bitAnd}
+use lib.Pow.{pow-mono}
+use lib.Count.{trailingZeros}
 use borrow.Author.Tests.{eq-eqb, ne-eqb, lt-ltb, le-ltb}
 use Rattle.gf2.specs.Operands.{choose, below}
+use Rattle.gf2.proofs.TrailingZeros.{lowest-off}
 use Rattle.gf2.proofs.Operands.{below-in, below-out}
 use Rattle.operand.specs.Words.{carriedWords, wordCoord}
 use Rattle.operand.proofs.WordCoords.{word-past, word-digit}
@@ -19,67 +20,16 @@ use Rattle.operand.proofs.WordLoops.{Words}
 use Rattle.product.specs.Cells.{Added, bitFrom}
 use Rattle.product.proofs.CellLaws.{word-more, added-none, added-more, added-same}
 
--- a number above 0 has its lowest one below its length
-pub trailing-lt : (k n : ℕ) → 0 < n → n < 2 ^ k → trailingZeros k n < k
-unfolding trailingZeros
-trailing-lt zero n h l = absurd (omega arith)
-trailing-lt (suc k) n h l = go (λ p q. trailing-lt k (n / 2) p q) (n % 2) refl
-  where
-    go : (0 < n / 2 → n / 2 < 2 ^ k → trailingZeros k (n / 2) < k) → (r : ℕ) → n % 2 ≡ r → under r (trailingZeros k (n / 2)) < suc k
-    go rest zero e = omega (arith, rest (omega arith) (omega (arith, pow-suc 2 k)))
-    go rest (suc r) e = omega arith
-
-half : (x j : ℕ) → x / 2 ^ suc j ≡ x / 2 / 2 ^ j
-half x j = let q : suc j ≡ 1 + j = omega arith in ap (λ i. x / 2 ^ i) q ∙ sym (shr-shr x 1 j)
-
-and-even : (n : ℕ) → 0 < n → n % 2 ≡ 0 → bitAnd n (n - 1) ≡ bitAnd (n / 2) (n / 2 - 1) * 2
-and-even n h e =
-    let d : (n - 1) / 2 ≡ n / 2 - 1 = omega arith in
-    and-step n (n - 1) ∙ ap₂ (λ a b. bitAnd (n / 2) a * 2 + b) d (ap (λ a. min a ((n - 1) % 2)) e ∙ zero-min ((n - 1) % 2)) ∙ add-zero _
-
-and-odd : (n : ℕ) → n % 2 ≡ 1 → bitAnd n (n - 1) ≡ n - 1
-and-odd n e =
-    let d : (n - 1) / 2 ≡ n / 2 = omega arith in
-    let z : (n - 1) % 2 ≡ 0 = omega arith in
-    and-step n (n - 1) ∙ ap₂ (λ a b. bitAnd (n / 2) a * 2 + b) d (ap (min (n % 2)) z ∙ min-zero (n % 2)) ∙ ap (λ a. a * 2 + 0) (and-self (n / 2)) ∙ omega arith
-
--- n and n - 1 have the bits of n but the lowest one
-lowest-off : (k n : ℕ) → 0 < n → n < 2 ^ k → (j : ℕ) → bitAnd n (n - 1) / 2 ^ j % 2 + choose (eqb j (trailingZeros k n)) 1 0 ≡ n / 2 ^ j % 2
-unfolding trailingZeros
-lowest-off zero n h l j = absurd (omega arith)
-lowest-off (suc k) n h l j = go (λ p q i. lowest-off k (n / 2) p q i) (n % 2) refl j
-  where
-    go : (0 < n / 2 → n / 2 < 2 ^ k → (i : ℕ) → bitAnd (n / 2) (n / 2 - 1) / 2 ^ i % 2 + choose (eqb i (trailingZeros k (n / 2))) 1 0 ≡ n / 2 / 2 ^ i % 2)
-        → (r : ℕ) → n % 2 ≡ r → (j : ℕ) → bitAnd n (n - 1) / 2 ^ j % 2 + choose (eqb j (under r (trailingZeros k (n / 2)))) 1 0 ≡ n / 2 ^ j % 2
-    go rest zero e zero = rw (eqb·zero-suc (trailingZeros k (n / 2)), and-even n h e, div-one, div-one) (omega arith)
-    go rest zero e (suc j) =
-        let d : bitAnd (n / 2) (n / 2 - 1) * 2 / 2 ≡ bitAnd (n / 2) (n / 2 - 1) = omega arith in
-        rw (eqb·suc-suc j (trailingZeros k (n / 2)), half n j, half (bitAnd n (n - 1)) j, and-even n h e, d) (rest (omega arith) (omega (arith, pow-suc 2 k)) j)
-    go rest (suc r) e zero = rw (and-odd n (omega arith), div-one, div-one) (omega arith)
-    go rest (suc r) e (suc j) =
-        let d : (n - 1) / 2 ≡ n / 2 = omega arith in
-        rw (eqb·suc-zero j, half n j, half (bitAnd n (n - 1)) j, and-odd n (omega arith), d) (add-zero _)
-
-positive : (n : ℕ) → (n ≡ 0 → ⊥) → 0 < n
-positive zero n = absurd (n refl)
-positive (suc k) n = omega arith
-
 -- what is left of a word whose bits stand for the places from `from` on: each step takes off its lowest one
 module _ (word from rest : ℕ) (small : rest < 2 ^ 64) (some : rest ≡ 0 → ⊥) where
   abbrev zeros : ℕ
   zeros = trailingZeros 64 rest
 
-  pub ones-next : zeros < 64
-  ones-next = trailing-lt 64 rest (positive rest some) small
-
-  pub ones-less : bitAnd rest (rest - 1) < rest
-  ones-less = omega (arith, and-le-r rest (rest - 1), positive rest some)
-
   ones-more : (s : ℕ) → bitFrom (bitAnd rest (rest - 1)) from s + choose (eqb s (from + zeros)) 1 0 ≡ bitFrom rest from s
   unfolding bitFrom
   ones-more s = elim (decLt s from) [
     | yes l ↦ rw (lt-ltb s from l, ne-eqb s (from + zeros) (λ z. omega arith))
-    | no l ↦ rw (le-ltb s from (omega arith), same l) (lowest-off 64 rest (positive rest some) small (s - from))
+    | no l ↦ rw (le-ltb s from (omega arith), same l) (lowest-off 64 rest small some (s - from))
   ]
     where
       same : (s < from → ⊥) → eqb s (from + zeros) ≡ eqb (s - from) zeros

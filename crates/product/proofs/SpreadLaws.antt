@@ -7,22 +7,22 @@ use native.Mathlib.Nat.{add-zero, zero-add}
 use native.Mathlib.Decide.{decLt, ℕ-discrete}
 use native.Mathlib.Numerals.{add-one}
 use native.Mathlib.Omega.{arith}
-use lib.ListN.{length, getD, set, length-set, replicate, length-replicate, getD-replicate, List·getD-eq-default}
+use lib.ListN.{length, getD, set, length-set, replicate}
 use lib.Dec.{eqb}
 use lib.Seq.{getD-set-same, getD-set-other}
 use lib.Bits.{bitXor, xor-lt}
 use borrow.Author.Tests.{eq-eqb, ne-eqb}
 use Rattle.gf2.specs.Sums.{sum}
 use Rattle.gf2.specs.Operands.{choose, below}
-use Rattle.gf2.proofs.Sums.{sum-ext, sum-split, sum-digits}
+use Rattle.gf2.proofs.Sums.{sum-ext, sum-plus, sum-none, sum-split, sum-digits}
 use Rattle.gf2.proofs.Operands.{below-out}
 use Rattle.operand.specs.Words.{carriedWords, wordCoord, packWords, raised}
-use Rattle.operand.proofs.WordCoords.{word-lt, words-ext}
+use Rattle.operand.proofs.WordCoords.{word-lt, words-ext, words-eq, words-zero}
 use Rattle.operand.proofs.WordLoops.{Words}
 use Rattle.operand.proofs.TurnWords.{raised-in, raised-out}
 use Rattle.product.specs.Cells.{places, cell, cellRaised}
-use Rattle.product.proofs.CellLaws.{word-none, cell-digit, set-coord, word-more}
-use Rattle.product.proofs.MoveLaws.{raised-ext, raised-add, raised-twice, sum-none, sum-both, sum-one, raised-sum, words-eq, packed-plus, packed-up}
+use Rattle.product.proofs.CellLaws.{cell-digit, set-coord, word-more}
+use Rattle.product.proofs.MoveLaws.{raised-ext, raised-add, raised-twice, sum-one, raised-sum, packed-plus, packed-up}
 
 -- the first w words at place s, added to x from word q on
 pub record Plus (g : List ℕ) (s q : ℕ) (x : List ℕ) (w : ℕ) (r : List ℕ) : Type 0 where
@@ -99,7 +99,7 @@ module _ (g : List ℕ) where
       ap (λ y. y + columnTo g r carriedWords i) (raised-sum 1 carriedWords (λ q j. sum (64 - (r + 1)) (λ u. cellRaised g (q * 64 + (r + 1 + u)) (q * 64 + u) j)) i
       ∙ sum-ext carriedWords _ _ (λ q h. raised-sum 1 (64 - (r + 1)) (λ u. cellRaised g (q * 64 + (r + 1 + u)) (q * 64 + u)) i
       ∙ sum-ext (64 - (r + 1)) _ _ (λ u k. raised-twice 1 (q * 64 + u) (below places (cell g (q * 64 + (r + 1 + u)))) i)))
-      ∙ sym (sum-both carriedWords _ _) ∙ sum-ext carriedWords _ _ (λ q h. sym (split q))
+      ∙ sym (sum-plus carriedWords _ _) ∙ sum-ext carriedWords _ _ (λ q h. sym (split q))
     where
       split : (q : ℕ) → sum (64 - r) (λ u. cellRaised g (q * 64 + (r + u)) (q * 64 + u) i)
           ≡ sum (64 - (r + 1)) (λ u. cellRaised g (q * 64 + (r + 1 + u)) (1 + (q * 64 + u)) i) + cellRaised g (q * 64 + r) (q * 64) i
@@ -119,13 +119,7 @@ module _ (g : List ℕ) where
           swap a b = omega arith
 
   pub spread-none : (n : ℕ) → replicate n 0 ≡ packWords n (columns 64)
-  spread-none n = words-eq n (columns 64) (length-replicate n 0) small (λ i l. word-none n i ∙ ap (λ y. y % 2) (sym (sum-none carriedWords _ (λ q h. sum-none (64 - 64) _ (λ u k. absurd (omega arith))))))
-    where
-      small : (k : ℕ) → getD {A = ℕ} (replicate n 0) k 0 < 2 ^ 64
-      small k = elim (decLt k n) [
-        | yes h ↦ rw (getD-replicate {A = ℕ} n k 0 0 h) (omega arith)
-        | no h ↦ rw (List·getD-eq-default {A = ℕ} (replicate n 0) 0 {n = k} (omega (arith, length-replicate {A = ℕ} n 0))) (omega arith)
-      ]
+  spread-none n = words-zero n (columns 64) (λ i l. ap (λ y. y % 2) (sum-none carriedWords _ (λ q h. sum-none (64 - 64) _ (λ u k. absurd (omega arith)))))
 
   pub spread-more : (n r : ℕ) {k : ℕ} {x y z : List ℕ} → k ≡ r + 1 → r < 64 → x ≡ packWords n (columns k) → y ≡ packWords n (raised 1 (wordCoord x))
       → z ≡ packWords n (λ i. wordCoord y i + columnTo g r carriedWords i) → z ≡ packWords n (columns r)

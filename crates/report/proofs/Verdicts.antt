@@ -2,7 +2,7 @@
 use mathlib.Core.Path.{_≡_, refl, sym, ap, _∙_}
 use mathlib.Core.Bool.{Bool, true, false, not, _||_, _&&_, true≢false}
 use mathlib.Core.List.{List, [], _∷_, _++_, append-assoc}
-use Prim.Native.Nat.{ℕ, zero, suc, _+_, _-_, _*_, _≤_}
+use Prim.Native.Nat.{ℕ, _-_, _*_, _≤_}
 use native.Mathlib.Nat.{mul-le-mul}
 use native.Mathlib.Omega.{arith}
 use lib.ListN.{length}
@@ -13,7 +13,7 @@ use Rattle.operand.specs.declared.fault.Fault.{Fault}
 use Rattle.operand.specs.declared.fault.Fault.the-variants.{None, Width, Length, RowZero, RowPair, Triple}
 use Rattle.operand.specs.Faults.{numberOf, isNone, when, orElse, firstOf, firstFrom}
 use Rattle.operand.specs.Judgements.{widthFault}
-use Rattle.operand.proofs.FaultLaws.{none-is, or-first, or-second, width-fine}
+use Rattle.operand.proofs.FaultLaws.{none-is, when-keeps, or-keeps, from-keeps, width-fine}
 use Rattle.table.specs.Rows.{Shaped, mirrors, associates}
 use Rattle.table.specs.Judgements.{same, shapeFault, rowZeroFault, rowPairFault, tripleFault, symmetryFault, checkFault}
 use Rattle.table.proofs.Searches.{three-first, three-second, three-third}
@@ -32,12 +32,11 @@ use Rattle.report.specs.Statements.{Not}
 unfoldable barred : Fault → Bool
 barred f = eqb (numberOf f .0) 3 || (eqb (numberOf f .0) 7 || eqb (numberOf f .0) 11)
 
+abbrev Apart : Fault → Type 0
+Apart f = barred f ≡ false
+
 or-apart : (f g : Fault) → barred f ≡ false → barred g ≡ false → barred (orElse f g) ≡ false
-or-apart f g p q = go (isNone f) refl
-  where
-    go : (b : Bool) → isNone f ≡ b → barred (orElse f g) ≡ false
-    go true e = ap barred (or-second f g e) ∙ q
-    go false e = ap barred (or-first f g e) ∙ p
+or-apart f g p q = or-keeps Apart p (λ e. q)
 
 -- the test at each fault that is met
 none-apart : barred None ≡ false
@@ -61,13 +60,10 @@ unfolding barred
 triple-six i j = refl
 
 when-apart : (b : Bool) (f : Fault) → barred f ≡ false → barred (when b f) ≡ false
-when-apart true f p = p
-when-apart false f p = none-apart
+when-apart = when-keeps Apart none-apart
 
 from-apart : (start count : ℕ) (f : ℕ → Fault) → ((i : ℕ) → barred (f i) ≡ false) → barred (firstFrom start count f) ≡ false
-unfolding firstFrom
-from-apart start zero f p = none-apart
-from-apart start (suc count) f p = or-apart _ _ (p start) (from-apart (start + 1) count f p)
+from-apart start count f p = from-keeps Apart none-apart start count f (λ d l h. p d)
 
 -- the check of a table that was read
 module _ (m : ℕ) (t : List ℕ) (small : Bytes t) (shaped : Shaped m t) where

@@ -1,5 +1,5 @@
--- Sums of rows.
--- left-sum, right-sum: under rules 4 and 5 the two sides of rule 6.
+-- Sums of rows: which products they are, and the sum of all rows.
+-- left-sum, right-sum: under rules 4 and 5 the two sides of rule 6; first-left, first-right: those for i = 0.
 -- rows-none, rows-more, rows-all: the sum of all rows, row after row.
 use mathlib.Core.Path.{_≡_, refl, sym, ap, ap₂, fun-ext, _∙_}
 use mathlib.Core.Bool.{_&&_}
@@ -15,17 +15,17 @@ use Rattle.gf2.specs.Tables.{row}
 use Rattle.gf2.specs.Check.{Symmetric, rowSum}
 use Rattle.gf2.proofs.Operands.{coord-from, from-operand, from-ext, length-from}
 use Rattle.gf2.proofs.Parity.{bits, odd, odd-mul}
-use Rattle.gf2.proofs.Index.{Ix, at, o, _⊹_, _⊖_, num-at, num-minus, at-minus, at-neg, add-sub, add-neg, sub-eq}
+use Rattle.gf2.proofs.Index.{Ix, at, o, _⊖_, at-minus, z-add, sub-add}
 use Rattle.gf2.proofs.IndexSums.{Σ-ext, odd-Σ}
-use Rattle.gf2.proofs.Vector.{Vec, turn, β, lin, lin-turn, turn-lin}
-use Rattle.gf2.proofs.VectorProduct.{_·_, pair, pair-swap, rule6-left, rule6-right}
-use Rattle.gf2.proofs.OperandVectors.{bytes-fit, vec, bytes, from-vec, basis-vec, turned-bytes}
-use Rattle.gf2.proofs.TableVectors.{rows, product-bytes, symmetric}
+use Rattle.gf2.proofs.Vector.{Vec, turn, β, lin, turn-turn, turn-z, turn-β}
+use Rattle.gf2.proofs.VectorProduct.{_·_ as mul, pair, turn-mul, mul-ββ, mul-o, pair-o, mul-comm, Symmetric as Symmetricᵛ}
+use Rattle.gf2.proofs.OperandVectors.{bytes-fit, vec, bytes, vec-bytes, from-vec, basis-vec, turned-bytes}
+use Rattle.gf2.proofs.TableVectors.{rows, row-vec, product-bytes, symmetric}
 use Rattle.operand.specs.Faults.{isNone}
 use Rattle.operand.specs.Calls.{answer, zeroCall}
 use Rattle.operand.proofs.FaultFree.{IsWidth, done, width-none}
 use Rattle.operand.proofs.CallLaws.{coord-carried}
-use Rattle.table.specs.Rows.{Shaped, carriedBy, carriedRow, rowsOver, leftProduct, rightProduct}
+use Rattle.table.specs.Rows.{Shaped, carriedBy, carriedRow, rowsAt, leftProduct, rightProduct}
 use Rattle.table.proofs.Shapes.{sized, row-short}
 use Rattle.table.proofs.Carrying.{carried-from}
 
@@ -41,79 +41,96 @@ pub zero-done : {m : ℕ} → IsWidth m → zeroCall m ≡ done m (zeroes carrie
 unfolding answer isNone
 zero-done {m} w = rw (width-none m w)
 
-pub over-operand : (m : ℕ) (t x : List ℕ) (j n : ℕ) → IsOperand carriedBytes m (rowsOver m t x j n)
-unfolding rowsOver
-over-operand m t x j n = from-operand carriedBytes m _
+pub at-operand : (m : ℕ) (t x : List ℕ) → IsOperand carriedBytes m (rowsAt m t x)
+unfolding rowsAt
+at-operand m t x = from-operand carriedBytes m _
 
 -- which products they are
 module _ (p : ℕ) (t : List ℕ) (s : Shaped (suc p) t) where
+  infixl 70 _·_
   abbrev T : Ix p → Vec p
   T = rows p t
 
-  abbrev W : ℕ
-  W = bytesFor (suc p)
+  abbrev _·_ : Vec p → Vec p → Vec p
+  a · b = mul T a b
 
-  short : W ≤ carriedBytes
-  short = let g = s .greatest in omega arith
+  -- an operand, carried
+  abbrev x : Vec p → List ℕ
+  x v = bytes p carriedBytes v
 
   room : suc p ≤ 8 * carriedBytes
   room = let g = s .greatest in omega arith
 
-  carried-vec : (v : Vec p) → carriedBy (bytes p W v) ≡ bytes p carriedBytes v
+  carried-vec : (v : Vec p) → carriedBy (bytes p (bytesFor (suc p)) v) ≡ x v
   unfolding bytes
-  carried-vec v = carried-from short (bytes-fit (suc p)) _
+  carried-vec v = let g = s .greatest in carried-from (omega arith) (bytes-fit (suc p)) _
 
-  row-vec : (d : ℕ) → d < suc p → vec p (carriedRow (suc p) t d) ≡ T (at d)
-  unfolding vec rows
-  row-vec d l = fun-ext (λ r. ap odd (coord-carried carriedBytes _ (row-short _ _ _ (sized s) l) (r .num)) ∙ ap (λ k. odd (coord (row (suc p) t k) (r .num))) (sym (num-at {p = p} d l)))
+  row-bytes : (d : ℕ) → d < suc p → carriedRow (suc p) t d ≡ x (T (at d))
+  row-bytes d l = ap carriedBy (row-vec p t (s .isTable) d l) ∙ carried-vec _
 
-  over-vec : (x : List ℕ) (j : ℕ) → rowsOver (suc p) t x j (suc p) ≡ bytes p carriedBytes (lin (vec p x) (λ k. T (k ⊖ at j)))
-  unfolding rowsOver vec rows lin
-  over-vec x j = from-vec p carriedBytes _ _ (λ r. odd-Σ p _ ∙ Σ-ext bits (λ k.
-      odd-mul (coord x (k .num)) _ ∙ ap (λ n. odd (coord x (k .num)) && odd (coord (row (suc p) t n) (r .num))) (num-minus k j)))
+  turned-row : (k d : ℕ) → d < suc p → turned (suc p) k (carriedRow (suc p) t d) ≡ x (turn (at k) (T (at d)))
+  turned-row k d l = ap (turned (suc p) k) (row-bytes d l) ∙ turned-bytes p carriedBytes room k (T (at d))
 
-  left-vec : Symmetric (suc p) t → (i j : Ix p) → _·_ T (_·_ T (β o) (β i)) (β j) ≡ turn j (lin (T i) (λ k. T (k ⊖ j)))
-  unfolding pair
-  left-vec y i j = rule6-left T i j ∙ ap (lin (T i)) (fun-ext (λ k. pair-swap T (symmetric p t (s .isTable) (s .least) .0 y) k j)) ∙ sym (turn-lin j (T i) (λ k. T (k ⊖ j)))
+  at-ones : (v : Vec p) → rowsAt (suc p) t (x v) ≡ x (β o · v)
+  unfolding rowsAt rows vec lin
+  at-ones v = from-vec p carriedBytes _ _ (λ r. odd-Σ p _ ∙ Σ-ext bits (λ k. odd-mul _ _ ∙ ap (λ (u : Vec p). u k && T k r) (vec-bytes p carriedBytes v room)))
+      ∙ ap x (sym (mul-o T v))
 
-  left-rows : Symmetric (suc p) t → (i j : ℕ) → i < suc p → j < suc p → turned (suc p) j (rowsOver (suc p) t (carriedRow (suc p) t i) j (suc p))
-      ≡ carriedBy (leftProduct (suc p) t i j)
-  unfolding leftProduct
+  basis-products : (i j : ℕ) → i < suc p → j < suc p →
+      (carriedBy (leftProduct (suc p) t i j) ≡ x ((β o · β (at i)) · β (at j))) × (carriedBy (rightProduct (suc p) t i j) ≡ x (β o · (β (at i) · β (at j))))
+  unfolding leftProduct rightProduct
+  basis-products i j li lj =
+      let h = bytes-fit (suc p) in
+      let l : 0 < suc p = omega arith in
+      let is = s .isTable in
+      (ap carriedBy (simp (basis-vec, product-bytes)) ∙ carried-vec _, ap carriedBy (simp (basis-vec, product-bytes)) ∙ carried-vec _)
+
+  left-vec : Symmetricᵛ T → (i j : Ix p) → turn j (β o · turn (o ⊖ j) (T i)) ≡ (β o · β i) · β j
+  left-vec y i j = turn-mul T j (β o) _ ∙ rw (turn-β, z-add, turn-turn, sub-add, turn-z, mul-comm T y, mul-ββ, pair-o)
+
+  left-rows : Symmetric (suc p) t → (i j : ℕ) → i < suc p → j < suc p →
+      turned (suc p) j (rowsAt (suc p) t (turned (suc p) (minus (suc p) 0 j) (carriedRow (suc p) t i))) ≡ carriedBy (leftProduct (suc p) t i j)
   left-rows y i j li lj =
-      ap (turned (suc p) j) (over-vec _ j ∙ ap (λ v. bytes p carriedBytes (lin v (λ k. T (k ⊖ at j)))) (row-vec i li))
-      ∙ turned-bytes p carriedBytes room j _ ∙ ap (bytes p carriedBytes) (sym (left-vec y (at i) (at j))) ∙ sym (carried-vec _) ∙ ap carriedBy (sym products)
-    where
-      products : leftProduct (suc p) t i j ≡ bytes p W (_·_ T (_·_ T (β o) (β (at i))) (β (at j)))
-      products = let h = bytes-fit (suc p) in let l : 0 < suc p = omega arith in let is = s .isTable in simp (basis-vec, product-bytes)
+      ap (λ u. turned (suc p) j (rowsAt (suc p) t u)) (turned-row _ i li) ∙ ap (turned (suc p) j) (at-ones _) ∙ turned-bytes p carriedBytes room j _
+      ∙ ap x (ap (λ k. turn (at j) (β o · turn k (T (at i)))) (at-minus 0 j) ∙ left-vec (symmetric p t (s .isTable) (s .least) .0 y) (at i) (at j))
+      ∙ sym (basis-products i j li lj .0)
 
-  right-rows : (i j : ℕ) → i < suc p → j < suc p → rowsOver (suc p) t (carriedRow (suc p) t (minus (suc p) j i)) (suc p - i) (suc p)
-      ≡ carriedBy (rightProduct (suc p) t i j)
-  unfolding pair rightProduct
+  right-rows : (i j : ℕ) → i < suc p → j < suc p → rowsAt (suc p) t (turned (suc p) i (carriedRow (suc p) t (minus (suc p) j i))) ≡ carriedBy (rightProduct (suc p) t i j)
+  unfolding pair
   right-rows i j li lj =
-      over-vec _ (suc p - i) ∙ ap₂ (λ v u. bytes p carriedBytes (lin v u)) factor (fun-ext (λ k. ap T (on k)))
-      ∙ ap (bytes p carriedBytes) (sym (lin-turn (at i) (T (at j ⊖ at i)) T) ∙ sym (rule6-right T (at i) (at j))) ∙ sym (carried-vec _) ∙ ap carriedBy (sym products)
-    where
-      d : ℕ
-      d = minus (suc p) j i
+      ap (rowsAt (suc p) t) (turned-row i _ (minus-lt (suc p) j i (omega arith))) ∙ at-ones _
+      ∙ ap x (ap (λ k. β o · turn (at i) (T k)) (at-minus j i) ∙ ap (λ v. β o · v) (sym (mul-ββ T (at i) (at j)))) ∙ sym (basis-products i j li lj .1)
 
-      factor : vec p (carriedRow (suc p) t d) ≡ T (at j ⊖ at i)
-      factor = row-vec d (minus-lt (suc p) j i (omega arith)) ∙ ap T (at-minus j i)
+  first-rows : (j : ℕ) → j < suc p → rowsAt (suc p) t (carriedRow (suc p) t j) ≡ carriedBy (rightProduct (suc p) t 0 j)
+  first-rows j l =
+      ap (rowsAt (suc p) t) (row-bytes j l) ∙ at-ones _
+      ∙ ap x (ap (λ v. β o · v) (sym (mul-ββ T o (at j) ∙ pair-o T (at j)))) ∙ sym (basis-products 0 j (omega arith) l .1)
 
-      on : (k : Ix p) → k ⊖ at (suc p - i) ≡ k ⊹ at i
-      on k = ap (λ y. k ⊖ y) (at-neg i (omega arith)) ∙ sub-eq k (o ⊖ at i) (k ⊹ at i) (add-neg (k ⊹ at i) (at i) ∙ add-sub k (at i))
-
-      products : rightProduct (suc p) t i j ≡ bytes p W (_·_ T (β o) (_·_ T (β (at i)) (β (at j))))
-      products = let h = bytes-fit (suc p) in let l : 0 < suc p = omega arith in let is = s .isTable in simp (basis-vec, product-bytes)
+  first-row : Symmetric (suc p) t → (j : ℕ) → j < suc p → turned (suc p) 1 (carriedRow (suc p) t (minus (suc p) j 1)) ≡ carriedBy (leftProduct (suc p) t 0 j)
+  unfolding pair
+  first-row y j l =
+      let v = symmetric p t (s .isTable) (s .least) .0 y in
+      turned-row 1 _ (minus-lt (suc p) j 1 (omega arith))
+      ∙ ap x (ap (λ k. turn (at 1) (T k)) (at-minus j 1) ∙ sym (mul-ββ T (at 1) (at j)) ∙ ap (λ u. u · β (at j)) (sym (v .rule4) ∙ sym (mul-ββ T o o ∙ pair-o T o)))
+      ∙ sym (basis-products 0 j (omega arith) l .0)
 
 pub left-sum : {m : ℕ} {t : List ℕ} → Shaped m t → Symmetric m t → (i j : ℕ) → i < m → j < m →
-    turned m j (rowsOver m t (carriedRow m t i) j m) ≡ carriedBy (leftProduct m t i j)
+    turned m j (rowsAt m t (turned m (minus m 0 j) (carriedRow m t i))) ≡ carriedBy (leftProduct m t i j)
 left-sum {m = zero} {t} s y i j li lj = absurd (omega arith)
 left-sum {m = suc p} {t} s y i j li lj = left-rows p t s y i j li lj
 
 pub right-sum : {m : ℕ} {t : List ℕ} → Shaped m t → (i j : ℕ) → i < m → j < m →
-    rowsOver m t (carriedRow m t (minus m j i)) (m - i) m ≡ carriedBy (rightProduct m t i j)
+    rowsAt m t (turned m i (carriedRow m t (minus m j i))) ≡ carriedBy (rightProduct m t i j)
 right-sum {m = zero} {t} s i j li lj = absurd (omega arith)
 right-sum {m = suc p} {t} s i j li lj = right-rows p t s i j li lj
+
+pub first-left : {m : ℕ} {t : List ℕ} → Shaped m t → Symmetric m t → (j : ℕ) → j < m → turned m 1 (carriedRow m t (minus m j 1)) ≡ carriedBy (leftProduct m t 0 j)
+first-left {m = zero} {t} s y j l = absurd (omega arith)
+first-left {m = suc p} {t} s y j l = first-row p t s y j l
+
+pub first-right : {m : ℕ} {t : List ℕ} → Shaped m t → (j : ℕ) → j < m → rowsAt m t (carriedRow m t j) ≡ carriedBy (rightProduct m t 0 j)
+first-right {m = zero} {t} s j l = absurd (omega arith)
+first-right {m = suc p} {t} s j l = first-rows p t s j l
 
 -- the sum of the first n rows
 abbrev pub firstRows : ℕ → List ℕ → ℕ → List ℕ

@@ -2,8 +2,8 @@
 -- Counted: the invariant of the loop: its start, a turn; table-ones: the ones of all bytes are those of all rows.
 use mathlib.Core.Path.{_≡_, refl, sym, ap, _∙_}
 use mathlib.Core.List.{List}
-use Prim.Native.Nat.{ℕ, zero, suc, _+_, _-_, _*_, _/_, _%_, _^_, _<_, _≤_}
-use native.Mathlib.Nat.{mul-assoc, add-zero}
+use Prim.Native.Nat.{ℕ, zero, suc, _+_, _*_, _/_, _%_, _^_, _<_, _≤_}
+use native.Mathlib.Nat.{mul-assoc}
 use native.Mathlib.Omega.{arith}
 use lib.ListN.{length, getD, drop}
 use lib.Seq.{getD-take, getD-drop}
@@ -11,7 +11,7 @@ use Rattle.gf2.specs.Sums.{sum}
 use Rattle.gf2.specs.Coordinates.{coord}
 use Rattle.gf2.specs.Operands.{bytesFor}
 use Rattle.gf2.specs.Tables.{row, IsTable, onesIn}
-use Rattle.gf2.proofs.Sums.{sum-ext, sum-split, sum-digits}
+use Rattle.gf2.proofs.Sums.{sum-ext, sum-split, sum-clear, sum-digits}
 use Rattle.gf2.proofs.Coordinates.{coord-digit}
 
 -- the first b bytes are counted
@@ -38,17 +38,6 @@ counted-more {t} {total} {b} {x} done e =
           ∙ ap (λ y. sum (b * 8) (coord t) + y) (sum-ext 8 _ _ (λ j l. coord-digit t b j l) ∙ sym e) ∙ ap (λ y. y + x) (sym (done .exact)));
       most = omega (arith, done .most, bits-most (getD t b 0));
     }
-
--- coordinates from m on are 0
-sum-clear : (m n : ℕ) (f : ℕ → ℕ) → m ≤ n → ((i : ℕ) → m ≤ i → f i ≡ 0) → sum n f ≡ sum m f
-unfolding sum
-sum-clear m n f h e =
-    let s : n ≡ m + (n - m) = omega arith in
-    ap (λ k. sum k f) s ∙ sum-split m (n - m) f ∙ ap (λ r. sum m f + r) (rest (n - m)) ∙ add-zero _
-  where
-    rest : (k : ℕ) → sum k (λ i. f (m + i)) ≡ 0
-    rest zero = refl
-    rest (suc k) = rw (rest k, e (m + k) (omega arith))
 
 row-coord : (m : ℕ) (t : List ℕ) (d i : ℕ) → i < bytesFor m * 8 → coord t (d * (bytesFor m * 8) + i) ≡ coord (row m t d) i
 unfolding row

@@ -1,30 +1,32 @@
 -- The proofs of Statements.
--- shape, symmetry, acceptance, fields, row-sums, carried-pass.
-use mathlib.Core.Path.{_≡_, refl, sym, _∙_}
+-- shape, symmetry, acceptance, fields, row-sums, first-triples, carried-pass. first-passes: rule 6 for i = 0 is enough.
+use mathlib.Core.Path.{_≡_, refl, sym, ap, _∙_}
 use mathlib.Core.Logic.{_↔_}
-use mathlib.Core.Bool.{true, false, not}
-use mathlib.Core.List.{List}
-use Prim.Native.Nat.{ℕ, _<_, _≤_}
+use mathlib.Core.Bool.{Bool, true, false, not, _&&_}
+use mathlib.Core.List.{List, []}
+use Prim.Native.Nat.{ℕ, _-_, _*_, _<_, _≤_}
 use native.Mathlib.Omega.{arith}
 use native.Mathlib.Decide.{decLt}
 use lib.ListN.{length, getD, List·getD-eq-default}
-use lib.Dec.{ltb, lit≤}
+use lib.Dec.{leb, ltb, eqb, lit≤}
 use borrow.Author.Tests.{ltb-true}
 use Rattle.gf2.specs.Sums.{every}
-use Rattle.gf2.specs.Operands.{maxWidth}
-use Rattle.gf2.specs.Tables.{IsTable}
-use Rattle.gf2.specs.Check.{Rule4, Rule5, Rule6, Rule7, Accepted}
+use Rattle.gf2.specs.Operands.{maxWidth, bytesFor, isClear}
+use Rattle.gf2.specs.Tables.{IsTable, row, basis}
+use Rattle.gf2.specs.Check.{Rule4, Rule5, Rule6, Rule7, Symmetric, Accepted, rowSum}
 use Rattle.gf2.proofs.Sums.{every-at}
-use Rattle.gf2.proofs.Theorems.{theoremA, theoremC}
+use Rattle.gf2.proofs.Theorems.{theoremA, theoremC, theoremF}
 use Rattle.gf2.proofs.CarriedTables.{carried}
 use Rattle.operand.specs.declared.fault.Fault.{Fault}
-use Rattle.operand.specs.declared.fault.Fault.the-variants.{None, RowZero, RowPair, Triple, RowSum}
-use Rattle.operand.specs.Faults.{isNone, when}
+use Rattle.operand.specs.declared.fault.Fault.the-variants.{None, Width, Length, HighBit, RowZero, RowPair, Triple, RowSum}
+use Rattle.operand.specs.Faults.{numberOf, isNone, when, firstOf}
+use Rattle.operand.specs.Judgements.{widthFault, lengthFault}
+use Rattle.operand.proofs.FaultLaws.{none-is, when-keeps, first-keeps, from-keeps}
 use Rattle.table.specs.Carried.{carried2, carried3, carried4, carried5}
-use Rattle.table.specs.Rows.{mirrors, leftProduct, rightProduct, associates}
-use Rattle.table.specs.Judgements.{same, rowZeroFault, rowPairFault, tripleFault, rowSumFault, symmetryFault, checkFault}
-use Rattle.table.specs.Statements.{Bytes, Shape, Symmetry, Acceptance, Fields, RowSums, CarriedPass}
-use Rattle.table.proofs.Searches.{same-correct, when-passes, when-none, three-none, first-none}
+use Rattle.table.specs.Rows.{Shaped, mirrors, leftProduct, rightProduct, associates}
+use Rattle.table.specs.Judgements.{same, rowsFault, shapeFault, rowZeroFault, rowPairFault, tripleFault, rowSumFault, symmetryFault, checkFault}
+use Rattle.table.specs.Statements.{Bytes, Shape, Symmetry, Acceptance, Fields, RowSums, FirstTriples, CarriedPass}
+use Rattle.table.proofs.Searches.{same-correct, when-passes, when-none, three-none, first-none, first-start, first-hit}
 use Rattle.table.proofs.Shapes.{shape-fine}
 use Rattle.table.proofs.Rules.{mirrorFault, mirror-search, pairFault, rowFault, triple-search}
 
@@ -89,6 +91,67 @@ pub row-sums : RowSums
 row-sums m t small e six =
     let s = symmetry m t small .0 e in
     rule7 m t .1 (theoremC m t (s .0 .least) (s .0 .isTable) (s .1) (rule6 m t .0 six))
+
+-- rule 6 for i = 0 is enough
+module _ (m : ℕ) (t : List ℕ) (s : Shaped m t) (y : Symmetric m t) where
+  first-enough : ((j : ℕ) → j < m → Rule6 m t 0 j) → tripleFault m t ≡ None
+  first-enough h = rule6 m t .1 (theoremF m t (s .least) (s .isTable) y h)
+
+  pub first-passes : every m (associates m t 0) ≡ true → tripleFault m t ≡ None
+  unfolding associates leftProduct rightProduct
+  first-passes e = first-enough (λ j l. same-correct _ _ .0 (every-at m (associates m t 0) e j l))
+
+-- a triple with i = 0, or another fault
+abbrev First : Fault → Type 0
+First f = (i j : ℕ) → f ≡ Triple i j → i ≡ 0
+
+other : (f : Fault) → (numberOf f .0 ≡ 6 → ⊥) → First f
+other f n i j e = absurd (n (ap (λ g. numberOf g .0) e))
+
+no-fault : First None
+no-fault = other None (λ e. omega arith)
+
+other-when : (b : Bool) (f : Fault) → (numberOf f .0 ≡ 6 → ⊥) → First (when b f)
+other-when b f n = when-keeps First no-fault b f (other f n)
+
+none-first : First (firstOf [])
+unfolding firstOf
+none-first = no-fault
+
+module _ (m : ℕ) (t : List ℕ) where
+  shape-first : First (shapeFault m t)
+  unfolding shapeFault rowsFault widthFault lengthFault
+  shape-first =
+      first-keeps First _ (other-when (not (leb 2 m && leb m maxWidth)) Width (λ e. omega arith)) (λ q.
+      first-keeps First _ (other-when (not (eqb (length t) (m * bytesFor m))) Length (λ e. omega arith)) (λ q.
+      first-keeps First _ (other-when (not (every m (λ d. isClear m (row m t d)))) HighBit (λ e. omega arith)) (λ q. none-first)))
+
+  pairs-first : First (rowPairFault m t)
+  pairs-first = rw (mirror-search m t) (from-keeps First no-fault 1 (m - 1) (mirrorFault m t) (λ d l h. other-when (not (mirrors m t d)) (RowPair d) (λ e. omega arith)))
+
+  symmetry-first : First (symmetryFault m t)
+  unfolding symmetryFault rowZeroFault
+  symmetry-first =
+      first-keeps First _ shape-first (λ q.
+      first-keeps First _ (other-when (not (same (row m t 0) (basis m 1))) RowZero (λ e. omega arith)) (λ q. first-keeps First _ pairs-first (λ q. none-first)))
+
+  triple-first : Shaped m t → Symmetric m t → First (tripleFault m t)
+  unfolding associates leftProduct rightProduct isNone
+  triple-first s y = go (isNone (rowFault m t 0)) refl
+    where
+      go : (b : Bool) → isNone (rowFault m t 0) ≡ b → First (tripleFault m t)
+      go true e = rw (first-enough m t s y (λ j l. unequal _ _ (Triple 0 j) refl .0 (first-none (pairFault m t 0) 0 m .0 (none-is _ e) j (omega arith) (omega arith)))) no-fault
+      go false e =
+          let l = s .least in
+          rw (triple-search m t ∙ first-start (rowFault m t) m ∙ first-hit (rowFault m t) 0 m (omega arith) e)
+          (from-keeps First no-fault 0 m (pairFault m t 0) (λ j l h. when-keeps First no-fault (not (associates m t 0 j)) (Triple 0 j) (λ i k q. cc)))
+
+pub first-triples : FirstTriples
+unfolding checkFault rowSumFault
+first-triples m t small = first-keeps First _ (symmetry-first m t) (λ e.
+    let s = symmetry m t small .0 (none-is _ e) in
+    first-keeps First _ (triple-first m t (s .0) (s .1)) (λ q.
+    first-keeps First _ (other-when (not (same (rowSum m t) (basis m 0))) RowSum (λ e. omega arith)) (λ q. none-first)))
 
 bytes-of : (l : List ℕ) → every (length l) (λ b. ltb (getD l b 0) 256) ≡ true → Bytes l
 bytes-of l e b = elim (decLt b (length l)) [

@@ -2,12 +2,10 @@
 -- Carried: the four tables that the program carries.
 -- Judgements: the faults of a table: its shape, and the rules 4 to 7 of the check, in document 01's order.
 -- Rows: rows as carried operands, their sums, rules 5 and 6 as tests.
--- Lists: the rows laid out for the sums of rule 6, and the places of their ones.
 -- Calls: what each call on a table answers, for every input.
 -- Statements: what is proved of the faults, the statements alone; their proofs are proofs/Theorems.antt.
 pub mod Carried
 pub mod Judgements
 pub mod Rows
-pub mod Lists
 pub mod Calls
 pub mod Statements

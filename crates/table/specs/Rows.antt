@@ -1,12 +1,13 @@
 -- Rows as carried operands, their sums, rules 5 and 6 as tests, and what the calls inside the crate take for granted of a table.
 use mathlib.Core.Bool.{Bool}
 use mathlib.Core.List.{List}
-use Prim.Native.Nat.{ℕ, _-_, _*_, _≤_}
+use Prim.Native.Nat.{ℕ, _+_, _-_, _*_, _/_, _%_, _^_, _≤_}
 use Rattle.gf2.specs.Sums.{sum}
 use Rattle.gf2.specs.Coordinates.{coord, pack}
-use Rattle.gf2.specs.Operands.{maxWidth, carriedBytes, minus, fromCoords, turned}
+use Rattle.gf2.specs.Operands.{maxWidth, carriedBytes, fromCoords, turned}
 use Rattle.gf2.specs.Tables.{row, IsTable, basis}
 use Rattle.gf2.specs.Products.{product}
+use Rattle.operand.specs.Words.{carriedWords, wordCoord, packWords}
 use Rattle.table.specs.Judgements.{same}
 
 -- "m is the width, 2 to 255"; "A table is m rows, each an operand of W bytes, m·W in all"
@@ -23,10 +24,14 @@ carriedBy bytes = pack carriedBytes (coord bytes)
 abbrev pub carriedRow : ℕ → List ℕ → ℕ → List ℕ
 carriedRow m table d = carriedBy (row m table d)
 
--- "All subscripts are taken modulo m": the sum of the rows k-j over those of the first n coordinates k that x has, carried
-unfoldable pub rowsOver : ℕ → List ℕ → List ℕ → ℕ → ℕ → List ℕ
-rowsOver m table x j n =
-    fromCoords carriedBytes m (λ s. sum n (λ k. coord x k * coord (row m table (minus m k j)) s))
+-- "Row d holds the coordinates of β0·βd": the sum of the rows at the ones of x, carried, which is β0·x
+unfoldable pub rowsAt : ℕ → List ℕ → List ℕ → List ℕ
+rowsAt m table x = fromCoords carriedBytes m (λ s. sum m (λ k. coord x k * coord (row m table k) s))
+
+-- x and the rows at the ones of a word, whose bits stand for the rows from `from` on, in words
+unfoldable pub plusRows : ℕ → List ℕ → List ℕ → ℕ → ℕ → List ℕ
+plusRows m table x word from =
+    packWords carriedWords (λ s. wordCoord x s + sum 64 (λ b. word / 2 ^ b % 2 * coord (row m table (from + b)) s))
 
 -- "row d equals row m-d turned d places"
 unfoldable pub mirrors : ℕ → List ℕ → ℕ → Bool

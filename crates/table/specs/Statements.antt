@@ -1,7 +1,7 @@
 -- What is proved of the faults of a table: the statements alone. A table is any list of bytes.
 -- Shape, Symmetry, Acceptance: 1 to 3, 1 to 5 and 1 to 7 give no fault just where the rules hold.
 -- Fields: the check gives no fault just where the operands form a field whose square is the turn by one.
--- RowSums: 7 is never given.
+-- RowSums: 7 is never given. FirstTriples: 6 is given with i = 0 alone.
 -- CarriedPass: the four carried tables are accepted.
 use mathlib.Core.Path.{_≡_}
 use mathlib.Core.Logic.{_↔_}
@@ -10,7 +10,7 @@ use Prim.Native.Nat.{ℕ, _<_}
 use lib.ListN.{getD}
 use Rattle.gf2.specs.Check.{Symmetric, Accepted}
 use Rattle.gf2.specs.Field.{Field, Squares}
-use Rattle.operand.specs.declared.fault.Fault.the-variants.{None}
+use Rattle.operand.specs.declared.fault.Fault.the-variants.{None, Triple}
 use Rattle.table.specs.Carried.{carried2, carried3, carried4, carried5}
 use Rattle.table.specs.Rows.{Shaped}
 use Rattle.table.specs.Judgements.{shapeFault, symmetryFault, tripleFault, rowSumFault, checkFault}
@@ -38,6 +38,10 @@ Fields = (m : ℕ) (table : List ℕ) → Bytes table → (checkFault m table �
 -- rules 4 to 6 imply rule 7: where the check gives none of 1 to 6, it doesn't give 7
 abbrev pub RowSums : Type 0
 RowSums = (m : ℕ) (table : List ℕ) → Bytes table → symmetryFault m table ≡ None → tripleFault m table ≡ None → rowSumFault m table ≡ None
+
+-- rules 4 and 5 with rule 6 for i = 0 imply rule 6: the first pair that differs has i = 0
+abbrev pub FirstTriples : Type 0
+FirstTriples = (m : ℕ) (table : List ℕ) → Bytes table → (i j : ℕ) → checkFault m table ≡ Triple i j → i ≡ 0
 
 -- "Four tables are carried in the program itself"
 pub record CarriedPass : Type 0 where

@@ -3,7 +3,7 @@ use operand::Fault;
 
 mod carried;
 mod counts;
-mod lists;
+mod first;
 mod rows;
 mod sums;
 mod symmetry;

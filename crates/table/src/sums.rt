@@ -1,13 +1,13 @@
-// Sums of rows of a table without fault of shape.
+// Sums of rows of a table without fault of shape: of all rows, and of those at the ones of an operand, which is its product with β0.
 ghost use mathlib.Core.Path.{_≡_};
-ghost use Prim.Native.Nat.{_+_, _-_, _*_, _%_, _<_, _≤_};
-ghost use lib.ListN.{length, getD};
-ghost use lib.Bits.{bitXor};
-ghost use Rattle.gf2.specs.Coordinates.{tabulate};
-ghost use Rattle.gf2.specs.Operands.{carriedBytes};
+ghost use Prim.Native.Nat.{ℕ, _+_, _*_, _/_, _%_, _^_, _<_, _≤_};
+ghost use Rattle.gf2.specs.Sums.{sum};
+ghost use Rattle.gf2.specs.Coordinates.{coord};
+ghost use Rattle.gf2.specs.Operands.{carriedBytes, IsOperand};
+ghost use Rattle.gf2.specs.Tables.{row};
 ghost use Rattle.gf2.specs.Check.{rowSum};
-ghost use Rattle.table.specs.Rows.{Shaped, carriedBy, carriedRow, rowsOver};
-ghost use Rattle.table.specs.Lists.{Roomy, Listed};
+ghost use Rattle.operand.specs.Words.{carriedWords, wordCoord, packWords};
+ghost use Rattle.table.specs.Rows.{Shaped, carriedBy, rowsAt, plusRows};
 use crate::rows;
 use operand::Operand;
 
@@ -28,12 +28,6 @@ pub(crate) fn sum_of_rows(width: usize, table: &[u8]) -> Operand
     total
 }
 
-fn wide(x: u8) -> usize
-    ensures { λ r. ⌜ r ≡ x ⌝ }
-{
-    x as usize
-}
-
 // A place below twice the width, modulo the width.
 pub(crate) fn wrapped(place: usize, width: usize) -> usize
     requires { ⌜ place < width + width ⌝ }
@@ -42,43 +36,59 @@ pub(crate) fn wrapped(place: usize, width: usize) -> usize
     if place < width { place } else { place - width }
 }
 
-// The sum of `total` and the row that stands from `from` on. Summed in place, the total stays in registers.
-fn plus_stored(total: [u8; Operand::BYTES], rows: &[u8], from: usize) -> [u8; Operand::BYTES]
-    requires { ⌜ from + carriedBytes ≤ length (now rows) ⌝ }
-    ensures { λ r. ⌜ r ≡ tabulate carriedBytes (λ b. bitXor (getD total b 0) (getD (now (rows .entry)) (from + b) 0)) ⌝ }
+// The sum of `total` and row d.
+fn plus_row(
+    width: usize,
+    table: &[u8],
+    total: [u64; Operand::WORDS],
+    d: usize,
+) -> [u64; Operand::WORDS]
+    requires { ⌜ (Shaped width (now table)) × (d < width) ⌝ }
+    ensures { λ r. ⌜ r ≡ packWords carriedWords (λ s. wordCoord total s + coord (row width (now (table .entry)) d) s) ⌝ }
+{
+    operand::xored_words(total, operand::to_words(rows::row_bytes(width, table, d)))
+}
+
+// The sum of `total` and the rows at the ones of a word, whose bits stand for the rows from `from` on.
+// The lowest one is taken off by an and, for which the next step needn't wait.
+fn plus_rows(
+    width: usize,
+    table: &[u8],
+    total: [u64; Operand::WORDS],
+    word: u64,
+    from: usize,
+) -> [u64; Operand::WORDS]
+    requires { ⌜ (Shaped width (now table)) × ((b : ℕ) → width ≤ from + b → word / 2 ^ b % 2 ≡ 0) ⌝ }
+    ensures { λ r. ⌜ r ≡ plusRows width (now (table .entry)) total word from ⌝ }
 {
     let mut out = total;
-    let mut b = 0;
-    while b < Operand::BYTES {
-        out[b] = out[b] ^ rows[from + b];
-        b += 1;
+    let mut rest = word;
+    while rest != 0 {
+        let zeros = u64::trailing_zeros(rest) as usize;
+        let next = plus_row(width, table, out, from + zeros);
+        out = next;
+        rest = rest & (rest - 1);
     }
     out
 }
 
-// The sum of the rows that stand t places on from the ones of row d.
-pub(crate) fn sum_listed(
+// β0·x: row d is β0·βd, so that this is the sum of the rows at the ones of x.
+pub(crate) fn times_first(
     width: usize,
     table: &[u8],
-    rows: &[u8],
-    places: &[u8],
-    counts: &[u8],
-    d: usize,
-    t: usize,
+    x: [u8; Operand::BYTES],
 ) -> [u8; Operand::BYTES]
-    requires { ⌜ (Shaped width (now table)) × (Roomy (now rows) (now places) (now counts)) × (Listed width (now table) (now rows) (now places) (now counts) width) × (d < width) × (t ≤ width) ⌝ }
-    ensures { λ r. ⌜ r ≡ rowsOver width (now (table .entry)) (carriedRow width (now (table .entry)) d) (width - t) width ⌝ }
+    requires { ⌜ (Shaped width (now table)) × (IsOperand carriedBytes width x) ⌝ }
+    ensures { λ r. ⌜ r ≡ rowsAt width (now (table .entry)) x ⌝ }
 {
-    let from = d * Operand::MAX_WIDTH;
-    let count = wide(counts[d]);
-    let mut total = [0u8; Operand::BYTES];
-    let mut n = 0;
-    while n < count {
-        let place = wide(places[from + n]);
-        let r = wrapped(place + t, width);
-        let next = plus_stored(total, rows, r * Operand::BYTES);
+    let words = operand::to_words(x);
+    let mut total = [0u64; Operand::WORDS];
+    let mut w = 0;
+    while w < Operand::WORDS {
+        let word = words[w];
+        let next = plus_rows(width, table, total, word, w * 64);
         total = next;
-        n += 1;
+        w += 1;
     }
-    total
+    operand::to_bytes(total)
 }

@@ -50,9 +50,10 @@ fn mirrored(width: usize, table: &[u8], d: usize) -> bool
     requires { ⌜ (Shaped width (now table)) × (1 ≤ d) × (d < width) ⌝ }
     ensures { λ r. ⌜ r ≡ mirrors width (now (table .entry)) d ⌝ }
 {
-    let turned = rows::row_at(width, table, width - d).turn(d);
-    let turned_bytes = turned.value.bytes;
-    same_bytes(rows::row_bytes(width, table, d), turned_bytes)
+    same_bytes(
+        rows::row_bytes(width, table, d),
+        rows::turned_row(width, table, width - d, d),
+    )
 }
 
 // Rows d and m-d are looked at once: if one is the other turned, so is the other.

@@ -3,76 +3,53 @@ ghost use mathlib.Core.Path.{_≡_};
 ghost use Prim.Native.Nat.{_<_};
 ghost use Rattle.gf2.specs.Check.{Symmetric};
 ghost use Rattle.table.specs.Rows.{Shaped, carriedBy, leftProduct, rightProduct, associates};
-ghost use Rattle.table.specs.Lists.{Roomy, Listed};
 ghost use Rattle.table.specs.Judgements.{tripleFault, rowSumFault, checkFault};
-use crate::lists;
+use crate::first;
+use crate::rows;
 use crate::sums;
 use crate::symmetry;
 use operand::Fault;
 use operand::Operand;
 
-// (β0·βi)·βj: the factor β0·βi is row i, and by rule 5 βk·βj is row k-j turned j places.
-fn left_product(
-    width: usize,
-    table: &[u8],
-    rows: &[u8],
-    places: &[u8],
-    counts: &[u8],
-    i: usize,
-    j: usize,
-) -> [u8; Operand::BYTES]
-    requires { ⌜ (Shaped width (now table)) × (Symmetric width (now table)) × (Roomy (now rows) (now places) (now counts)) × (Listed width (now table) (now rows) (now places) (now counts) width) × (i < width) × (j < width) ⌝ }
+// (β0·βi)·βj: the factor β0·βi is row i. Turned back j places the factors are that and β0, as rule 5 lets them be exchanged.
+fn left_product(width: usize, table: &[u8], i: usize, j: usize) -> [u8; Operand::BYTES]
+    requires { ⌜ (Shaped width (now table)) × (Symmetric width (now table)) × (i < width) × (j < width) ⌝ }
     ensures { λ r. ⌜ r ≡ carriedBy (leftProduct width (now (table .entry)) i j) ⌝ }
 {
-    let bytes = sums::sum_listed(width, table, rows, places, counts, i, width - j);
-    let sum = Operand {
-        bytes,
+    let factor = rows::turned_row(width, table, i, sums::wrapped(width - j, width));
+    let product = Operand {
+        bytes: sums::times_first(width, table, factor),
         width: width as u16,
     };
-    let answer = sum.turn(j);
+    let answer = product.turn(j);
     let turned = answer.value.bytes;
     turned
 }
 
-// β0·(βi·βj): the factor βi·βj is row j-i turned i places, and β0·βs is row s.
-fn right_product(
-    width: usize,
-    table: &[u8],
-    rows: &[u8],
-    places: &[u8],
-    counts: &[u8],
-    i: usize,
-    j: usize,
-) -> [u8; Operand::BYTES]
-    requires { ⌜ (Shaped width (now table)) × (Roomy (now rows) (now places) (now counts)) × (Listed width (now table) (now rows) (now places) (now counts) width) × (i < width) × (j < width) ⌝ }
+// β0·(βi·βj): the factor βi·βj is row j-i turned i places.
+fn right_product(width: usize, table: &[u8], i: usize, j: usize) -> [u8; Operand::BYTES]
+    requires { ⌜ (Shaped width (now table)) × (i < width) × (j < width) ⌝ }
     ensures { λ r. ⌜ r ≡ carriedBy (rightProduct width (now (table .entry)) i j) ⌝ }
 {
     let d = sums::wrapped(j + (width - i), width);
-    sums::sum_listed(width, table, rows, places, counts, d, i)
+    sums::times_first(width, table, rows::turned_row(width, table, d, i))
 }
 
 // Whether the triple of 0, i and j is associative.
-fn associative(
-    width: usize,
-    table: &[u8],
-    rows: &[u8],
-    places: &[u8],
-    counts: &[u8],
-    i: usize,
-    j: usize,
-) -> bool
-    requires { ⌜ (Shaped width (now table)) × (Symmetric width (now table)) × (Roomy (now rows) (now places) (now counts)) × (Listed width (now table) (now rows) (now places) (now counts) width) × (i < width) × (j < width) ⌝ }
+fn associative(width: usize, table: &[u8], i: usize, j: usize) -> bool
+    requires { ⌜ (Shaped width (now table)) × (Symmetric width (now table)) × (i < width) × (j < width) ⌝ }
     ensures { λ r. ⌜ r ≡ associates width (now (table .entry)) i j ⌝ }
 {
     symmetry::same_bytes(
-        left_product(width, table, rows, places, counts, i, j),
-        right_product(width, table, rows, places, counts, i, j),
+        left_product(width, table, i, j),
+        right_product(width, table, i, j),
     )
 }
 
-// The search ends at the first pair that differs.
-fn judge_triples(width: usize, table: &[u8], rows: &[u8], places: &[u8], counts: &[u8]) -> Fault
-    requires { ⌜ (Shaped width (now table)) × (Symmetric width (now table)) × (Roomy (now rows) (now places) (now counts)) × (Listed width (now table) (now rows) (now places) (now counts) width) ⌝ }
+// The search ends at the first pair that differs. It is made only where some triple with i = 0 differs, so that it is left in the
+// first round of the outer loop.
+fn search_triples(width: usize, table: &[u8]) -> Fault
+    requires { ⌜ (Shaped width (now table)) × (Symmetric width (now table)) ⌝ }
     ensures { λ r. ⌜ r ≡ tripleFault width (now (table .entry)) ⌝ }
 {
     let mut fault = Fault::None;
@@ -80,7 +57,7 @@ fn judge_triples(width: usize, table: &[u8], rows: &[u8], places: &[u8], counts:
     'search: while i < width {
         let mut j = 0;
         while j < width {
-            if !associative(width, table, rows, places, counts, i, j) {
+            if !associative(width, table, i, j) {
                 fault = Fault::Triple(i, j);
                 break 'search;
             }
@@ -91,16 +68,15 @@ fn judge_triples(width: usize, table: &[u8], rows: &[u8], places: &[u8], counts:
     fault
 }
 
-// The ones of all rows are listed once, so that a sum of rows costs no more than the ones of a row.
-fn judge_listed(width: usize, table: &[u8]) -> Fault
+// Where no triple with i = 0 differs, none does, and no other is looked at.
+fn judge_triples(width: usize, table: &[u8]) -> Fault
     requires { ⌜ (Shaped width (now table)) × (Symmetric width (now table)) ⌝ }
     ensures { λ r. ⌜ r ≡ tripleFault width (now (table .entry)) ⌝ }
 {
-    let mut rows = [0u8; lists::ROWS];
-    let mut places = [0u8; lists::PLACES];
-    let mut counts = [0u8; Operand::MAX_WIDTH];
-    lists::list_rows(width, table, &mut rows, &mut places, &mut counts);
-    judge_triples(width, table, &rows, &places, &counts)
+    if first::all_act_twice(width, table) {
+        return Fault::None;
+    }
+    search_triples(width, table)
 }
 
 fn judge_row_sum(width: usize, table: &[u8]) -> Fault
@@ -116,7 +92,7 @@ fn judge_row_sum(width: usize, table: &[u8]) -> Fault
     }
 }
 
-// No fault just where the operands of the width form a field under the table, whose square is the turn by one.
+// No fault exactly where the operands of the width form a field under the table, whose square is the turn by one.
 pub fn check(width: usize, table: &[u8]) -> Fault
     ensures { λ r. ⌜ r ≡ checkFault width (now (table .entry)) ⌝ }
 {
@@ -124,7 +100,7 @@ pub fn check(width: usize, table: &[u8]) -> Fault
     if !operand::is_none(fault) {
         return fault;
     }
-    let triple = judge_listed(width, table);
+    let triple = judge_triples(width, table);
     if !operand::is_none(triple) {
         return triple;
     }

@@ -8,8 +8,8 @@ use borrow.Author.Tests.{not-true, not-false}
 use Rattle.gf2.specs.Sums.{every}
 use Rattle.gf2.specs.Coordinates.{coord}
 use Rattle.gf2.specs.Tables.{row}
+use Rattle.gf2.proofs.Sums.{every-none, every-more, every-not}
 use Rattle.netlist.specs.Lists.{allOnes}
-use Rattle.netlist.proofs.RunLaws.{every-none, every-more, every-not}
 use borrow.Author.Needs.{needs}
 use Rattle.netlist.proofs.entries.full_row.Statement.{statement}
 use Rattle.netlist.proofs.entries.full_row.Tie as tie

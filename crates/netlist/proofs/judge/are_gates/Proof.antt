@@ -5,8 +5,8 @@ use Prim.Native.Nat.{_-_, _≤_}
 use native.Mathlib.Omega.{arith}
 use borrow.Author.Tests.{not-true, not-false}
 use Rattle.gf2.specs.Sums.{every}
+use Rattle.gf2.proofs.Sums.{every-none, every-more, every-not}
 use Rattle.netlist.specs.Judgements.{isGate}
-use Rattle.netlist.proofs.RunLaws.{every-none, every-more, every-not}
 use borrow.Author.Needs.{needs}
 use Rattle.netlist.proofs.judge.are_gates.Statement.{statement}
 use Rattle.netlist.proofs.judge.are_gates.Tie as tie

@@ -5,8 +5,9 @@ use Prim.Native.Nat.{_+_, _-_, _*_, _≤_}
 use native.Mathlib.Omega.{arith}
 use lib.ListN.{getD}
 use Rattle.gf2.specs.Sums.{every}
+use Rattle.gf2.proofs.Sums.{every-none, every-more, every-not}
 use Rattle.netlist.specs.Judgements.{isOutput}
-use Rattle.netlist.proofs.RunLaws.{every-none, every-more, every-not, output-not, output-fine}
+use Rattle.netlist.proofs.RunLaws.{output-not, output-fine}
 use borrow.Author.Needs.{needs}
 use Rattle.netlist.proofs.judge.are_outputs.Statement.{statement}
 use Rattle.netlist.proofs.judge.are_outputs.Tie as tie

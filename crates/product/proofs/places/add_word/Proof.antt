@@ -4,9 +4,10 @@ use Prim.Native.Nat.{_+_, _*_, _^_, _<_}
 use native.Mathlib.Omega.{arith}
 use lib.ListN.{length}
 use lib.Count.{trailing-le}
+use Rattle.gf2.proofs.TrailingZeros.{lowest-next, lowest-less}
 use Rattle.operand.specs.Words.{wordCoord}
 use Rattle.product.specs.Cells.{Added, bitFrom}
-use Rattle.product.proofs.OnesLaws.{ones-none, ones-next, ones-less, ones-added, ones-all}
+use Rattle.product.proofs.OnesLaws.{ones-none, ones-added, ones-all}
 use borrow.Author.Needs.{needs}
 use Rattle.product.proofs.places.add_word.Statement.{statement}
 use Rattle.product.proofs.places.add_word.Tie as tie
@@ -26,14 +27,13 @@ cast-zeros c = omega (arith, trailing-le 64 (c .before .loop .rest))
 add-add-at : tie.Need-add-add-at Inv-loop μ-loop
 add-add-at c =
     let l = c .before .before .loop in
-    let s = c .before .before .before .before in
-    omega (arith, ones-next (s .args .word) (s .args .from) (l .rest) (l .inv .0) (c .before .loop-test .taken))
+    omega (arith, lowest-next 64 (l .rest) (l .inv .0) (c .before .loop-test .taken))
 
 add-at-requires : tie.Need-add-at-requires Inv-loop μ-loop
 add-at-requires c κs =
     let l = c .before .before .loop in
     let s = c .before .before .before .before in
-    (l .inv .2 ∙ s .pre .0, omega (arith, ones-next (s .args .word) (s .args .from) (l .rest) (l .inv .0) (c .before .loop-test .taken)))
+    (l .inv .2 ∙ s .pre .0, omega (arith, lowest-next 64 (l .rest) (l .inv .0) (c .before .loop-test .taken)))
 
 sub-rest : tie.Need-sub-rest Inv-loop μ-loop
 sub-rest c = search needs
@@ -41,15 +41,14 @@ sub-rest c = search needs
 loop-less : tie.Need-loop-less Inv-loop μ-loop
 loop-less c =
     let l = c .before .before .before .before .before .loop in
-    let s = c .before .before .before .before .before .before .before in
-    ones-less (s .args .word) (s .args .from) (l .rest) (l .inv .0) (c .before .before .before .before .loop-test .taken)
+    lowest-less 64 (l .rest) (l .inv .0) (c .before .before .before .before .loop-test .taken)
 
 loop-again : tie.Need-loop-again Inv-loop μ-loop
 loop-again c =
     let l = c .before .before .before .before .before .loop in
     let s = c .before .before .before .before .before .before .before in
     let some = c .before .before .before .before .loop-test .taken in (
-      omega (arith, l .inv .0, ones-less (s .args .word) (s .args .from) (l .rest) (l .inv .0) some),
+      omega (arith, l .inv .0, lowest-less 64 (l .rest) (l .inv .0) some),
       ones-added (s .args .word) (s .args .from) (l .rest) (l .inv .0) some (s .args .e) (l .inv .1) (c .before .before .add-at .ensures),
       c .before .before .add-at .ensures .size ∙ l .inv .2,
     )

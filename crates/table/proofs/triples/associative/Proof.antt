@@ -9,10 +9,10 @@ use Rattle.table.proofs.triples.associative.Statement.{statement}
 use Rattle.table.proofs.triples.associative.Tie as tie
 
 left-product-requires : tie.Need-left-product-requires
-left-product-requires c κs = c .before .before .before .before .pre
+left-product-requires c κs = c .before .pre
 
 right-product-requires : tie.Need-right-product-requires
-right-product-requires c κs = let p = c .before .before .before .before .before .pre in (p .0, p .2, p .3, p .4, p .5)
+right-product-requires c κs = let p = c .before .before .pre in (p .0, p .2, p .3)
 
 same-bytes-requires : tie.Need-same-bytes-requires
 same-bytes-requires c κs = search needs
@@ -20,7 +20,7 @@ same-bytes-requires c κs = search needs
 returns : tie.Need-returns
 unfolding associates
 returns c =
-    let s = c .before .before .before .before .before .before .before .pre in
+    let s = c .before .before .before .before .pre in
     c .same-bytes .ensures
     ∙ ap₂ same (c .before .before .left-product .ensures) (c .before .right-product .ensures)
     ∙ same-carried (omega (arith, s .0 .greatest)) (left-operand _ _ _ _) (right-operand _ _ _ _)

@@ -33,8 +33,8 @@ returns c =
     s .before .judge-symmetry .ensures
     ∙ sym (three-first _ _ _ (judged (s .before .judge-symmetry .ensures) (s .is-none .ensures) (not-true _ (c .if1 .taken))))
 
-judge-listed-requires : tie.Need-judge-listed-requires
-judge-listed-requires c κs = symmetric c
+judge-triples-requires : tie.Need-judge-triples-requires
+judge-triples-requires c κs = symmetric c
 
 is-none-requires-2 : tie.Need-is-none-requires-2
 is-none-requires-2 c κs = search needs
@@ -43,8 +43,8 @@ returns-2 : tie.Need-returns-2
 unfolding checkFault
 returns-2 c =
     let s = c .before .before in
-    s .judge-listed .ensures
-    ∙ sym (three-second _ _ _ (none (s .before)) (judged (s .judge-listed .ensures) (c .before .is-none2 .ensures) (not-true _ (c .if2 .taken))))
+    s .judge-triples .ensures
+    ∙ sym (three-second _ _ _ (none (s .before)) (judged (s .judge-triples .ensures) (c .before .is-none2 .ensures) (not-true _ (c .if2 .taken))))
 
 judge-row-sum-requires : tie.Need-judge-row-sum-requires
 judge-row-sum-requires c κs = symmetric (c .before .before .before) .0
@@ -54,7 +54,7 @@ unfolding checkFault
 returns-3 c =
     let s = c .before .before .before in
     c .judge-row-sum .ensures
-    ∙ sym (three-third _ _ _ (none (s .before)) (judged (s .judge-listed .ensures) (c .before .before .is-none2 .ensures) (not-false _ (c .before .if2 .left))))
+    ∙ sym (three-third _ _ _ (none (s .before)) (judged (s .judge-triples .ensures) (c .before .before .is-none2 .ensures) (not-false _ (c .before .if2 .left))))
 
 pub check-spec : {M : Type 1} → statement M
 check-spec =
@@ -63,7 +63,7 @@ check-spec =
     judge-symmetry-requires
     is-none-requires
     returns
-    judge-listed-requires
+    judge-triples-requires
     is-none-requires-2
     returns-2
     judge-row-sum-requires

@@ -1,90 +1,22 @@
 -- `table::triples::judge_triples` meets its contract.
-use mathlib.Core.Path.{_≡_, refl, sym, ap, _∙_}
-use Prim.Native.Nat.{_-_}
-use native.Mathlib.Omega.{arith}
-use borrow.Author.Tests.{not-true, not-false}
-use Rattle.operand.specs.declared.fault.Fault.the-variants.{None, Triple}
-use Rattle.operand.specs.Faults.{isNone, firstFrom}
-use Rattle.table.specs.Judgements.{tripleFault}
-use Rattle.table.proofs.Searches.{when-passes, when-fails, none-true, first-start, first-done, first-hit, first-miss}
-use Rattle.table.proofs.Rules.{pairFault, rowFault, triple-search}
+use mathlib.Core.Path.{sym, _∙_}
+use Rattle.table.proofs.Theorems.{first-passes}
 use borrow.Author.Needs.{needs}
 use Rattle.table.proofs.triples.judge_triples.Statement.{statement}
 use Rattle.table.proofs.triples.judge_triples.Tie as tie
 
-abbrev Inv-loop : tie.InvT-loop
-Inv-loop width table rows places counts fault₀ i j₀ fault j = (fault ≡ None) × (rowFault width table i ≡ firstFrom j (width - j) (pairFault width table i))
+all-act-twice-requires : tie.Need-all-act-twice-requires
+all-act-twice-requires c κs = c .before .pre
 
-abbrev μ-loop : tie.MeasureT-loop
-μ-loop width table rows places counts fault₀ i j₀ fault j = width - j
+returns : tie.Need-returns
+returns c = let p = c .before .before .before .pre in sym (first-passes _ _ (p .0) (p .1) (sym (c .before .all-act-twice .ensures) ∙ c .if1 .taken))
 
-abbrev Inv-search : tie.InvT-search
-Inv-search width table rows places counts fault₀ i₀ fault i = (fault ≡ None) × (tripleFault width table ≡ firstFrom i (width - i) (rowFault width table))
+search-triples-requires : tie.Need-search-triples-requires
+search-triples-requires c κs = c .before .before .before .pre
 
-abbrev μ-search : tie.MeasureT-search
-μ-search width table rows places counts fault₀ i₀ fault i = width - i
-
-search-holds : tie.Need-search-holds Inv-loop μ-loop Inv-search μ-search
-search-holds c = (refl, triple-search _ _ ∙ first-start _ _)
-
-loop-holds : tie.Need-loop-holds Inv-loop μ-loop Inv-search μ-search
-loop-holds c = (c .before .search .inv .0, first-start _ _)
-
-associative-requires : tie.Need-associative-requires Inv-loop μ-loop Inv-search μ-search
-associative-requires c κs = let s = c .before .before .before .before .before .before .before .before .pre in (s .0, s .1, s .2, s .3, c .before .before .search-test .taken, c .loop-test .taken)
-
-add-j : tie.Need-add-j Inv-loop μ-loop Inv-search μ-search
-add-j c = search needs
-
-loop-less : tie.Need-loop-less Inv-loop μ-loop Inv-search μ-search
-loop-less c = search needs
-
-loop-again : tie.Need-loop-again Inv-loop μ-loop Inv-search μ-search
-loop-again c =
-    let l = c .before .before .before .loop in
-    let e = when-passes _ (Triple (c .before .before .before .before .before .search .i) (l .j)) (sym (c .before .associative .ensures) ∙ not-false _ (c .if1 .left)) in
-    (l .inv .0, l .inv .1 ∙ first-miss _ _ _ (c .before .before .loop-test .taken) (none-true e))
-
-add-i : tie.Need-add-i Inv-loop μ-loop Inv-search μ-search
-add-i c = search needs
-
-search-less : tie.Need-search-less Inv-loop μ-loop Inv-search μ-search
-search-less c = search needs
-
-search-again : tie.Need-search-again Inv-loop μ-loop Inv-search μ-search
-search-again c =
-    let l = c .before .loop in
-    let s = c .before .before .before .search in
-    (l .inv .0, s .inv .1 ∙ first-miss _ _ _ (c .before .before .search-test .taken) (none-true (l .inv .1 ∙ first-done _ _ _ (omega arith))))
-
-returns : tie.Need-returns Inv-loop μ-loop Inv-search μ-search
-returns c = let s = c .before .search in s .inv .0 ∙ sym (s .inv .1 ∙ first-done _ _ _ (omega arith))
-
-returns-2 : tie.Need-returns-2 Inv-loop μ-loop Inv-search μ-search
-unfolding isNone
-returns-2 c =
-    let l = c .before .before .before .loop in
-    let s = c .before .before .before .before .before .search in
-    let e = when-fails _ (Triple (s .i) (l .j)) (sym (c .before .associative .ensures) ∙ not-true _ (c .if1 .taken)) in
-    let row = l .inv .1 ∙ first-hit _ _ _ (c .before .before .loop-test .taken) (ap isNone e) ∙ e in
-    sym (s .inv .1 ∙ first-hit _ _ _ (c .before .before .before .before .search-test .taken) (ap isNone row) ∙ row)
+returns-2 : tie.Need-returns-2
+returns-2 c = search needs
 
 pub judge-triples-spec : {M : Type 1} → statement M
 judge-triples-spec =
-    tie.close
-    (tie.spec
-    Inv-loop
-    μ-loop
-    Inv-search
-    μ-search
-    search-holds
-    loop-holds
-    associative-requires
-    add-j
-    loop-less
-    loop-again
-    add-i
-    search-less
-    search-again
-    returns
-    returns-2)
+    tie.close (tie.spec all-act-twice-requires returns search-triples-requires returns-2)

@@ -1,0 +1,60 @@
+//! The check beside the independent version where its quick way and its search meet: every small table that passes 4 and 5, tables
+//! whose first difference comes late, and the stack that the call takes.
+
+use compare::inputs::{all_symmetric, changed_pair, drawn_at, symmetric, Source};
+use compare::stack::taken;
+use compare::{field, proved, Answer, Fault};
+use std::hint::black_box;
+
+/// The check of both, which must agree; 6 comes with i = 0.
+fn checked(m: usize, table: &[u8]) -> Answer<()> {
+    let ours = proved::check(m, table).map(|_| ());
+    assert_eq!(ours, field::check(m, table), "width {m}, table {table:02x?}");
+    if let Err(Fault { number: 6, first, .. }) = ours {
+        assert_eq!(first, 0, "width {m}, table {table:02x?}");
+    }
+    ours
+}
+
+/// All tables of widths 2 to 6 that pass 4 and 5. That no difference comes first after m/2 is seen here, and proved nowhere.
+#[test]
+fn every_small_table() {
+    let accepted = [2, 3, 4, 5, 6].map(|m| {
+        let answers: Vec<_> = all_symmetric(m).map(|table| checked(m, &table)).collect();
+        let last = answers.iter().filter_map(|answer| answer.err()).map(|fault| fault.second).max();
+        assert_eq!(last, Some(m / 2), "width {m}");
+        answers.iter().filter(|answer| answer.is_ok()).count()
+    });
+    assert_eq!(accepted, [1, 1, 2, 3, 4]);
+}
+
+/// Drawn tables with one pair of rows changed, which differ first at a late j for some, and tables with random rows.
+#[test]
+fn changed_tables() {
+    let mut source = Source::new(14);
+    for m in [9, 14, 23, 29, 33] {
+        let drawn = drawn_at(m);
+        for d in 1..=m / 2 {
+            let s = source.below(m);
+            assert!(checked(m, &changed_pair(m, &drawn, d, s)).is_err(), "width {m}, row {d}");
+        }
+        for _ in 0..4 {
+            checked(m, &symmetric(&mut source, m)).ok();
+        }
+    }
+}
+
+/// The check takes less than 4 KiB of stack, whatever it answers.
+#[test]
+fn stack_of_the_check() {
+    let mut source = Source::new(15);
+    for m in [2, 163, 233, 255] {
+        let drawn = drawn_at(m);
+        for table in [changed_pair(m, &drawn, 1, 0), symmetric(&mut source, m), drawn] {
+            let bytes = taken(|| {
+                black_box(proved::packed::check(m, &table));
+            });
+            assert!(0 < bytes && bytes < 4096, "width {m}: {bytes} bytes");
+        }
+    }
+}

@@ -1,0 +1,27 @@
+-- `table::sums::plus_row` meets its contract.
+use mathlib.Core.Path.{ap, _∙_}
+use Rattle.gf2.specs.Coordinates.{coord}
+use Rattle.operand.specs.Words.{carriedWords, packWords}
+use Rattle.table.proofs.RowsAtOnes.{plus-row}
+use borrow.Author.Needs.{needs}
+use Rattle.table.proofs.sums.plus_row.Statement.{statement}
+use Rattle.table.proofs.sums.plus_row.Tie as tie
+
+row-bytes-requires : tie.Need-row-bytes-requires
+row-bytes-requires c κs = let p = c .before .pre in (p .0 .greatest, p .0 .isTable .size, p .1)
+
+to-words-requires : tie.Need-to-words-requires
+to-words-requires c κs = search needs
+
+xored-words-requires : tie.Need-xored-words-requires
+xored-words-requires c κs = search needs
+
+returns : tie.Need-returns
+returns c =
+    let p = c .before .before .before .before in
+    c .xored-words .ensures
+    ∙ plus-row (p .pre .0) (p .args .d) (p .pre .1) (p .args .total) (c .before .to-words .ensures ∙ ap (λ x. packWords carriedWords (coord x)) (c .before .before .row-bytes .ensures))
+
+pub plus-row-spec : {M : Type 1} → statement M
+plus-row-spec =
+    tie.close (tie.spec row-bytes-requires to-words-requires xored-words-requires returns)

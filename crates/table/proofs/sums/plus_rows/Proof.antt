@@ -1,0 +1,79 @@
+-- `table::sums::plus_rows` meets its contract.
+use mathlib.Core.Path.{_≡_, refl, _∙_}
+use Prim.Native.Nat.{ℕ, _+_, _^_, _<_}
+use native.Mathlib.Omega.{arith}
+use lib.ListN.{length, getD}
+use lib.Count.{trailingZeros, trailing-le}
+use mir.Val.{Fits}
+use mir.Syntax.{w64}
+use Rattle.gf2.proofs.TrailingZeros.{lowest-less}
+use Rattle.operand.specs.Words.{carriedWords}
+use Rattle.table.specs.Rows.{plusRows}
+use Rattle.table.proofs.RowsAtOnes.{Packed, packed-words, packed-made, Within, ones-none, ones-step, ones-within, ones-clear}
+use borrow.Author.Needs.{needs}
+use Rattle.table.proofs.sums.plus_rows.Statement.{statement}
+use Rattle.table.proofs.sums.plus_rows.Tie as tie
+
+abbrev Inv-loop : tie.InvT-loop
+Inv-loop width table word from out₀ rest₀ out rest = (rest < 2 ^ 64) × Within width rest from × Packed out × (plusRows width table out rest from ≡ plusRows width table out₀ word from)
+
+abbrev μ-loop : tie.MeasureT-loop
+μ-loop width table word from out₀ rest₀ out rest = rest
+
+loop-holds : tie.Need-loop-holds Inv-loop μ-loop
+loop-holds c =
+    let a = c .before .args in
+    let size : length (a .total) ≡ carriedWords = search needs in
+    let small : (w : ℕ) → Fits w64 (getD (a .total) w 0) = λ w. search needs in
+    (c .before .fits .word .fits, c .before .pre .1, packed-words size (λ w. small w .fits), refl)
+
+cast-zeros : tie.Need-cast-zeros Inv-loop μ-loop
+cast-zeros c = omega (arith, trailing-le 64 (c .before .loop .rest))
+
+-- the row of the lowest one
+within : (c : tie.In-loop Inv-loop μ-loop) → let a = c .before .before .before .args in a .from + trailingZeros 64 (c .before .loop .rest) < a .width
+within c =
+    let a = c .before .before .before .args in
+    let l = c .before .loop in
+    ones-within (a .width) (a .table .now) (a .from) (l .rest) (l .inv .0) (c .loop-test .taken) (l .inv .1)
+
+add-plus-row : tie.Need-add-plus-row Inv-loop μ-loop
+add-plus-row c = omega (arith, within c, c .before .before .before .pre .0 .greatest)
+
+plus-row-requires : tie.Need-plus-row-requires Inv-loop μ-loop
+plus-row-requires c κs = (c .before .before .before .pre .0, within c)
+
+sub-rest : tie.Need-sub-rest Inv-loop μ-loop
+sub-rest c = search needs
+
+loop-less : tie.Need-loop-less Inv-loop μ-loop
+loop-less c = let l = c .before .before .loop in lowest-less 64 (l .rest) (l .inv .0) (c .before .loop-test .taken)
+
+loop-again : tie.Need-loop-again Inv-loop μ-loop
+loop-again c =
+    let a = c .before .before .before .before .args in
+    let l = c .before .before .loop in
+    let some = c .before .loop-test .taken in (
+      omega (arith, l .inv .0, lowest-less 64 (l .rest) (l .inv .0) some),
+      ones-clear (a .width) (a .table .now) (a .from) (l .rest) (l .inv .0) some (l .inv .1),
+      packed-made _ (c .plus-row .ensures),
+      ones-step (a .width) (a .table .now) (a .from) (l .rest) (l .inv .0) some (l .out) (c .plus-row .ensures) ∙ l .inv .3,
+    )
+
+returns : tie.Need-returns Inv-loop μ-loop
+returns c = let l = c .before .loop in ones-none _ _ _ (l .inv .2) (c .loop-test .left) ∙ l .inv .3
+
+pub plus-rows-spec : {M : Type 1} → statement M
+plus-rows-spec =
+    tie.close
+    (tie.spec
+    Inv-loop
+    μ-loop
+    loop-holds
+    cast-zeros
+    add-plus-row
+    plus-row-requires
+    sub-rest
+    loop-less
+    loop-again
+    returns)
