@@ -101,6 +101,10 @@ module _ {m : ℕ} {t : List ℕ} (s : Shaped m t) (d : ℕ) (l : d < m) where
   pub row-operand : IsOperand carriedBytes m (carriedRow m t d)
   row-operand = let g = s .greatest in carried-operand (omega arith) (s .isTable .rows d l)
 
+  -- it may be turned
+  pub row-turns : {x : List ℕ} → x ≡ carriedRow m t d → (k : ℕ) → k < m → (2 ≤ m) × (m ≤ maxWidth) × IsOperand carriedBytes m x × (k < m)
+  row-turns e k h = (s .least, s .greatest, rw e row-operand, h)
+
 -- the answer of `row` for a table whose size has no fault
 pub row-read : (m d : ℕ) (t : List ℕ) → Sized m (length t) → answer (bytesFault m (row m t (d % m))) m (carriedRow m t (d % m)) ≡ rowCall m t d
 unfolding rowCall bytesFault

@@ -14,7 +14,7 @@ fn acts_twice(width: usize, table: &[u8], j: usize) -> bool
     ensures { λ r. ⌜ r ≡ associates width (now (table .entry)) 0 j ⌝ }
 {
     let before = sums::wrapped(j + (width - 1), width);
-    let left = rows::turned_row(width, table, before, 1);
+    let left = rows::turned(width, rows::row_bytes(width, table, before), 1);
     let right = sums::times_first(width, table, rows::row_bytes(width, table, j));
     symmetry::same_bytes(left, right)
 }

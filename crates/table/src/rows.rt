@@ -3,7 +3,7 @@ ghost use mathlib.Core.Path.{_≡_};
 ghost use mathlib.Core.List.{[], _∷_};
 ghost use Prim.Native.Nat.{_*_, _<_, _≤_};
 ghost use lib.ListN.{length};
-ghost use Rattle.gf2.specs.Operands.{maxWidth, bytesFor, turned};
+ghost use Rattle.gf2.specs.Operands.{maxWidth, bytesFor, carriedBytes, IsOperand, turned};
 ghost use Rattle.operand.specs.Faults.{firstOf};
 ghost use Rattle.operand.specs.Judgements.{widthFault, lengthFault};
 ghost use Rattle.table.specs.Rows.{Shaped, carriedRow};
@@ -93,12 +93,16 @@ pub(crate) fn row_at(width: usize, table: &[u8], d: usize) -> Operand
     }
 }
 
-// Row d turned k places.
-pub(crate) fn turned_row(width: usize, table: &[u8], d: usize, k: usize) -> [u8; Operand::BYTES]
-    requires { ⌜ (Shaped width (now table)) × (d < width) × (k < width) ⌝ }
-    ensures { λ r. ⌜ r ≡ turned width k (carriedRow width (now (table .entry)) d) ⌝ }
+// x turned k places.
+pub(crate) fn turned(width: usize, x: [u8; Operand::BYTES], k: usize) -> [u8; Operand::BYTES]
+    requires { ⌜ (2 ≤ width) × (width ≤ maxWidth) × (IsOperand carriedBytes width x) × (k < width) ⌝ }
+    ensures { λ r. ⌜ r ≡ turned width k x ⌝ }
 {
-    let answer = row_at(width, table, d).turn(k);
+    let before = Operand {
+        bytes: x,
+        width: width as u16,
+    };
+    let answer = before.turn(k);
     let bytes = answer.value.bytes;
     bytes
 }

@@ -52,7 +52,7 @@ fn mirrored(width: usize, table: &[u8], d: usize) -> bool
 {
     same_bytes(
         rows::row_bytes(width, table, d),
-        rows::turned_row(width, table, width - d, d),
+        rows::turned(width, rows::row_bytes(width, table, width - d), d),
     )
 }
 

@@ -16,14 +16,9 @@ fn left_product(width: usize, table: &[u8], i: usize, j: usize) -> [u8; Operand:
     requires { ⌜ (Shaped width (now table)) × (Symmetric width (now table)) × (i < width) × (j < width) ⌝ }
     ensures { λ r. ⌜ r ≡ carriedBy (leftProduct width (now (table .entry)) i j) ⌝ }
 {
-    let factor = rows::turned_row(width, table, i, sums::wrapped(width - j, width));
-    let product = Operand {
-        bytes: sums::times_first(width, table, factor),
-        width: width as u16,
-    };
-    let answer = product.turn(j);
-    let turned = answer.value.bytes;
-    turned
+    let back = sums::wrapped(width - j, width);
+    let factor = rows::turned(width, rows::row_bytes(width, table, i), back);
+    rows::turned(width, sums::times_first(width, table, factor), j)
 }
 
 // β0·(βi·βj): the factor βi·βj is row j-i turned i places.
@@ -32,7 +27,8 @@ fn right_product(width: usize, table: &[u8], i: usize, j: usize) -> [u8; Operand
     ensures { λ r. ⌜ r ≡ carriedBy (rightProduct width (now (table .entry)) i j) ⌝ }
 {
     let d = sums::wrapped(j + (width - i), width);
-    sums::times_first(width, table, rows::turned_row(width, table, d, i))
+    let factor = rows::turned(width, rows::row_bytes(width, table, d), i);
+    sums::times_first(width, table, factor)
 }
 
 // Whether the triple of 0, i and j is associative.

@@ -6,7 +6,7 @@ use Prim.Native.Nat.{_<_}
 use Rattle.gf2.specs.Operands.{turned}
 use Rattle.table.specs.Judgements.{same}
 use Rattle.table.specs.Rows.{carriedRow, rowsAt, associates}
-use Rattle.table.proofs.Shapes.{row-operand}
+use Rattle.table.proofs.Shapes.{row-operand, row-turns}
 use Rattle.table.proofs.Carrying.{same-carried, left-operand, right-operand}
 use Rattle.table.proofs.RowSums.{minus-at, first-left, first-right}
 use borrow.Author.Needs.{needs}
@@ -26,14 +26,17 @@ wrapped-requires c κs = search needs
 before : (c : tie.After-wrapped) → c .wrapped .result < c .before .before .args .width
 before c = rw (c .wrapped .ensures) (mod-lt _ (omega (arith, c .before .before .pre .0 .least)))
 
-turned-row-requires : tie.Need-turned-row-requires
-turned-row-requires c κs = let p = c .before .before .pre in (p .0, before c, omega (arith, p .0 .least))
-
 row-bytes-requires : tie.Need-row-bytes-requires
-row-bytes-requires c κs = let p = c .before .before .before .pre in (p .0 .greatest, p .0 .isTable .size, p .2)
+row-bytes-requires c κs = let p = c .before .before .pre in (p .0 .greatest, p .0 .isTable .size, before c)
+
+turned-requires : tie.Need-turned-requires
+turned-requires c κs = let p = c .before .before .before .pre in row-turns (p .0) _ (before (c .before)) (c .row-bytes .ensures) _ (omega (arith, p .0 .least))
+
+row-bytes-requires-2 : tie.Need-row-bytes-requires-2
+row-bytes-requires-2 c κs = let p = c .before .before .before .before .pre in (p .0 .greatest, p .0 .isTable .size, p .2)
 
 times-first-requires : tie.Need-times-first-requires
-times-first-requires c κs = let p = c .before .before .before .before .pre in (p .0, rw (c .row-bytes .ensures) (row-operand (p .0) _ (p .2)))
+times-first-requires c κs = let p = c .before .before .before .before .before .pre in (p .0, rw (c .row-bytes2 .ensures) (row-operand (p .0) _ (p .2)))
 
 same-bytes-requires : tie.Need-same-bytes-requires
 same-bytes-requires c κs = search needs
@@ -41,12 +44,13 @@ same-bytes-requires c κs = search needs
 returns : tie.Need-returns
 unfolding associates
 returns c =
-    let w = c .before .before .before .before in
+    let t = c .before .before .before in
+    let w = t .before .before in
     let a = w .before .before .args in
     let p = w .before .before .pre in
-    let left = c .before .before .before .turned-row .ensures
+    let left = t .turned .ensures ∙ ap (turned (a .width) 1) (t .before .row-bytes .ensures)
     ∙ ap (λ d. turned (a .width) 1 (carriedRow (a .width) (a .table .now) d)) (w .wrapped .ensures ∙ minus-at (a .width) (a .j) 1 (p .0 .least)) in
-    let right = c .before .times-first .ensures ∙ ap (rowsAt (a .width) (a .table .now)) (c .before .before .row-bytes .ensures) in
+    let right = c .before .times-first .ensures ∙ ap (rowsAt (a .width) (a .table .now)) (c .before .before .row-bytes2 .ensures) in
     c .same-bytes .ensures
     ∙ ap₂ same (left ∙ first-left (p .0) (p .1) (a .j) (p .2)) (right ∙ first-right (p .0) (a .j) (p .2))
     ∙ same-carried (omega (arith, p .0 .greatest)) (left-operand _ _ _ _) (right-operand _ _ _ _)
@@ -58,8 +62,9 @@ acts-twice-spec =
     sub-wrapped
     add-wrapped
     wrapped-requires
-    turned-row-requires
     row-bytes-requires
+    turned-requires
+    row-bytes-requires-2
     times-first-requires
     same-bytes-requires
     returns)

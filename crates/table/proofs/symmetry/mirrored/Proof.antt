@@ -1,12 +1,13 @@
 -- `table::symmetry::mirrored` meets its contract.
-use mathlib.Core.Path.{ap₂, _∙_}
+use mathlib.Core.Path.{ap, ap₂, _∙_}
 use Prim.Native.Nat.{_-_, _<_, _≤_}
 use native.Mathlib.Omega.{arith}
-use Rattle.gf2.specs.Operands.{bytesFor, carriedBytes}
+use Rattle.gf2.specs.Operands.{bytesFor, carriedBytes, turned}
 use Rattle.gf2.proofs.Operands.{turned-operand}
 use Rattle.gf2.proofs.OperandVectors.{bytes-fit}
 use Rattle.table.specs.Rows.{mirrors}
 use Rattle.table.specs.Judgements.{same}
+use Rattle.table.proofs.Shapes.{row-turns}
 use Rattle.table.proofs.Carrying.{same-carried, turned-carried}
 use borrow.Author.Needs.{needs}
 use Rattle.table.proofs.symmetry.mirrored.Statement.{statement}
@@ -15,11 +16,14 @@ use Rattle.table.proofs.symmetry.mirrored.Tie as tie
 row-bytes-requires : tie.Need-row-bytes-requires
 row-bytes-requires c κs = let p = c .before .pre in (p .0 .greatest, p .0 .isTable .size, p .2)
 
-sub-turned-row : tie.Need-sub-turned-row
-sub-turned-row c = search needs
+sub-row-bytes : tie.Need-sub-row-bytes
+sub-row-bytes c = search needs
 
-turned-row-requires : tie.Need-turned-row-requires
-turned-row-requires c κs = search needs
+row-bytes-requires-2 : tie.Need-row-bytes-requires-2
+row-bytes-requires-2 c κs = let p = c .before .before .pre in (p .0 .greatest, p .0 .isTable .size, omega (arith, p .1, p .2))
+
+turned-requires : tie.Need-turned-requires
+turned-requires c κs = let p = c .before .before .before .pre in row-turns (p .0) _ (omega (arith, p .1, p .2)) (c .row-bytes2 .ensures) _ (p .2)
 
 same-bytes-requires : tie.Need-same-bytes-requires
 same-bytes-requires c κs = search needs
@@ -27,14 +31,15 @@ same-bytes-requires c κs = search needs
 returns : tie.Need-returns
 unfolding mirrors
 returns c =
-    let s = c .before .before .before .before in
+    let s = c .before .before .before .before .before in
     let p = s .pre in
     let a = s .args in
     let short : bytesFor (a .width) ≤ carriedBytes = omega (arith, p .0 .greatest) in
     let l : a .width - a .d < a .width = omega (arith, p .1, p .2) in
     let row = p .0 .isTable .rows (a .width - a .d) l in
+    let other = c .before .turned .ensures ∙ ap (turned (a .width) (a .d)) (c .before .before .row-bytes2 .ensures) in
     c .same-bytes .ensures
-    ∙ ap₂ same (c .before .before .row-bytes .ensures) (c .before .turned-row .ensures ∙ turned-carried short (bytes-fit _) (a .d) row)
+    ∙ ap₂ same (c .before .before .before .row-bytes .ensures) (other ∙ turned-carried short (bytes-fit _) (a .d) row)
     ∙ same-carried short (p .0 .isTable .rows (a .d) (p .2)) (turned-operand _ (row .size) (a .d))
 
 pub mirrored-spec : {M : Type 1} → statement M
@@ -42,7 +47,8 @@ mirrored-spec =
     tie.close
     (tie.spec
     row-bytes-requires
-    sub-turned-row
-    turned-row-requires
+    sub-row-bytes
+    row-bytes-requires-2
+    turned-requires
     same-bytes-requires
     returns)
