@@ -1,6 +1,6 @@
 -- The product of two vectors under a table T, row d of which is the vector T d.
 -- _·_: the product; pair i j: the product of two basis elements.
--- For any table: the product is bilinear, and a turn respects it; mul-comb: a factor that is a linear combination; rule6-left, rule6-right: rule 6 by sums of rows.
+-- For any table: the product is bilinear, and a turn respects it; mul-comb: a factor that is a linear combination; mul-o: a product with β0 is a sum of rows.
 -- Under rule 5 it is commutative; under rules 4 and 5 a square is the turn by one.
 use mathlib.Core.Path.{_≡_, _∙_, ap, fun-ext}
 use mathlib.Core.Bool.{_&&_, and-self-left}
@@ -53,13 +53,6 @@ module _ {p : ℕ} (T : Ix p → Vec p) where
 
   pub mul-o : (b : Vec p) → β o · b ≡ lin b T
   mul-o b = mul-β o b ∙ ap (lin b) (fun-ext pair-o)
-
-  -- the two sides of rule 6, read off the table
-  pub rule6-left : (i j : Ix p) → (β o · β i) · β j ≡ lin (T i) (λ k. pair k j)
-  rule6-left i j = simp (mul-lin, lin-β, pair-o)
-
-  pub rule6-right : (i j : Ix p) → β o · (β i · β j) ≡ lin (pair i j) T
-  rule6-right i j = rw (mul-o, mul-ββ)
 
   -- rules 4 and 5
   pub record Symmetric : Type 0 where

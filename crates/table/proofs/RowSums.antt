@@ -1,7 +1,7 @@
 -- Sums of rows: which products they are, and the sum of all rows.
 -- left-sum, right-sum: under rules 4 and 5 the two sides of rule 6; first-left, first-right: those for i = 0.
 -- rows-none, rows-more, rows-all: the sum of all rows, row after row.
-use mathlib.Core.Path.{_≡_, refl, sym, ap, ap₂, fun-ext, _∙_}
+use mathlib.Core.Path.{_≡_, refl, sym, ap, _∙_}
 use mathlib.Core.Bool.{_&&_}
 use mathlib.Core.List.{List}
 use Prim.Native.Nat.{ℕ, zero, suc, _+_, _-_, _*_, _%_, _<_, _≤_}
@@ -14,7 +14,7 @@ use Rattle.gf2.specs.Operands.{bytesFor, carriedBytes, minus, IsOperand, fromCo
 use Rattle.gf2.specs.Tables.{row}
 use Rattle.gf2.specs.Check.{Symmetric, rowSum}
 use Rattle.gf2.proofs.Operands.{coord-from, from-operand, from-ext, length-from}
-use Rattle.gf2.proofs.Parity.{bits, odd, odd-mul}
+use Rattle.gf2.proofs.Parity.{bits, odd-mul}
 use Rattle.gf2.proofs.Index.{Ix, at, o, _⊖_, at-minus, z-add, sub-add}
 use Rattle.gf2.proofs.IndexSums.{Σ-ext, odd-Σ}
 use Rattle.gf2.proofs.Vector.{Vec, turn, β, lin, turn-turn, turn-z, turn-β}

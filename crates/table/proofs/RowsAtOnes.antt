@@ -1,14 +1,13 @@
 -- The sum of the rows at the ones of an operand, in words: the steps of the loops that make it.
 -- plus-row: one row more. ones-none, ones-step, ones-within, ones-clear: the ones of a word, taken off from the lowest on.
 -- words-none, words-more, word-within, words-all: word after word of the operand.
-use mathlib.Core.Path.{_≡_, refl, sym, ap, ap₂, _∙_}
+use mathlib.Core.Path.{_≡_, refl, sym, ap, _∙_}
 use mathlib.Core.List.{List}
 use Prim.Native.Nat.{ℕ, _+_, _-_, _*_, _/_, _%_, _^_, _<_, _≤_}
-use native.Mathlib.Nat.{add-zero, zero-mul, one-mul, mul-zero, add-mul, zero-div, mod-eq-of-lt, mod-mod, div-eq-of-lt, lt-of-lt-of-le}
+use native.Mathlib.Nat.{add-zero, zero-mul, mul-zero, zero-div, mod-eq-of-lt, mod-mod, div-eq-of-lt, lt-of-lt-of-le}
 use native.Mathlib.Decide.{decLt}
 use native.Mathlib.Omega.{arith}
-use lib.ListN.{length, getD, replicate, length-replicate, getD-replicate}
-use lib.Dec.{eqb}
+use lib.ListN.{length, getD, replicate}
 use lib.Bits.{bitAnd}
 use lib.Count.{trailingZeros}
 use lib.Pow.{pow-mono}
@@ -17,7 +16,7 @@ use Rattle.gf2.specs.Coordinates.{coord, pack}
 use Rattle.gf2.specs.Operands.{carriedBytes, IsOperand, fromCoords}
 use Rattle.gf2.specs.Tables.{row}
 use Rattle.gf2.proofs.Sums.{sum-ext, sum-none, sum-split, sum-clear}
-use Rattle.gf2.proofs.Coordinates.{coord-lt, pack-ext, length-pack}
+use Rattle.gf2.proofs.Coordinates.{pack-ext, length-pack}
 use Rattle.gf2.proofs.Operands.{below-in, below-out}
 use Rattle.gf2.proofs.TrailingZeros.{lowest-one, lowest-off, lowest-sum}
 use Rattle.operand.specs.Words.{carriedWords, wordCoord, packWords}

@@ -19,6 +19,7 @@ fn acts_twice(width: usize, table: &[u8], j: usize) -> bool
     symmetry::same_bytes(left, right)
 }
 
+// Whether that holds for every j.
 pub(crate) fn all_act_twice(width: usize, table: &[u8]) -> bool
     requires { ⌜ (Shaped width (now table)) × (Symmetric width (now table)) ⌝ }
     ensures { λ r. ⌜ r ≡ every width (associates width (now (table .entry)) 0) ⌝ }

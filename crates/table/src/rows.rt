@@ -1,4 +1,4 @@
-// The shape of a table, and its rows as carried operands.
+// The shape of a table, its rows as carried operands, and the turn of an operand without fault.
 ghost use mathlib.Core.Path.{_≡_};
 ghost use mathlib.Core.List.{[], _∷_};
 ghost use Prim.Native.Nat.{_*_, _<_, _≤_};
@@ -93,7 +93,7 @@ pub(crate) fn row_at(width: usize, table: &[u8], d: usize) -> Operand
     }
 }
 
-// x turned k places.
+// x turned k places, where no judgement can fail.
 pub(crate) fn turned(width: usize, x: [u8; Operand::BYTES], k: usize) -> [u8; Operand::BYTES]
     requires { ⌜ (2 ≤ width) × (width ≤ maxWidth) × (IsOperand carriedBytes width x) × (k < width) ⌝ }
     ensures { λ r. ⌜ r ≡ turned width k x ⌝ }

@@ -1,7 +1,6 @@
 // Sums of rows of a table without fault of shape: of all rows, and of those at the ones of an operand, which is its product with β0.
 ghost use mathlib.Core.Path.{_≡_};
-ghost use Prim.Native.Nat.{ℕ, _+_, _*_, _/_, _%_, _^_, _<_, _≤_};
-ghost use Rattle.gf2.specs.Sums.{sum};
+ghost use Prim.Native.Nat.{ℕ, _+_, _/_, _%_, _^_, _<_, _≤_};
 ghost use Rattle.gf2.specs.Coordinates.{coord};
 ghost use Rattle.gf2.specs.Operands.{carriedBytes, IsOperand};
 ghost use Rattle.gf2.specs.Tables.{row};

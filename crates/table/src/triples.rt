@@ -11,7 +11,8 @@ use crate::symmetry;
 use operand::Fault;
 use operand::Operand;
 
-// (β0·βi)·βj: the factor β0·βi is row i. Turned back j places the factors are that and β0, as rule 5 lets them be exchanged.
+// (β0·βi)·βj: the factor β0·βi is row i. Both factors are turned back j places, which makes β0 of βj, and their product j places on; by
+// rule 5 the factors may be exchanged.
 fn left_product(width: usize, table: &[u8], i: usize, j: usize) -> [u8; Operand::BYTES]
     requires { ⌜ (Shaped width (now table)) × (Symmetric width (now table)) × (i < width) × (j < width) ⌝ }
     ensures { λ r. ⌜ r ≡ carriedBy (leftProduct width (now (table .entry)) i j) ⌝ }

@@ -1,6 +1,5 @@
 -- `table::rows::turned` meets its contract.
 use mathlib.Core.Path.{ap, _∙_}
-use native.Mathlib.Omega.{arith}
 use Rattle.operand.specs.declared.OperandAnswer.{OperandAnswer}
 use Rattle.operand.proofs.FaultFree.{turn-done}
 use borrow.Author.Needs.{needs}
