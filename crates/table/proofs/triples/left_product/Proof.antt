@@ -39,7 +39,7 @@ times-first-requires c κs =
 turned-requires-2 : tie.Need-turned-requires-2
 turned-requires-2 c κs =
     let p = c .before .before .before .before .before .pre in
-    (p .0 .least, p .0 .greatest, rw (c .times-first .ensures) (at-operand _ _ _), p .3)
+    (p .0 .least, p .0 .greatest, rw (c .times-first .ensures) (at-operand _ _ _), omega (arith, p .2, p .3))
 
 returns : tie.Need-returns
 returns c =
