@@ -158,7 +158,8 @@ fn compared(cases: &[Case]) {
     println!("By definition (compare/src/field.rs), product at {}: {}; the proved call is {:.0} times as quick.", case.label, shown(theirs), theirs / ours);
 }
 
-/// Of the tables that differ from an accepted one in one pair of rows the one whose first difference comes last, and its j.
+/// Of the tables that differ from an accepted one in coordinate 0 of one row, and in the row that rule 5 ties to it, the one whose
+/// first difference comes last, and its j.
 fn latest(m: usize, table: &[u8]) -> (Vec<u8>, usize) {
     let changed = (1..=m / 2).map(|d| changed_pair(m, table, d, 0));
     changed.map(|t| { let j = compare::proved::check(m, &t).unwrap_err().second; (t, j) }).max_by_key(|(_, j)| *j).unwrap()

@@ -57,6 +57,7 @@ and-odd n e =
     let z : (n - 1) % 2 ≡ 0 = omega arith in
     and-step n (n - 1) ∙ ap₂ (λ a b. bitAnd (n / 2) a * 2 + b) d (ap (min (n % 2)) z ∙ min-zero (n % 2)) ∙ ap (λ a. a * 2 + 0) (and-self (n / 2)) ∙ omega arith
 
+-- n and n - 1 have the bits of n but the lowest one
 off : (k n : ℕ) → 0 < n → n < 2 ^ k → (j : ℕ) → bitAnd n (n - 1) / 2 ^ j % 2 + choose (eqb j (trailingZeros k n)) 1 0 ≡ n / 2 ^ j % 2
 unfolding trailingZeros
 off zero n h l j = absurd (omega arith)
