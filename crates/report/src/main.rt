@@ -3,9 +3,6 @@
 use libc::STDIN_FILENO;
 use libc::STDOUT_FILENO;
 
-mod reporting;
-mod text;
-
 fn main() {
     let mut input = [0u8; reporting::INPUT_LIMIT + 1];
     let n = io::read_full(STDIN_FILENO, &mut input);

@@ -1,0 +1,129 @@
+-- The length of a report: each of its numbers has nine digits at most, so that 128 bytes are enough.
+use mathlib.Core.Path.{_≡_, refl, ap, _∙_}
+use mathlib.Core.Bool.{Bool, true, false}
+use mathlib.Core.List.{List, [], _∷_}
+use Prim.Native.Nat.{ℕ, zero, suc, _+_, _-_, _*_, _<_, _≤_}
+use native.Mathlib.Nat.{mul-le-mul}
+use native.Mathlib.Omega.{arith}
+use lib.ListN.{length, replicate, length-append}
+use lib.Dec.{ltb}
+use Rattle.gf2.specs.Operands.{maxWidth, choose}
+use Rattle.gf2.specs.Tables.{onesIn}
+use Rattle.operand.specs.declared.fault.Fault.{Fault}
+use Rattle.operand.specs.declared.fault.Fault.the-variants.{None, Length}
+use Rattle.operand.specs.Faults.{numberOf, isNone}
+use Rattle.operand.proofs.FaultLaws.{none-is, number-most}
+use Rattle.io.specs.Counts.{Counts}
+use Rattle.io.proofs.Counting.{counts}
+use Rattle.table.specs.Rows.{Shaped}
+use Rattle.table.specs.Judgements.{symmetryFault, checkFault}
+use Rattle.table.proofs.Theorems.{acceptance as accepted-table}
+use Rattle.card.specs.Numbers.{pick, Read, refused, got}
+use Rattle.card.specs.Cards.{Table, readCard}
+use Rattle.card.specs.Statements.{Bytes}
+use Rattle.card.proofs.Trips.{card-written}
+use Rattle.netlist.specs.Lists.{fullRows}
+use Rattle.netlist.specs.Counts.{plainXors, reducedXors, commonXors}
+use Rattle.netlist.specs.Calls.{answer}
+use Rattle.netlist.proofs.CallLaws.{width-times, ones-most}
+use Rattle.netlist.proofs.ListLaws.{shared-ones}
+use Rattle.reporting.specs.declared.text.Text.{Text}
+use Rattle.reporting.specs.Text.{ascii, spaced, line, room, textOf}
+use Rattle.reporting.specs.Steps.{appended}
+use Rattle.reporting.specs.Report.{inputLimit, lent, refusal, countsLine, acceptance, tableReport, readReport, report}
+use Rattle.reporting.proofs.Texts.{appended-text}
+use Rattle.reporting.proofs.Decimals.{decimal-length}
+
+-- no number of a report is as great
+abbrev great : ℕ
+great = 1000000000
+
+line-one : (word : List ℕ) (n : ℕ) → n < great → length (line word (n ∷ [])) ≤ length word + 11
+unfolding line spaced
+line-one word n h = simp length-append (omega (arith, decimal-length n 8 h))
+
+line-two : (word : List ℕ) (a x : ℕ) → a < great → x < great → length (line word (a ∷ x ∷ [])) ≤ length word + 21
+unfolding line spaced
+line-two word a x h k = simp length-append (omega (arith, decimal-length a 8 h, decimal-length x 8 k))
+
+refusal-length : (f : Fault) → length (refusal f) ≤ 18
+unfolding refusal
+refusal-length f = line-one (ascii "refused") _ (omega (arith, number-most f))
+
+choose-small : (b : Bool) (x : ℕ) → x < great → choose b x 0 < great
+choose-small true x h = h
+choose-small false x h = omega arith
+
+counts-length : (word : List ℕ) (f : Fault) (a x : ℕ) → a < great → x < great → length (countsLine word (answer f a x)) ≤ length word + 21
+unfolding countsLine answer
+counts-length word f a x h k = line-two word _ _ (choose-small (isNone f) a h) (choose-small (isNone f) x k)
+
+-- the numbers of a table that is accepted
+module _ (m : ℕ) (table : List ℕ) (small : Bytes table) (shaped : Shaped m table) where
+  square : m * m ≤ 65025
+  square = mul-le-mul {n₁ = m} {m₁ = m} {n₂ = maxWidth} {m₂ = maxWidth} (shaped .greatest) (shaped .greatest)
+
+  plain-small : plainXors m (onesIn m table) < great
+  plain-small = omega (arith, width-times m (onesIn m table - 1) 65025 (shaped .greatest) (omega (arith, ones-most m table, square)))
+
+  reduced-small : reducedXors m (onesIn m table) < great
+  reduced-small = omega (arith, width-times m (onesIn m table + m - 2) 65300 (shaped .greatest) (omega (arith, ones-most m table, square, shaped .greatest)))
+
+  common-small : checkFault m table ≡ None → commonXors m (onesIn m table) (fullRows m table) < great
+  common-small e = go (fullRows m table) (shared-ones m table (shaped .least) (shaped .isTable) (accepted-table m table small .0 e .1 .symmetric))
+    where
+      go : (q : ℕ) → m * q ≤ onesIn m table → commonXors m (onesIn m table) q < great
+      go zero h = plain-small
+      go (suc q) h = omega (arith, width-times m (onesIn m table - m * suc q) 65025 (shaped .greatest) (omega (arith, ones-most m table, square)), ones-most m table, square, h)
+
+  acceptance-length : checkFault m table ≡ None → length (acceptance m table) ≤ 90
+  unfolding acceptance line spaced
+  acceptance-length e =
+      let s = square in
+      simp length-append (omega (
+        arith,
+        counts-length (ascii "plain") (symmetryFault m table) (m * m) (plainXors m (onesIn m table)) (omega arith) plain-small,
+        counts-length (ascii "reduced") (symmetryFault m table) (m * m) (reducedXors m (onesIn m table)) (omega arith) reduced-small,
+        counts-length (ascii "common") (symmetryFault m table) (m * m) (commonXors m (onesIn m table) (fullRows m table)) (omega arith) (common-small e),
+      ))
+
+  verdict-length : length (pick (isNone (checkFault m table)) (acceptance m table) (refusal (checkFault m table))) ≤ 90
+  verdict-length = go (isNone (checkFault m table)) refl
+    where
+      go : (b : Bool) → isNone (checkFault m table) ≡ b → length (pick b (acceptance m table) (refusal (checkFault m table))) ≤ 90
+      go true e = acceptance-length (none-is _ e)
+      go false e = omega (arith, refusal-length (checkFault m table))
+
+  table-length : length (tableReport m table) ≤ room
+  unfolding tableReport
+  table-length =
+      simp length-append (omega (
+        arith,
+        square,
+        ones-most m table,
+        shaped .greatest,
+        verdict-length,
+        line-one (ascii "width") m (omega (arith, shaped .greatest)),
+        line-one (ascii "ones") (onesIn m table) (omega (arith, square, ones-most m table)),
+      ))
+
+read-length : (s : List ℕ) → Bytes s → (x : Read Table) → readCard lent s ≡ x → length (readReport x) ≤ room
+read-length s small (refused f) q = omega (arith, refusal-length f)
+read-length s small (got t rest) q =
+    let r = card-written lent s t rest small q in
+    table-length (t .width) (t .bytes) (r .small) (record { least = r .lent .least; greatest = r .lent .greatest; isTable = r .isTable })
+
+pub report-length : (s : List ℕ) → Bytes s → length (report s) ≤ room
+unfolding report
+report-length s small = go (ltb inputLimit (length s))
+  where
+    go : (b : Bool) → length (pick b (refusal Length) (readReport (readCard lent s))) ≤ room
+    go true = omega (arith, refusal-length Length)
+    go false = read-length s small (readCard lent s) refl
+
+-- the text that the code ends with
+pub whole : (s : List ℕ) {t : Text} {l : List ℕ} → Bytes s → t ≡ appended (textOf []) l → l ≡ report s → (t ≡ textOf (report s)) × Counts (t .length) (t .bytes)
+whole s {t} small e q = (same, rw same (counts _ _ (omega (arith, length-append (report s) (replicate (room - length (report s)) 0)))))
+  where
+    same : t ≡ textOf (report s)
+    same = e ∙ ap (appended (textOf [])) q ∙ appended-text [] (report s) (report-length s small)
