@@ -5,7 +5,7 @@
 use mathlib.Core.Path.{_≡_, refl, sym, ap, ap₂, _∙_}
 use mathlib.Core.Bool.{Bool, true, false, not}
 use mathlib.Core.List.{List, [], _∷_, _++_}
-use Prim.Native.Nat.{ℕ, _*_, _%_, _<_, _≤_}
+use Prim.Native.Nat.{ℕ, _*_, _%_, _≤_}
 use native.Mathlib.Omega.{arith}
 use lib.Dec.{eqb}
 use lib.ListN.{length}
@@ -349,7 +349,3 @@ module _ (m : ℕ) (a : List ℕ) {q : OperandAnswer} {r : TraceAnswer} (read : 
       let bytes : HasBytes m a = record { greatest = width .greatest; size = length-fine _ _ (l .0) } in
       ap (λ (r : TraceAnswer). r .trace) e ∙ ap (λ v. traceCall v .trace) (answer-value (bytesFault m a) read n)
       ∙ ap (λ b. choose b (trace m (carriedBy a)) 0) (ap isNone (operand-high width bytes) ∙ h .0) ∙ trace-carried bytes
-
-pub trace-small : (m : ℕ) (a : List ℕ) → trace m a < 2
-unfolding trace
-trace-small m a = omega arith
