@@ -24,7 +24,7 @@ use Rattle.netlist.specs.Judgements.{wordsFault, isGate, isOutput, gatesFault}
 use Rattle.gaussian.specs.Types.{typeOf}
 use Rattle.gaussian.specs.Calls.{typeFault}
 use Rattle.nb.specs.Packing.{packed, packedFault, packedAnswer, valueLimit, Small, Packs, Unpacks}
-use Rattle.nb.specs.Judgements.{turnBytesFault, sumBytesFault, solveBytesFault, productBytesFault, reducedBytesFault, zeroBytesFault, inverseBytesFault, runBytesFault}
+use Rattle.nb.specs.Judgements.{constantBytesFault, turnBytesFault, sumBytesFault, solveBytesFault, productBytesFault, reducedBytesFault, zeroBytesFault, inverseBytesFault, runBytesFault}
 
 -- equal faults and, where these are none, equal values make equal answers
 pub answer-same : {f g : Fault} {x y u v : ℕ} → f ≡ g → (isNone g ≡ true → (x ≡ y) × (u ≡ v)) → packedAnswer f x u ≡ packedAnswer g y v
@@ -168,6 +168,10 @@ module _ (m : ℕ) (t : List ℕ) where
   small-row-sum = bare-when (not (same (rowSum m t) (basis m 0))) RowSum refl refl
 
 -- the faults of the calls on operands of W bytes
+pub small-constant-call : (m : ℕ) (old : List ℕ) → Small (constantBytesFault m old)
+unfolding constantBytesFault
+small-constant-call m old = search smalls
+
 pub small-turn-call : (m : ℕ) (a : List ℕ) (k : ℕ) (old : List ℕ) → Small (turnBytesFault m a k old)
 unfolding turnBytesFault
 small-turn-call m a k old = search smalls depth 12
