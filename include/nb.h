@@ -77,6 +77,12 @@ uint64_t nb_product_reduced(uint64_t width, const uint8_t *table, size_t table_l
 uint64_t nb_inverse(uint64_t width, const uint8_t *table, size_t table_len, const uint8_t *a, size_t a_len,
                     uint8_t *result, size_t result_len);
 
+/* result: zero. Faults: 1; 2 result. */
+uint64_t nb_zero(uint64_t width, uint8_t *result, size_t result_len);
+
+/* result: one, the operand with all m coordinates 1. Faults: 1; 2 result. */
+uint64_t nb_one(uint64_t width, uint8_t *result, size_t result_len);
+
 /* result: a turned k places; k = 1 is the square. Faults: 1; 2 a, result; 3 in a; 8 where k is m or more. */
 uint64_t nb_turn(uint64_t width, const uint8_t *a, size_t a_len, uint64_t k, uint8_t *result, size_t result_len);
 
