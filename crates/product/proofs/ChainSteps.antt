@@ -71,108 +71,107 @@ read-more n (suc u) h =
     let e : n / 2 ^ suc u ≡ n / 2 ^ u / 2 = rw (pow-suc, ← div-div-eq-div-mul) in
     rw (q, e) (omega arith)
 
-module _ (m : ℕ) (t a : List ℕ) (n : ℕ) where
-  pub digits-none : (u : ℕ) (s : Chain) → u ≡ 0 → digits m t a n u s ≡ s
-  unfolding digits
-  digits-none u s e = rw e
-
-  pub digits-next : (u : ℕ) (s : Chain) → 0 < u → digits m t a n u s ≡ digits m t a n (u - 1) (adding m t a (n / 2 ^ (u - 1) % 2) (doubling m t s))
-  unfolding digits
-  digits-next zero s h = absurd (omega arith)
-  digits-next (suc u) s h = let q : suc u - 1 ≡ u = omega arith in rw q
+digits-next : (m : ℕ) (t a : List ℕ) (n u : ℕ) (s : Chain) → 0 < u → digits m t a n u s ≡ digits m t a n (u - 1) (adding m t a (n / 2 ^ (u - 1) % 2) (doubling m t s))
+unfolding digits
+digits-next m t a n zero s h = absurd (omega arith)
+digits-next m t a n (suc u) s h = let q : suc u - 1 ≡ u = omega arith in rw q
 
 -- a product of carried operands is one, and so is every power of the chain
 product-operand : (m : ℕ) (t x y : List ℕ) → length x ≡ carriedBytes → IsOperand carriedBytes m (product m t x y)
 unfolding product
 product-operand m t x y size = rw size (from-operand carriedBytes m _)
 
-product-sound : {m : ℕ} (t x y : List ℕ) {a p : Operand} → Sound m a → length x ≡ carriedBytes → p ≡ carried m (product m t x y) → Sound m p
-product-sound {m} t x y s size e =
-    rw e (record { least = s .least; greatest = s .greatest; width = refl; operand = product-operand m t x y size })
+turned-length : (m k : ℕ) (x : List ℕ) → length (turned m k x) ≡ length x
+unfolding turned
+turned-length m k x = length-from (length x) m _
 
 module _ (m : ℕ) (t a : List ℕ) where
   abbrev Fine : Chain → Type 0
   Fine s = IsOperand carriedBytes m (s .t)
 
-  turned-length : (k : ℕ) (x : List ℕ) → length (turned m k x) ≡ length x
-  unfolding turned
-  turned-length k x = length-from (length x) m _
-
   adding-fine : (d : ℕ) (s : Chain) → Fine s → Fine (adding m t a d s)
   unfolding adding
   adding-fine zero s h = h
-  adding-fine (suc d) s h = product-operand m t _ _ (turned-length 1 (s .t) ∙ h .size)
+  adding-fine (suc d) s h = product-operand m t _ _ (turned-length m 1 (s .t) ∙ h .size)
 
   digits-fine : (n u : ℕ) (s : Chain) → Fine s → Fine (digits m t a n u s)
   unfolding digits doubling
   digits-fine n zero s h = h
-  digits-fine n (suc u) s h = digits-fine n u _ (adding-fine _ _ (product-operand m t _ _ (turned-length (s .k) (s .t) ∙ h .size)))
+  digits-fine n (suc u) s h = digits-fine n u _ (adding-fine _ _ (product-operand m t _ _ (turned-length m (s .k) (s .t) ∙ h .size)))
+
+-- x turned k places, and what it gives as a factor
+module _ {m : ℕ} {x : Operand} (s : Sound m x) (k : ℕ) (h : k < m) {r : OperandAnswer} (e : r ≡ turnCall x k) where
+  pub turned-sound : Sound m (r .value)
+  turned-sound = made-sound s _ (turn-made s k h e)
+
+  pub turned-times : (t y : List ℕ) {p : Operand} → p ≡ carried m (product m t (r .value .bytes) y) → p ≡ carried m (product m t (turned m k (x .bytes)) y)
+  turned-times t y q = q ∙ ap (λ (o : Operand). carried m (product m t (o .bytes) y)) (turn-value s k h e)
+
+-- the last state of the chain, reached from s with u digits unread
+abbrev lastFrom : ℕ → List ℕ → Operand → ℕ → Chain → State
+lastFrom m t a u s = stateOf m (digits m t (a .bytes) (m - 1) u s)
 
 module _ {m : ℕ} {t : List ℕ} {a : Operand} {s : State} {u d : ℕ} (w : Underway m t a s u d) where
   pub k-small : s .k < m
   k-small = omega (arith, w .reached, w .base .least, shr-le (m - 1) u)
 
-  -- the state as the definition has it
-  pub state-is : s ≡ stateOf m (chainOf s)
-  state-is = ap (λ o. record { t = o; k = s .k; count = s .count }) (is-carried (w .power))
-
-  -- t turned
-  pub turned-sound : (k : ℕ) → k < m → {r : OperandAnswer} → r ≡ turnCall (s .t) k → Sound m (r .value)
-  turned-sound k h e = made-sound (w .power) _ (turn-made (w .power) k h e)
+  pub none-left : u ≡ 0 → s ≡ lastFrom m t a u (chainOf s)
+  unfolding digits
+  none-left e = ap (λ o. record { t = o; k = s .k; count = s .count }) (is-carried (w .power)) ∙ rw e
 
   -- a digit 0 is added by doing nothing
-  pub skipped : d ≡ 0 → Underway m t a s u 0
-  skipped e = rw e at w
+  pub skipped-underway : d ≡ 0 → Underway m t a s u 0
+  skipped-underway e = rw e at w
 
--- what a doubling and an adding hand on, with their product p
-abbrev doubled : State → Operand → State
-doubled s p = record { t = p; k = 2 * s .k; count = s .count + 1 }
+  pub skipped-last : d ≡ 0 → {z : State} → z ≡ lastFrom m t a u (chainOf s) → z ≡ lastFrom m t a u (adding m t (a .bytes) d (chainOf s))
+  unfolding adding
+  skipped-last e q = rw e q
 
-abbrev added : State → Operand → State
-added s p = record { t = p; k = s .k + 1; count = s .count + 1 }
-
--- the doubling of a state from which u digits are unread
-module _ {m : ℕ} {t : List ℕ} {a : Operand} {s : State} {u : ℕ} (w : Underway m t a s u 0) {r : OperandAnswer} {p : Operand}
-    (e : r ≡ turnCall (s .t) (s .k)) (q : p ≡ carried m (product m t (r .value .bytes) (s .t .bytes))) where
-  pub doubled-is : chainOf (doubled s p) ≡ doubling m t (chainOf s)
-  unfolding doubling
-  doubled-is = ap (λ x. record { t = x; k = 2 * s .k; count = s .count + 1 })
-      (ap (λ (o : Operand). o .bytes) q ∙ ap (λ (o : Operand). product m t (o .bytes) (s .t .bytes)) (turn-value (w .power) (s .k) (k-small w) e))
-
-  pub doubled-underway : 0 < u → Underway m t a (doubled s p) (u - 1) ((m - 1) / 2 ^ (u - 1) % 2)
-  doubled-underway h = record {
-    shaped = w .shaped;
-    base = w .base;
-    power = product-sound t _ _ (w .power) (turned-sound w (s .k) (k-small w) e .operand .size) q;
-    reached = omega (arith, w .reached, read-more (m - 1) u h);
-    short = le-trans (pow-mono {i = u - 1} {j = u} (omega arith)) (w .short);
-    few = omega (arith, w .few);
+  -- the power that a step hands on
+  step-sound : (k : ℕ) (y : List ℕ) → Sound m (carried m (product m t (turned m k (s .t .bytes)) y))
+  step-sound k y = record {
+    least = w .base .least;
+    greatest = w .base .greatest;
+    width = refl;
+    operand = product-operand m t _ y (turned-length m k (s .t .bytes) ∙ w .power .operand .size);
   }
 
--- the adding of a digit 1
-module _ {m : ℕ} {t : List ℕ} {a : Operand} {s : State} {u d : ℕ} (w : Underway m t a s u d) (one : d ≡ 1) {r : OperandAnswer} {p : Operand}
-    (e : r ≡ turnCall (s .t) 1) (q : p ≡ carried m (product m t (r .value .bytes) (a .bytes))) where
-  two : 1 < m
-  two = w .base .least
-
-  pub added-is : chainOf (added s p) ≡ adding m t (a .bytes) d (chainOf s)
-  unfolding adding
-  added-is = rw one (ap (λ x. record { t = x; k = s .k + 1; count = s .count + 1 })
-      (ap (λ (o : Operand). o .bytes) q ∙ ap (λ (o : Operand). product m t (o .bytes) (a .bytes)) (turn-value (w .power) 1 two e)))
-
-  pub added-underway : Underway m t a (added s p) u 0
-  added-underway = record {
+-- the state that a doubling hands on
+module _ {m : ℕ} {t : List ℕ} {a : Operand} {s : State} {u : ℕ} (w : Underway m t a s u 0) (some : 0 < u) {r : State}
+    (e : r ≡ record { t = carried m (product m t (turned m (s .k) (s .t .bytes)) (s .t .bytes)); k = 2 * s .k; count = s .count + 1 }) where
+  pub doubled-underway : Underway m t a r (u - 1) ((m - 1) / 2 ^ (u - 1) % 2)
+  doubled-underway = rw e (record {
     shaped = w .shaped;
     base = w .base;
-    power = product-sound t _ _ (w .power) (turned-sound w 1 two e .operand .size) q;
+    power = step-sound w (s .k) (s .t .bytes);
+    reached = omega (arith, w .reached, read-more (m - 1) u some);
+    short = le-trans (pow-mono {i = u - 1} {j = u} (omega arith)) (w .short);
+    few = omega (arith, w .few);
+  })
+
+  pub doubled-last : {z : State} → z ≡ lastFrom m t a (u - 1) (adding m t (a .bytes) ((m - 1) / 2 ^ (u - 1) % 2) (chainOf r)) → z ≡ lastFrom m t a u (chainOf s)
+  unfolding doubling
+  doubled-last q =
+      q
+      ∙ ap (λ (x : State). lastFrom m t a (u - 1) (adding m t (a .bytes) ((m - 1) / 2 ^ (u - 1) % 2) (chainOf x))) e
+      ∙ ap (stateOf m) (sym (digits-next m t (a .bytes) (m - 1) u (chainOf s) some))
+
+-- the state that the adding of a digit 1 hands on
+module _ {m : ℕ} {t : List ℕ} {a : Operand} {s : State} {u d : ℕ} (w : Underway m t a s u d) (one : d ≡ 1) {r : State}
+    (e : r ≡ record { t = carried m (product m t (turned m 1 (s .t .bytes)) (a .bytes)); k = s .k + 1; count = s .count + 1 }) where
+  pub added-underway : Underway m t a r u 0
+  added-underway = rw e (record {
+    shaped = w .shaped;
+    base = w .base;
+    power = step-sound w 1 (a .bytes);
     reached = omega (arith, w .reached);
     short = w .short;
     few = omega (arith, w .few);
-  }
+  })
 
-pub adding-none : (m : ℕ) (t a : List ℕ) (d : ℕ) (s : Chain) → d ≡ 0 → adding m t a d s ≡ s
-unfolding adding
-adding-none m t a d s e = rw e
+  pub added-last : {z : State} → z ≡ lastFrom m t a u (chainOf r) → z ≡ lastFrom m t a u (adding m t (a .bytes) d (chainOf s))
+  unfolding adding
+  added-last q = rw one (q ∙ ap (λ (x : State). lastFrom m t a u (chainOf x)) e)
 
 -- the chain begins with all digits but the highest one unread
 pub start-underway : {m : ℕ} {t : List ℕ} {a : Operand} → Shaped m t → Sound m a → Underway m t a (record { t = a; k = 1; count = 0 }) (log2 (m - 1)) 0

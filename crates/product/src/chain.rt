@@ -1,7 +1,9 @@
 // The inverse by the chain of doublings and addings: m-1 is read in binary from its highest one,
 // and the state after each step holds a to the power 2^k - 1.
 ghost use mathlib.Core.Path.{_≡_};
-ghost use Prim.Native.Nat.{_-_, _/_, _%_, _^_};
+ghost use Prim.Native.Nat.{_+_, _-_, _*_, _/_, _%_, _^_, _<_};
+ghost use Rattle.gf2.specs.Operands.{maxWidth, turned};
+ghost use Rattle.gf2.specs.Products.{product};
 ghost use Rattle.gf2.specs.Inverse.{log2, adding, digits, chain, inverse, productsMade};
 ghost use Rattle.operand.specs.declared.fault.Fault.the-variants.{None};
 ghost use Rattle.table.specs.Rows.{Shaped};
@@ -32,7 +34,35 @@ fn further_digits(n: usize) -> usize
     found
 }
 
-// The doubling step of the next digit, if one is left; it hands over to the adding step.
+// One doubling: t := (t turned k)·t, k := 2k, and the count one higher.
+fn doubling_step(width: usize, table: &[u8], s: State) -> State
+    requires { ⌜ Shaped width (now table) × Sound width (s .t) × (s .k < width) × (s .count < maxWidth) ⌝ }
+    ensures { λ r. ⌜ r ≡ (record { t = carried width (product width (now (table .entry)) (turned width (s .k) (s .t .bytes)) (s .t .bytes)); k = 2 * s .k; count = s .count + 1 }) ⌝ }
+{
+    let t = s.t;
+    let turned = t.turn(s.k);
+    State {
+        t: plain::times(width, table, turned.value, t),
+        k: 2 * s.k,
+        count: s.count + 1,
+    }
+}
+
+// One adding: t := (t turned 1)·a, k := k+1, and the count one higher.
+fn adding_step(width: usize, table: &[u8], a: Operand, doubled: State) -> State
+    requires { ⌜ Shaped width (now table) × Sound width a × Sound width (doubled .t) × (doubled .k < width) × (doubled .count < maxWidth) ⌝ }
+    ensures { λ r. ⌜ r ≡ (record { t = carried width (product width (now (table .entry)) (turned width 1 (doubled .t .bytes)) (a .bytes)); k = doubled .k + 1; count = doubled .count + 1 }) ⌝ }
+{
+    let t = doubled.t;
+    let turned = t.turn(1);
+    State {
+        t: plain::times(width, table, turned.value, a),
+        k: doubled.k + 1,
+        count: doubled.count + 1,
+    }
+}
+
+// The doubling of the next digit, if one is left; it hands over to the adding.
 fn double(width: usize, table: &[u8], a: Operand, s: State, unread: usize) -> State
     requires { ⌜ Underway width (now table) a s unread 0 ⌝ }
     ensures { λ r. ⌜ r ≡ stateOf width (digits width (now (table .entry)) (a .bytes) (width - 1) unread (chainOf s)) ⌝ }
@@ -40,17 +70,11 @@ fn double(width: usize, table: &[u8], a: Operand, s: State, unread: usize) -> St
     if unread == 0 {
         return s;
     }
-    let t = s.t;
-    let turned = t.turn(s.k);
-    let next = State {
-        t: plain::times(width, table, turned.value, t),
-        k: 2 * s.k,
-        count: s.count + 1,
-    };
+    let next = doubling_step(width, table, s);
     add(width, table, a, next, unread - 1)
 }
 
-// The adding step of a digit, which does nothing for a 0; it hands back to the doubling step.
+// The adding of a digit, which does nothing for a 0; it hands back to the doubling.
 fn add(width: usize, table: &[u8], a: Operand, doubled: State, unread: usize) -> State
     requires { ⌜ Underway width (now table) a doubled unread ((width - 1) / 2 ^ unread % 2) ⌝ }
     ensures { λ r. ⌜ r ≡ stateOf width (digits width (now (table .entry)) (a .bytes) (width - 1) unread (adding width (now (table .entry)) (a .bytes) ((width - 1) / 2 ^ unread % 2) (chainOf doubled))) ⌝ }
@@ -58,13 +82,7 @@ fn add(width: usize, table: &[u8], a: Operand, doubled: State, unread: usize) ->
     if ((width - 1) >> unread) % 2 == 0 {
         return double(width, table, a, doubled, unread);
     }
-    let t = doubled.t;
-    let turned = t.turn(1);
-    let next = State {
-        t: plain::times(width, table, turned.value, a),
-        k: doubled.k + 1,
-        count: doubled.count + 1,
-    };
+    let next = adding_step(width, table, a, doubled);
     double(width, table, a, next, unread)
 }
 

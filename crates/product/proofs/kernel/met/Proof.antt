@@ -1,6 +1,7 @@
 -- `product::kernel::met` meets its contract.
 use mathlib.Core.Path.{_∙_}
 use Prim.Native.Nat.{_*_}
+use native.Mathlib.Omega.{arith}
 use borrow.Author.Tests.{eq-eqb, ne-eqb}
 use Rattle.operand.specs.Words.{carriedWords}
 use Rattle.product.specs.Cells.{isOneWay}
@@ -28,7 +29,7 @@ returns-2 : tie.Need-returns-2
 returns-2 c =
     let a = c .before .before .before .before .before .before .args in
     masked-window carriedWords (a .d) (a .x) (a .yy .now) (c .before .before .before .window .ensures) (c .before .before .masked .ensures)
-    ∙ met-once carriedWords (isOneWay (a .both) (a .m) (a .d)) _ _ (reduced-way (a .both) (a .m) (a .d) (c .before .if1 .left) ∙ eq-eqb (2 * a .d) (a .m) (c .if2 .taken))
+    ∙ met-once carriedWords (isOneWay (a .both) (a .m) (a .d)) _ _ (reduced-way (a .both) (a .m) (a .d) (c .before .if1 .left) ∙ eq-eqb (2 * a .d) (a .m) (omega arith))
 
 window-requires-2 : tie.Need-window-requires-2
 window-requires-2 c κs = search needs

@@ -1,7 +1,7 @@
 -- `product::reduced::times_reduced` meets its contract.
 use mathlib.Core.Path.{refl, _∙_}
 use mathlib.Core.Bool.{true}
-use Prim.Native.Nat.{_*_, _/_}
+use Prim.Native.Nat.{_*_}
 use native.Mathlib.Omega.{arith}
 use Rattle.operand.specs.Words.{carriedWords}
 use Rattle.product.specs.Cells.{places}
@@ -46,7 +46,7 @@ gathered-requires c κs =
     let rows = c .before .before .before .before .before .add-rows .ensures in (
       (two, s .pre .0 .greatest),
       rows .size,
-      rows-within true (s .args .width) (s .args .table .now) _ _ 1 (s .args .width / 2) (places * carriedWords) rows (s .pre .0) (words-clear (s .pre .2) (c .before .before .before .before .before .before .before .before .to-words .ensures)) (words-clear (s .pre .3) (c .before .before .before .before .before .before .before .to-words2 .ensures)) (omega arith),
+      rows-within true (s .args .width) (s .args .table .now) _ _ 1 _ (places * carriedWords) rows (s .pre .0) (words-clear (s .pre .2) (c .before .before .before .before .before .before .before .before .to-words .ensures)) (words-clear (s .pre .3) (c .before .before .before .before .before .before .before .to-words2 .ensures)) (omega arith),
     )
 
 sum-requires : tie.Need-sum-requires
