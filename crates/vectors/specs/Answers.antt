@@ -10,7 +10,8 @@ use Rattle.operand.specs.Calls.{zeroCall, oneCall, turnCall, sumCall}
 use Rattle.gaussian.specs.Calls.{drawCall, drawnInto}
 use Rattle.netlist.specs.Lists.{reduced}
 use Rattle.netlist.specs.Calls.{countsPlainCall, countsReducedCall, countsCommonCall, listCall, listBuffer}
-use Rattle.card.specs.Calls.{writeCall, writeCard}
+use Rattle.table.specs.Judgements.{same}
+use Rattle.card.specs.Calls.{writeCall, writeCard, readCall, readTable}
 use Rattle.vectors.specs.Published.{published}
 use Rattle.vectors.specs.Curve.{onCurve}
 
@@ -53,6 +54,11 @@ cardNumbers m table card =
 abbrev pub bit : Bool → ℕ
 bit true = 1
 bit false = 0
+
+-- "reading one returns m"; "constant byte tables .. written and compared by the cards": the bytes read are the table's
+abbrev pub readNumbers : List ℕ → List ℕ → List ℕ → List ℕ
+readNumbers card table old =
+    faultNumber (readCall card old .fault) ∷ readCall card old .value ∷ bit (same (readTable card old) table) ∷ []
 
 -- whether the published point lies on the curve
 unfoldable pub pointBit : ℕ → List ℕ → Operand → Operand → List ℕ → List ℕ → ℕ

@@ -6,15 +6,16 @@ ghost use Rattle.gf2.specs.Operands.{maxWidth};
 ghost use Rattle.gaussian.specs.Calls.{drawnInto};
 ghost use Rattle.netlist.specs.Lists.{reduced};
 ghost use Rattle.netlist.specs.Calls.{listBuffer};
-ghost use Rattle.card.specs.Calls.{writeCard};
+ghost use Rattle.card.specs.Calls.{writeCard, readTable};
 ghost use Rattle.vectors.specs.Numbers.{room, Stored};
-ghost use Rattle.vectors.specs.Answers.{widthNumbers, turnNumbers, drawNumbers, listNumbers, xorNumbers, cardNumbers, pointNumbers, bit, pointBit, changedBit};
+ghost use Rattle.vectors.specs.Answers.{widthNumbers, turnNumbers, drawNumbers, listNumbers, xorNumbers, cardNumbers, readNumbers, pointNumbers, bit, pointBit, changedBit};
 use crate::curve;
 use crate::numbers::number;
 use crate::numbers::put;
 use crate::numbers::put_bytes;
 use crate::numbers::put_words;
 use crate::published;
+use crate::same::same;
 use operand::Operand;
 
 // Zero and one of a width: their faults.
@@ -111,6 +112,25 @@ fn bit(b: bool) -> usize
     ensures { λ r. ⌜ r ≡ bit b ⌝ }
 {
     if b { 1 } else { 0 }
+}
+
+// Reading a card back: the fault, the width read, and whether the bytes read are the table's.
+pub(crate) fn put_read(
+    out: &mut [usize],
+    at: usize,
+    card: &[u8],
+    table: &[u8],
+    read: &mut [u8],
+) -> usize
+    requires { ⌜ at + 2 < room ⌝ }
+    ensures { λ r. ⌜ Stored at (readNumbers (now (card .entry)) (now (table .entry)) (now (read .entry))) (now (out .entry)) r (now (out .exit)) × (now (read .exit) ≡ readTable (now (card .entry)) (now (read .entry))) ⌝ }
+{
+    let answer = card::read(card, read);
+    let fault = answer.fault;
+    let equal = bit(same(read, table));
+    let second = put(out, at, number(fault));
+    let third = put(out, second, answer.value);
+    put(out, third, equal)
 }
 
 // Whether a published point lies on a curve.

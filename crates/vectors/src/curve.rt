@@ -1,16 +1,16 @@
 // Whether a point lies on a curve y² + x·y = x³ + a·x² + b, by the calls on operands.
 ghost use mathlib.Core.Path.{_≡_};
-ghost use mathlib.Core.List.{[], _∷_};
 ghost use Rattle.table.specs.Judgements.{same};
 ghost use Rattle.vectors.specs.Curve.{leftSide, rightSide, onCurve};
+use crate::same::same;
 use operand::Operand;
 use operand::OperandAnswer;
 
-// The same bytes in both.
-fn same(x: [u8; Operand::BYTES], y: [u8; Operand::BYTES]) -> bool
+// The same bytes in both operands.
+fn equal(x: [u8; Operand::BYTES], y: [u8; Operand::BYTES]) -> bool
     ensures { λ r. ⌜ r ≡ same x y ⌝ }
 {
-    check::same(&x, &y)
+    same(&x, &y)
 }
 
 // y² + x·y
@@ -56,5 +56,5 @@ pub(crate) fn on_curve(
     }
     let left_bytes = left.value.bytes;
     let right_bytes = right.value.bytes;
-    same(left_bytes, right_bytes)
+    equal(left_bytes, right_bytes)
 }

@@ -8,6 +8,7 @@ mod answers;
 mod curve;
 mod numbers;
 mod published;
+mod same;
 
 fn main() {
     let text = b"width 1: zero #, one #
@@ -28,9 +29,13 @@ width 4: XOR # # #
 width 5: XOR # # #
 width 3, rows 02 07 07: XOR # # #
 card of width 2: #, length #, % % % % % % %
+card of width 2 read: #, width #, the carried table #
 card of width 3: #, length #, % % % % % % % % % %
+card of width 3 read: #, width #, the carried table #
 card of width 4: #, length #, % % % % % % % % % % % % %
+card of width 4 read: #, width #, the carried table #
 card of width 5: #, length #, % % % % % % % % % % % % % % % %
+card of width 5 read: #, width #, the carried table #
 B-163, type 4: drawn type #, on the curve #, with one bit changed #
 K-163, type 4: drawn type #, on the curve #, with one bit changed #
 K-233, type 2: drawn type #, on the curve #, with one bit changed #
@@ -69,10 +74,18 @@ K-233, type 2: drawn type #, on the curve #, with one bit changed #
     let mut bytes10 = [0u8; 10];
     let mut bytes13 = [0u8; 13];
     let mut bytes16 = [0u8; 16];
+    let mut read2 = [0u8; 2];
+    let mut read3 = [0u8; 3];
+    let mut read4 = [0u8; 4];
+    let mut read5 = [0u8; 5];
     answers::put_card(out, 110, 2, &table2, &mut bytes7);
-    answers::put_card(out, 119, 3, &table3, &mut bytes10);
-    answers::put_card(out, 131, 4, &table4, &mut bytes13);
-    answers::put_card(out, 146, 5, &table5, &mut bytes16);
+    answers::put_read(out, 119, &bytes7, &table2, &mut read2);
+    answers::put_card(out, 122, 3, &table3, &mut bytes10);
+    answers::put_read(out, 134, &bytes10, &table3, &mut read3);
+    answers::put_card(out, 137, 4, &table4, &mut bytes13);
+    answers::put_read(out, 152, &bytes13, &table4, &mut read4);
+    answers::put_card(out, 155, 5, &table5, &mut bytes16);
+    answers::put_read(out, 173, &bytes16, &table5, &mut read5);
     let one163 = Operand::one(163);
     let zero233 = Operand::zero(233);
     let one233 = Operand::one(233);
@@ -80,7 +93,7 @@ K-233, type 2: drawn type #, on the curve #, with one bit changed #
     let mut drawn233 = [0u8; 6990];
     answers::put_point(
         out,
-        164,
+        176,
         163,
         &mut drawn163,
         one163.value,
@@ -90,7 +103,7 @@ K-233, type 2: drawn type #, on the curve #, with one bit changed #
     );
     answers::put_point(
         out,
-        167,
+        179,
         163,
         &mut drawn163,
         one163.value,
@@ -100,7 +113,7 @@ K-233, type 2: drawn type #, on the curve #, with one bit changed #
     );
     answers::put_point(
         out,
-        170,
+        182,
         233,
         &mut drawn233,
         zero233.value,

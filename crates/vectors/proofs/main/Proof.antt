@@ -1,4 +1,4 @@
--- `examples::main` meets its contract. The invariant: at most as many numbers are printed as bytes of the text are passed.
+-- `vectors::main` meets its contract. The invariant: at most as many numbers are printed as bytes of the text are passed.
 use Prim.Native.Nat.{_-_, _≤_}
 use native.Mathlib.Omega.{arith}
 use borrow.Author.Needs.{needs}
@@ -6,10 +6,10 @@ use Rattle.vectors.proofs.main.Statement.{statement}
 use Rattle.vectors.proofs.main.Tie as tie
 
 abbrev Inv-loop : tie.InvT-loop
-Inv-loop text out at₀ next₀ at next = (at ≤ 1086) × (next ≤ at)
+Inv-loop text out at₀ next₀ at next = (at ≤ 1302) × (next ≤ at)
 
 abbrev μ-loop : tie.MeasureT-loop
-μ-loop text out at₀ next₀ at next = 1086 - at
+μ-loop text out at₀ next₀ at next = 1302 - at
 
 slice-aggregate-out : tie.Need-slice-aggregate-out Inv-loop μ-loop
 slice-aggregate-out c = search needs
@@ -110,6 +110,18 @@ slice-aggregate-put-card-2 c = search needs
 put-card-requires : tie.Need-put-card-requires Inv-loop μ-loop
 put-card-requires c κs = search needs
 
+slice-aggregate-put-read : tie.Need-slice-aggregate-put-read Inv-loop μ-loop
+slice-aggregate-put-read c = search needs
+
+slice-aggregate-put-read-2 : tie.Need-slice-aggregate-put-read-2 Inv-loop μ-loop
+slice-aggregate-put-read-2 c = search needs
+
+slice-aggregate-put-read-3 : tie.Need-slice-aggregate-put-read-3 Inv-loop μ-loop
+slice-aggregate-put-read-3 c = search needs
+
+put-read-requires : tie.Need-put-read-requires Inv-loop μ-loop
+put-read-requires c κs = search needs
+
 slice-aggregate-put-card-3 : tie.Need-slice-aggregate-put-card-3 Inv-loop μ-loop
 slice-aggregate-put-card-3 c = search needs
 
@@ -118,6 +130,18 @@ slice-aggregate-put-card-4 c = search needs
 
 put-card-requires-2 : tie.Need-put-card-requires-2 Inv-loop μ-loop
 put-card-requires-2 c κs = search needs
+
+slice-aggregate-put-read-4 : tie.Need-slice-aggregate-put-read-4 Inv-loop μ-loop
+slice-aggregate-put-read-4 c = search needs
+
+slice-aggregate-put-read-5 : tie.Need-slice-aggregate-put-read-5 Inv-loop μ-loop
+slice-aggregate-put-read-5 c = search needs
+
+slice-aggregate-put-read-6 : tie.Need-slice-aggregate-put-read-6 Inv-loop μ-loop
+slice-aggregate-put-read-6 c = search needs
+
+put-read-requires-2 : tie.Need-put-read-requires-2 Inv-loop μ-loop
+put-read-requires-2 c κs = search needs
 
 slice-aggregate-put-card-5 : tie.Need-slice-aggregate-put-card-5 Inv-loop μ-loop
 slice-aggregate-put-card-5 c = search needs
@@ -128,6 +152,18 @@ slice-aggregate-put-card-6 c = search needs
 put-card-requires-3 : tie.Need-put-card-requires-3 Inv-loop μ-loop
 put-card-requires-3 c κs = search needs
 
+slice-aggregate-put-read-7 : tie.Need-slice-aggregate-put-read-7 Inv-loop μ-loop
+slice-aggregate-put-read-7 c = search needs
+
+slice-aggregate-put-read-8 : tie.Need-slice-aggregate-put-read-8 Inv-loop μ-loop
+slice-aggregate-put-read-8 c = search needs
+
+slice-aggregate-put-read-9 : tie.Need-slice-aggregate-put-read-9 Inv-loop μ-loop
+slice-aggregate-put-read-9 c = search needs
+
+put-read-requires-3 : tie.Need-put-read-requires-3 Inv-loop μ-loop
+put-read-requires-3 c κs = search needs
+
 slice-aggregate-put-card-7 : tie.Need-slice-aggregate-put-card-7 Inv-loop μ-loop
 slice-aggregate-put-card-7 c = search needs
 
@@ -136,6 +172,18 @@ slice-aggregate-put-card-8 c = search needs
 
 put-card-requires-4 : tie.Need-put-card-requires-4 Inv-loop μ-loop
 put-card-requires-4 c κs = search needs
+
+slice-aggregate-put-read-10 : tie.Need-slice-aggregate-put-read-10 Inv-loop μ-loop
+slice-aggregate-put-read-10 c = search needs
+
+slice-aggregate-put-read-11 : tie.Need-slice-aggregate-put-read-11 Inv-loop μ-loop
+slice-aggregate-put-read-11 c = search needs
+
+slice-aggregate-put-read-12 : tie.Need-slice-aggregate-put-read-12 Inv-loop μ-loop
+slice-aggregate-put-read-12 c = search needs
+
+put-read-requires-4 : tie.Need-put-read-requires-4 Inv-loop μ-loop
+put-read-requires-4 c κs = search needs
 
 one-requires : tie.Need-one-requires Inv-loop μ-loop
 one-requires c κs = search needs
@@ -266,15 +314,31 @@ main-spec =
     slice-aggregate-put-card
     slice-aggregate-put-card-2
     put-card-requires
+    slice-aggregate-put-read
+    slice-aggregate-put-read-2
+    slice-aggregate-put-read-3
+    put-read-requires
     slice-aggregate-put-card-3
     slice-aggregate-put-card-4
     put-card-requires-2
+    slice-aggregate-put-read-4
+    slice-aggregate-put-read-5
+    slice-aggregate-put-read-6
+    put-read-requires-2
     slice-aggregate-put-card-5
     slice-aggregate-put-card-6
     put-card-requires-3
+    slice-aggregate-put-read-7
+    slice-aggregate-put-read-8
+    slice-aggregate-put-read-9
+    put-read-requires-3
     slice-aggregate-put-card-7
     slice-aggregate-put-card-8
     put-card-requires-4
+    slice-aggregate-put-read-10
+    slice-aggregate-put-read-11
+    slice-aggregate-put-read-12
+    put-read-requires-4
     one-requires
     zero-requires
     one-requires-2

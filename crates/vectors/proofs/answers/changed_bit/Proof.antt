@@ -1,4 +1,4 @@
--- `examples::answers::changed_bit` meets its contract.
+-- `vectors::answers::changed_bit` meets its contract.
 use Rattle.vectors.specs.Answers.{changedBit}
 use borrow.Author.Needs.{needs}
 use Rattle.vectors.proofs.answers.changed_bit.Statement.{statement}

@@ -1,4 +1,4 @@
--- `examples::answers::point_bit` meets its contract.
+-- `vectors::answers::point_bit` meets its contract.
 use Rattle.vectors.specs.Answers.{pointBit}
 use borrow.Author.Needs.{needs}
 use Rattle.vectors.proofs.answers.point_bit.Statement.{statement}

@@ -1,4 +1,4 @@
--- `examples::answers::put_point` meets its contract.
+-- `vectors::answers::put_point` meets its contract.
 use Rattle.vectors.proofs.StoredLaws.{stored-both, stored-as}
 use borrow.Author.Needs.{needs}
 use Rattle.vectors.proofs.answers.put_point.Statement.{statement}

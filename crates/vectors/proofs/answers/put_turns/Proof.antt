@@ -1,4 +1,4 @@
--- `examples::answers::put_turns` meets its contract.
+-- `vectors::answers::put_turns` meets its contract.
 use Rattle.vectors.proofs.StoredLaws.{stored-both, stored-as}
 use borrow.Author.Needs.{needs}
 use Rattle.vectors.proofs.answers.put_turns.Statement.{statement}

@@ -1,4 +1,4 @@
--- `examples::curve::left_side` meets its contract.
+-- `vectors::curve::left_side` meets its contract.
 use Rattle.vectors.specs.Curve.{leftSide}
 use borrow.Author.Needs.{needs}
 use Rattle.vectors.proofs.curve.left_side.Statement.{statement}

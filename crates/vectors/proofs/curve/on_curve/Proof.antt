@@ -1,4 +1,4 @@
--- `examples::curve::on_curve` meets its contract.
+-- `vectors::curve::on_curve` meets its contract.
 use mathlib.Core.Path.{ap, ap₂, _∙_}
 use Rattle.operand.proofs.FaultLaws.{judged}
 use Rattle.table.specs.Judgements.{same}
@@ -32,8 +32,8 @@ returns-2 c =
       judged (ap (λ a. a .fault) (c .before .before .before .before .right-side .ensures)) (c .before .is-none2 .ensures) (not-true _ (c .if2 .taken)),
     )
 
-same-requires : tie.Need-same-requires
-same-requires c κs = search needs
+equal-requires : tie.Need-equal-requires
+equal-requires c κs = search needs
 
 returns-3 : tie.Need-returns-3
 unfolding onCurve
@@ -44,7 +44,7 @@ returns-3 c =
       judged (ap (λ a. a .fault) l) (c .before .before .before .before .before .before .is-none .ensures) (not-false _ (c .before .before .before .before .before .if1 .left)),
       judged (ap (λ a. a .fault) r) (c .before .before .before .before .is-none2 .ensures) (not-false _ (c .before .before .before .if2 .left)),
     )
-    (c .same .ensures ∙ ap₂ (λ a b. same (a .value .bytes) (b .value .bytes)) l r)
+    (c .equal .ensures ∙ ap₂ (λ a b. same (a .value .bytes) (b .value .bytes)) l r)
 
 pub on-curve-spec : {M : Type 1} → statement M
 on-curve-spec =
@@ -56,5 +56,5 @@ on-curve-spec =
     returns
     is-none-requires-2
     returns-2
-    same-requires
+    equal-requires
     returns-3)

@@ -1,4 +1,4 @@
--- `examples::curve::right_side` meets its contract.
+-- `vectors::curve::right_side` meets its contract.
 use Rattle.vectors.specs.Curve.{rightSide}
 use borrow.Author.Needs.{needs}
 use Rattle.vectors.proofs.curve.right_side.Statement.{statement}

@@ -1,4 +1,4 @@
--- `examples::numbers::marks` meets its contract.
+-- `vectors::numbers::marks` meets its contract.
 use Rattle.operand.proofs.Tests.{tests}
 use Rattle.vectors.proofs.numbers.marks.Statement.{statement}
 use Rattle.vectors.proofs.numbers.marks.Tie as tie

@@ -1,4 +1,4 @@
--- `examples::numbers::number_at` meets its contract.
+-- `vectors::numbers::number_at` meets its contract.
 use mathlib.Core.Path.{sym}
 use lib.ListN.{List·getD-eq-default}
 use borrow.Author.Needs.{needs}

@@ -1,4 +1,4 @@
--- `examples::numbers::put` meets its contract.
+-- `vectors::numbers::put` meets its contract.
 use mathlib.Core.Path.{_≡_, refl, sym}
 use lib.Seq.{set-out}
 use borrow.Author.Needs.{needs}

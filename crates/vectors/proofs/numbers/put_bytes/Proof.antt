@@ -1,4 +1,4 @@
--- `examples::numbers::put_bytes` meets its contract. The invariant: the first b bytes are stored.
+-- `vectors::numbers::put_bytes` meets its contract. The invariant: the first b bytes are stored.
 use mathlib.Core.Path.{_≡_, refl, _∙_}
 use Prim.Native.Nat.{_-_, _≤_}
 use native.Mathlib.Omega.{arith}

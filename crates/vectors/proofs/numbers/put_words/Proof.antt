@@ -1,4 +1,4 @@
--- `examples::numbers::put_words` meets its contract. The invariant: the first w words are stored.
+-- `vectors::numbers::put_words` meets its contract. The invariant: the first w words are stored.
 use mathlib.Core.Path.{_≡_, refl, _∙_}
 use Prim.Native.Nat.{_-_, _≤_}
 use native.Mathlib.Omega.{arith}

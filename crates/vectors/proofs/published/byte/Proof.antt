@@ -1,4 +1,4 @@
--- `examples::published::byte` meets its contract. The invariant: the byte has its first j bits.
+-- `vectors::published::byte` meets its contract. The invariant: the byte has its first j bits.
 use mathlib.Core.Path.{_≡_, ap, _∙_}
 use mathlib.Core.List.{List}
 use Prim.Native.Nat.{ℕ, _+_, _-_, _*_, _≤_}

@@ -1,4 +1,4 @@
--- `examples::published::coordinate` meets its contract.
+-- `vectors::published::coordinate` meets its contract.
 use native.Mathlib.Omega.{arith}
 use Rattle.gf2.proofs.Operands.{below-in, below-out}
 use Rattle.vectors.specs.Published.{publishedCoord}

@@ -1,4 +1,4 @@
--- `examples::published::digit_value` meets its contract.
+-- `vectors::published::digit_value` meets its contract.
 use borrow.Author.Tests.{lt-ltb, le-ltb}
 use borrow.Author.Needs.{needs}
 use Rattle.vectors.proofs.published.digit_value.Statement.{statement}

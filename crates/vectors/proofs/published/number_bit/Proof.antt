@@ -1,4 +1,4 @@
--- `examples::published::number_bit` meets its contract.
+-- `vectors::published::number_bit` meets its contract.
 use mathlib.Core.Path.{sym, ap, _∙_}
 use Prim.Native.Nat.{_/_, _%_, _^_}
 use native.Mathlib.Omega.{arith}

@@ -1,4 +1,4 @@
--- `examples::published::operand` meets its contract. The invariant: the first b bytes are made.
+-- `vectors::published::operand` meets its contract. The invariant: the first b bytes are made.
 use mathlib.Core.Path.{_≡_, ap, _∙_}
 use Prim.Native.Nat.{_+_, _-_, _*_}
 use native.Mathlib.Omega.{arith}
