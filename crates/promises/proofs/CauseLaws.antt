@@ -23,7 +23,7 @@ cause-faults (rowsDiffer m table d) = refl
 cause-faults (tripleDiffers m table i j) = refl
 cause-faults (rowSumWrong m table) = refl
 cause-faults (turnTooFar m k) = refl
-cause-faults (isZero m a) = refl
+cause-faults (isZero n m a) = refl
 cause-faults (traceOne m c) = refl
 cause-faults (tooShort given needed) = refl
 cause-faults (typeZero m) = refl
@@ -41,20 +41,29 @@ Decides (c ∷ cs) f = (Holds c × (f ≡ faultOf c)) ⊎ ((¬ Holds c) × Decid
 pub record Decided (cs : List Cause) (f : Fault) : Type 0 where
   pub decides : Decides cs f
 
+-- the first cause that holds gives the fault, and some fault it is
+pub first-is : {cs : List Cause} {f g : Fault} → Decided cs f → First cs g → f ≡ g
+first-is {cs} {f} {g} d k = go cs (d .decides) k
+  where
+    go : (cs : List Cause) → Decides cs f → First cs g → f ≡ g
+    go [] d k = absurd k
+    go (c ∷ cs) (inl h) (inl k) = h .1 ∙ sym (k .1)
+    go (c ∷ cs) (inl h) (inr k) = absurd (k .0 (h .0))
+    go (c ∷ cs) (inr h) (inl k) = absurd (h .0 (k .0))
+    go (c ∷ cs) (inr h) (inr k) = go cs (h .1) (k .1)
+
+pub first-some : (cs : List Cause) {g : Fault} → First cs g → ¬ (g ≡ None)
+first-some [] k e = absurd k
+first-some (c ∷ cs) (inl k) e = some-none (faultOf c) (cause-faults c) (sym (k .1) ∙ e)
+first-some (c ∷ cs) (inr k) e = first-some cs (k .1) e
+
 pub exact : {cs : List Cause} {f : Fault} → Decided cs f → Exact cs f
-exact {cs} {f} d = record { given = λ g n. (to cs f g (d .decides) n, back cs f g (d .decides)); none = (clear cs f (d .decides), unclear cs f (d .decides)) }
+exact {cs} {f} d = record { given = λ g n. (to cs f g (d .decides) n, λ k. first-is d k); none = (clear cs f (d .decides), unclear cs f (d .decides)) }
   where
     to : (cs : List Cause) (f g : Fault) → Decides cs f → ¬ (g ≡ None) → f ≡ g → First cs g
     to [] f g d n e = absurd (n (sym e ∙ d))
     to (c ∷ cs) f g (inl h) n e = inl (h .0, sym e ∙ h .1)
     to (c ∷ cs) f g (inr h) n e = inr (h .0, to cs f g (h .1) n e)
-
-    back : (cs : List Cause) (f g : Fault) → Decides cs f → First cs g → f ≡ g
-    back [] f g d k = absurd k
-    back (c ∷ cs) f g (inl h) (inl k) = h .1 ∙ sym (k .1)
-    back (c ∷ cs) f g (inl h) (inr k) = absurd (k .0 (h .0))
-    back (c ∷ cs) f g (inr h) (inl k) = absurd (h .0 (k .0))
-    back (c ∷ cs) f g (inr h) (inr k) = back cs f g (h .1) (k .1)
 
     clear : (cs : List Cause) (f : Fault) → Decides cs f → f ≡ None → NoCause cs
     clear [] f d e = tt

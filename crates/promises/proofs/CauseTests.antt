@@ -21,18 +21,18 @@ use Rattle.gf2.proofs.Sums.{every-at}
 use Rattle.gf2.proofs.Coordinates.{coord-lt}
 use Rattle.gf2.proofs.Operands.{clear-at, clear-of}
 use Rattle.gf2.proofs.Parity.{and-both}
-use Rattle.operand.specs.declared.fault.Fault.the-variants.{Length}
+use Rattle.operand.specs.declared.fault.Fault.the-variants.{Length, InverseOfZero}
 use Rattle.operand.specs.Faults.{when, firstOf, firstFrom}
 use Rattle.operand.specs.Judgements.{widthFault, lengthFault, highFault, turnFault, traceFault}
 use Rattle.table.specs.Judgements.{same, rowsFault, shapeFault, rowZeroFault, rowPairFault, tripleFault, rowSumFault, symmetryFault, checkFault}
 use Rattle.table.proofs.Searches.{same-correct}
 use Rattle.netlist.specs.Running.{kindAt, leftAt, rightAt, gateCount, outputAt}
-use Rattle.netlist.specs.Judgements.{isGate, isOutput, gatesFault, outputFault}
+use Rattle.netlist.specs.Judgements.{wordsFault, isGate, isOutput, gatesFault, outputFault}
 use Rattle.nb.specs.Judgements.{zeroBytesFault}
 use Rattle.gaussian.specs.Types.{typeOf}
 use Rattle.gaussian.specs.Calls.{typeFault}
 use Rattle.promises.specs.Causes.{BadWidth, IsBadGate, Cause, badWidth, badLength, fewWords, highBit, highBitInRow, rowZeroWrong, rowsDiffer, tripleDiffers, rowSumWrong, turnTooFar, isZero, traceOne, tooShort, typeZero, badGates, Holds, faultOf, from}
-use Rattle.promises.specs.Demand1.{shapeCauses, symmetryCauses, checkCauses}
+use Rattle.promises.specs.CallCauses.{shapeCauses, symmetryCauses, checkCauses}
 use Rattle.promises.proofs.CauseLaws.{Decided, by-test, then, last, each}
 
 -- a fault that is given where a test fails
@@ -118,11 +118,16 @@ by-trace m c = by-test (traceOne m c) (eqb (trace m c) 1) (eqb-true (trace m c) 
 unless-same : (c : Cause) (x y : List ℕ) → (x ≡ y → ¬ Holds c) → ((¬ (x ≡ y)) → Holds c) → Decided (c ∷ []) (when (not (same x y)) (faultOf c))
 unless-same c x y n h = unless c (same x y) (λ e. n (same-correct x y .0 e)) (λ e. h (λ q. true≢false (sym (same-correct x y .1 q) ∙ e)))
 
-pub by-zero : (m : ℕ) (a : List ℕ) → Decided (isZero m a ∷ []) (zeroBytesFault m a)
-unfolding zeroBytesFault Holds
-by-zero m a = by-test (isZero m a) (same a (zeroes (bytesFor m) m))
-    (same-correct a (zeroes (bytesFor m) m) .0)
-    (λ e q. true≢false (sym (same-correct a (zeroes (bytesFor m) m) .1 q) ∙ e))
+-- of an operand of n bytes
+pub by-zero-of : (n m : ℕ) (a : List ℕ) → Decided (isZero n m a ∷ []) (when (same a (zeroes n m)) InverseOfZero)
+unfolding Holds
+by-zero-of n m a = by-test (isZero n m a) (same a (zeroes n m))
+    (same-correct a (zeroes n m) .0)
+    (λ e q. true≢false (sym (same-correct a (zeroes n m) .1 q) ∙ e))
+
+pub by-zero : (m : ℕ) (a : List ℕ) → Decided (isZero (bytesFor m) m a ∷ []) (zeroBytesFault m a)
+unfolding zeroBytesFault
+by-zero m a = by-zero-of (bytesFor m) m a
 
 module _ (m : ℕ) (t : List ℕ) where
   pub by-row-zero : Decided (rowZeroWrong m t ∷ []) (rowZeroFault m t)
@@ -161,11 +166,15 @@ pub by-type : (m : ℕ) → Decided (typeZero m ∷ []) (typeFault m)
 unfolding typeFault Holds
 by-type m = by-test (typeZero m) (eqb (typeOf m) 0) (eqb-true (typeOf m) 0) (eqb-false (typeOf m) 0)
 
-pub by-few : (list : List ℕ) → Decided (fewWords list ∷ []) (when (ltb (length list) 2) Length)
+by-few : (list : List ℕ) → Decided (fewWords list ∷ []) (when (ltb (length list) 2) Length)
 unfolding Holds
 by-few list = by-test (fewWords list) (ltb (length list) 2) (ltb-true (length list) 2) (λ e h. let l = ltb-false (length list) 2 e in omega arith)
 
 module _ (m : ℕ) (list : List ℕ) where
+  pub by-words : Decided (fewWords list ∷ badLength (getD list 0 0) m ∷ badLength (length list) (2 + 3 * gateCount list + m) ∷ []) (wordsFault m list)
+  unfolding wordsFault
+  by-words = then (by-few list) (then (by-length (getD list 0 0) m) (last (by-length (length list) (2 + 3 * gateCount list + m)))) .first
+
   good-gate : (k : ℕ) → isGate m list k ≡ true → ¬ IsBadGate m list k
   unfolding isGate
   good-gate k e w =

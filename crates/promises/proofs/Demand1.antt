@@ -1,88 +1,58 @@
--- Demand 1: each call by the judgements that decide its causes.
-use mathlib.Core.Path.{_≡_, refl, sym, ap, ap₂, _∙_}
+-- Demand 1: each call by the judgements that decide its causes, and by the room that its values have in its answer.
+use mathlib.Core.Path.{_≡_, refl, ap, subst}
 use mathlib.Core.Bool.{Bool, true, false}
 use mathlib.Core.List.{List, [], _∷_, _++_}
 use Prim.Native.Nat.{ℕ, _+_, _*_}
-use lib.ListN.{length, getD}
-use Rattle.gf2.specs.Operands.{bytesFor, choose}
+use lib.ListN.{length}
+use Rattle.gf2.specs.Operands.{bytesFor}
 use Rattle.gf2.specs.Tables.{onesIn}
 use Rattle.operand.specs.declared.fault.Fault.{Fault}
 use Rattle.operand.specs.declared.fault.Fault.the-variants.{None}
 use Rattle.operand.specs.Faults.{isNone, firstOf, when}
 use Rattle.operand.specs.Judgements.{lengthFault, bytesFault}
-use Rattle.operand.specs.Calls.{chooseBytes}
-use Rattle.operand.proofs.FaultLaws.{none-is}
 use Rattle.table.specs.Judgements.{symmetryFault, shapeFault}
 use Rattle.table.specs.Calls.{onesCall}
 use Rattle.netlist.specs.Gates.{Netlist, words}
 use Rattle.netlist.specs.Lists.{plain, reduced, common}
 use Rattle.netlist.specs.Running.{gateCount}
-use Rattle.netlist.specs.Judgements.{wordsFault, outputFault}
-use Rattle.netlist.specs.Calls.{answer, listFault}
+use Rattle.netlist.specs.Judgements.{outputFault}
+use Rattle.netlist.specs.Calls.{answer, listFault, listCall}
 use Rattle.gaussian.specs.Calls.{answer as typeAnswerOf, drawFault}
+use Rattle.card.specs.declared.CardAnswer.{CardAnswer}
 use Rattle.card.specs.Numbers.{pick, Read, refused, got}
 use Rattle.card.specs.Cards.{card, Table, readCard}
-use Rattle.card.specs.Calls.{readAnswer, readInto, writeFault}
+use Rattle.card.specs.Calls.{readAnswer, readInto, readCall, writeFault}
 use Rattle.card.specs.Statements.{Bytes}
-use Rattle.nb.specs.Packing.{packed, packedFault, packedAnswer}
-use Rattle.nb.specs.Judgements.{turnBytesFault, sumBytesFault, solveBytesFault, productBytesFault, reducedBytesFault, inverseBytesFault, runBytesFault}
+use Rattle.nb.specs.Packing.{Unpacks}
+use Rattle.nb.specs.Judgements.{constantBytesFault, turnBytesFault, sumBytesFault, solveBytesFault, productBytesFault, reducedBytesFault, inverseBytesFault, runBytesFault}
 use Rattle.nb.specs.Calls.{countsAnswer, cardAnswer}
-use Rattle.promises.specs.Causes.{Cause, badWidth, fewWords, badLength, turnTooFar, traceOne, typeZero, tooShort, Exact}
-use Rattle.promises.specs.Demand1.{Numbered, Lent, Asks, Fills, Lists, Reads, Demand1, productCauses, ruleCauses, inverseCauses, unaryCauses, sumCauses, runCauses, symmetryCauses, shapeCauses, operandCauses}
-use Rattle.promises.proofs.CauseLaws.{Decided, FirstDecided, then, last, exact}
-use Rattle.promises.proofs.CauseTests.{by-width, by-length, by-high, by-rows, by-turn, by-trace, by-zero, by-row-zero, by-row-pairs, by-shape, by-symmetry, by-check, by-room, by-type, by-few, by-gates}
+use Rattle.nb.proofs.PackLaws.{packs, small-check, small-constant-call, small-turn-call, small-sum-call, small-solve-call, small-product-call, small-reduced-call, small-run-call}
+use Rattle.nb.proofs.Bounds.{PacksCounts, inverse-packs, trace-packs, ones-packs, plain-packs, reduced-packs, common-packs, plain-list-packs, reduced-list-packs, common-list-packs, type-answer-packs, draw-packs, write-packs, read-packs}
+use Rattle.promises.specs.Causes.{Cause, badWidth, badLength, turnTooFar, traceOne, typeZero, tooShort}
+use Rattle.promises.specs.CardCauses.{GoodCard}
+use Rattle.promises.specs.CallCauses.{productCauses, ruleCauses, inverseCauses, unaryCauses, sumCauses, runCauses, symmetryCauses, shapeCauses, operandCauses}
+use Rattle.promises.specs.Answers.{Numbered, Lent, Asks}
+use Rattle.promises.specs.Demand1.{Lists, Reads, Demand1}
+use Rattle.promises.proofs.CauseLaws.{Decided, then, last, exact}
+use Rattle.promises.proofs.CauseTests.{by-width, by-length, by-high, by-rows, by-turn, by-trace, by-zero, by-row-zero, by-row-pairs, by-shape, by-symmetry, by-check, by-room, by-type, by-words, by-gates}
 use Rattle.promises.proofs.CardTests.{good-read, card-exact}
-
--- by whether there is a fault
-none-true : {f : Fault} → f ≡ None → isNone f ≡ true
-unfolding isNone
-none-true e = ap isNone e
-
-some-false : (f : Fault) → ¬ (f ≡ None) → isNone f ≡ false
-some-false f n = go (isNone f) refl
-  where
-    go : (b : Bool) → isNone f ≡ b → b ≡ false
-    go true e = absurd (n (none-is f e))
-    go false e = refl
-
--- a packed answer, whose values count only where there is no fault
-numbered : (f : Fault) (x y : ℕ) {first second : ℕ} → (f ≡ None → x ≡ first) → (f ≡ None → y ≡ second) → Numbered f (packedAnswer f x y) first second
-unfolding packedAnswer
-numbered f x y p q = record {
-  refused = λ n. rw (some-false f n);
-  answered = λ e. rw (none-true e) (ap₂ (packed 0) (p e) (q e));
-}
-
--- an answer without values, and values that are chosen by whether there is a fault
-plainly : (f : Fault) (x y : ℕ) → Numbered f (packedAnswer f x y) x y
-plainly f x y = numbered f x y (λ e. refl) (λ e. refl)
-
-chosen : (f : Fault) (x : ℕ) → f ≡ None → choose (isNone f) x 0 ≡ x
-chosen f x e = rw (none-true e)
-
-lent : (f : Fault) (old result : List ℕ) → Lent f (chooseBytes (isNone f) result old) old result
-lent f old result = record { kept = λ n. rw (some-false f n); written = λ e. rw (none-true e) }
-
--- a call on bytes whose answer has these values
-fills : {causes : List Cause} {f : Fault} → Decided causes f → (first second : ℕ) (old result : List ℕ) →
-    Fills causes f (packedAnswer f first second) first second (chooseBytes (isNone f) result old) old result
-fills {causes} {f} d first second old result =
-    record { exact = exact d; number = plainly f first second; buffer = lent f old result }
+use Rattle.promises.proofs.AnswerLaws.{none-true, some-false, numbered, plainly, chosen, lent, fills}
+use Rattle.promises.proofs.CarriedCalls.{carried-calls}
 
 -- the counts of a list
-counts : (m : ℕ) (table : List ℕ) (ands xors : ℕ) →
+counts : (m : ℕ) (table : List ℕ) (ands xors : ℕ) → PacksCounts (answer (symmetryFault m table) ands xors) →
     Asks (symmetryCauses m table) (symmetryFault m table) (countsAnswer (answer (symmetryFault m table) ands xors)) ands xors
 unfolding answer
-counts m table ands xors = record {
+counts m table ands xors room = record {
   exact = exact (by-symmetry m table);
-  number = numbered (symmetryFault m table) _ _ (chosen (symmetryFault m table) ands) (chosen (symmetryFault m table) xors);
+  number = numbered room (chosen (symmetryFault m table) ands) (chosen (symmetryFault m table) xors);
 }
 
-lists : (m : ℕ) (table : List ℕ) (list : Netlist) (old : List ℕ) → Lists m table list old
+lists : (m : ℕ) (table : List ℕ) (list : Netlist) (old : List ℕ) → PacksCounts (listCall m table list old) → Lists m table list old
 unfolding listFault answer
-lists m table list old = record {
+lists m table list old room = record {
   exact = exact (then (by-symmetry m table) (last (by-room (length old) (length (words m list)))) .first);
-  number = numbered (listFault m table list old) _ _ (chosen (listFault m table list old) _) (chosen (listFault m table list old) _);
+  number = numbered room (chosen (listFault m table list old) _) (chosen (listFault m table list old) _);
   buffer = lent (listFault m table list old) old _;
 }
 
@@ -93,6 +63,10 @@ module _ (m : ℕ) where
 
   tabled : (t : List ℕ) → Decided (badLength (length t) (m * bytesFor m) ∷ []) (lengthFault (length t) (m * bytesFor m))
   tabled t = by-length (length t) (m * bytesFor m)
+
+  constant-decided : (old : List ℕ) → Decided (badWidth m ∷ badLength (length old) (bytesFor m) ∷ []) (constantBytesFault m old)
+  unfolding constantBytesFault
+  constant-decided old = then (by-width m) (last (sized old)) .first
 
   operand-decided : (a : List ℕ) → Decided (operandCauses m a) (bytesFault m a)
   unfolding bytesFault
@@ -125,14 +99,10 @@ module _ (m : ℕ) where
   inverse-decided t a old =
       then (by-width m) (then (sized a) (then (sized old) (then (tabled t) (then (by-rows m t) (then (by-high m a) (last (by-zero m a))))))) .first
 
-  words-decided : (list : List ℕ) → Decided (fewWords list ∷ badLength (getD list 0 0) m ∷ badLength (length list) (2 + 3 * gateCount list + m) ∷ []) (wordsFault m list)
-  unfolding wordsFault
-  words-decided list = then (by-few list) (then (by-length (getD list 0 0) m) (last (by-length (length list) (2 + 3 * gateCount list + m)))) .first
-
   run-decided : (list a b result wires : List ℕ) → Decided (runCauses m list a b result wires) (runBytesFault m list a b result wires)
   unfolding runBytesFault
   run-decided list a b result wires =
-      then (by-width m) (then (sized a) (then (sized b) (then (sized result) (then (words-decided list) (then (by-length (length wires) (2 * m + gateCount list)) (then (by-high m a) (then (by-high m b) (last (by-gates m list))))))))) .first
+      then (by-width m) (then (sized a) (then (sized b) (then (sized result) (then (by-words m list) (then (by-length (length wires) (2 * m + gateCount list)) (then (by-high m a) (then (by-high m b) (last (by-gates m list))))))))) .first
 
   draw-decided : (old : List ℕ) → Decided (badWidth m ∷ badLength (length old) (m * bytesFor m) ∷ typeZero m ∷ []) (drawFault m (length old))
   unfolding drawFault
@@ -142,47 +112,51 @@ module _ (m : ℕ) where
   unfolding writeFault outputFault
   write-decided t old = then (by-shape m t) (last (by-room (length old) (length (card m t)))) .first
 
--- what a card's reading answers and leaves, by what it finds
-refusals : (s old : List ℕ) (x : Read Table) → readCard (length old) s ≡ x → ¬ (readAnswer x .fault ≡ None) →
-    (cardAnswer (readAnswer x) ≡ packedFault (readAnswer x .fault)) × (readInto x old ≡ old)
-unfolding packedAnswer
-refusals s old (refused f) q n = (rw (some-false f n), refl)
-refusals s old (got t rest) q n = absurd (n refl)
+-- what a card's reading leaves, by what it finds
+kept : (old : List ℕ) (x : Read Table) → ¬ (readAnswer x .fault ≡ None) → readInto x old ≡ old
+kept old (refused f) n = refl
+kept old (got t rest) n = absurd (n refl)
 
 reads : (s old : List ℕ) → Bytes s → Reads s old
-unfolding packedAnswer isNone
-reads s old small = record {
-  exact = card-exact (length old) s small;
-  number = λ n. refusals s old _ refl n .0;
-  kept = λ n. refusals s old _ refl n .1;
-  answered = λ m table g. ap (λ x. cardAnswer (readAnswer x)) (good-read g);
-  filled = λ m table g. ap (λ x. readInto x old) (good-read g);
-}
+reads s old small =
+    let number = plainly (read-packs s old small refl) in
+    let good : (m : ℕ) (table : List ℕ) → GoodCard (length old) s m table → readCall s old ≡ (record { fault = None; value = m }) = λ m table g. ap readAnswer (good-read g) in
+    record {
+      exact = card-exact (length old) s small;
+      number = number .refused;
+      kept = kept old (readCard (length old) s);
+      answered = λ m table g. subst (λ v. Unpacks (cardAnswer (readCall s old)) 0 v 0) (ap (λ (r : CardAnswer). r .value) (good m table g)) (number .answered (ap (λ (r : CardAnswer). r .fault) (good m table g)));
+      filled = λ m table g. ap (λ x. readInto x old) (good-read g);
+    }
 
 pub demand1 : Demand1
 unfolding onesCall typeAnswerOf
 demand1 = record {
-  check = λ m t. record { exact = exact (by-check m t); number = plainly _ 0 0 };
-  ones = λ m t. record { exact = exact (by-shape m t); number = numbered _ _ _ (chosen (shapeFault m t) (onesIn m t)) (λ e. refl) };
-  product = λ m t a b old. fills (product-decided m t a b old) 0 0 old _;
-  reduced = λ m t a b old. fills (reduced-decided m t a b old) 0 0 old _;
-  inverse = λ m t a old. fills (inverse-decided m t a old) _ 0 old _;
-  turn = λ m a k old. fills (turn-decided m a k old) 0 0 old _;
-  sum = λ m a b old. fills (sum-decided m a b old) 0 0 old _;
-  trace = λ m a. record { exact = exact (operand-decided m a); number = plainly _ _ 0 };
-  solve = λ m c old. fills (solve-decided m c old) 0 0 old _;
-  countsPlain = λ m t. counts m t _ _;
-  countsReduced = λ m t. counts m t _ _;
-  countsCommon = λ m t. counts m t _ _;
-  listPlain = λ m t old. lists m t (plain m t) old;
-  listReduced = λ m t old. lists m t (reduced m t) old;
-  listCommon = λ m t old. lists m t (common m t) old;
-  run = λ m list a b result wires. fills (run-decided m list a b result wires) 0 0 result _;
+  check = λ m t. record { exact = exact (by-check m t); number = plainly (packs refl (small-check m t)) };
+  ones = λ m t. record { exact = exact (by-shape m t); number = numbered (ones-packs m t refl) (chosen (shapeFault m t) (onesIn m t)) (λ e. refl) };
+  product = λ m t a b old. fills (product-decided m t a b old) (packs refl (small-product-call m t a b old)) old _;
+  reduced = λ m t a b old. fills (reduced-decided m t a b old) (packs refl (small-reduced-call m t a b old)) old _;
+  inverse = λ m t a old. fills (inverse-decided m t a old) (inverse-packs m t a old) old _;
+  zero = λ m old. fills (constant-decided m old) (packs refl (small-constant-call m old)) old _;
+  one = λ m old. fills (constant-decided m old) (packs refl (small-constant-call m old)) old _;
+  turn = λ m a k old. fills (turn-decided m a k old) (packs refl (small-turn-call m a k old)) old _;
+  sum = λ m a b old. fills (sum-decided m a b old) (packs refl (small-sum-call m a b old)) old _;
+  trace = λ m a. record { exact = exact (operand-decided m a); number = plainly (trace-packs m a) };
+  solve = λ m c old. fills (solve-decided m c old) (packs refl (small-solve-call m c old)) old _;
+  countsPlain = λ m t. counts m t _ _ ?;
+  countsReduced = λ m t. counts m t _ _ ?;
+  countsCommon = λ m t. counts m t _ _ ?;
+  listPlain = λ m t old. lists m t (plain m t) old ?;
+  listReduced = λ m t old. lists m t (reduced m t) old ?;
+  listCommon = λ m t old. lists m t (common m t) old ?;
+  run = λ m list a b result wires. fills (run-decided m list a b result wires) (packs refl (small-run-call m list a b result wires)) result _;
   runsWires = λ m list a b result wires. lent _ wires _;
-  typed = λ m. record { exact = exact (then (by-width m) (last (by-type m)) .first); number = numbered _ _ _ (chosen _ _) (λ e. refl) };
-  draw = λ m old. record { exact = exact (draw-decided m old); number = numbered _ _ _ (chosen _ _) (λ e. refl); buffer = lent _ old _ };
-  cardWrite = λ m t old. record { exact = exact (write-decided m t old); number = numbered _ _ _ (chosen _ _) (λ e. refl); buffer = wrote _ old _ };
+  typed = λ m. record { exact = exact (then (by-width m) (last (by-type m)) .first); number = numbered (type-answer-packs m refl) (chosen _ _) (λ e. refl) };
+  draw = λ m old. record { exact = exact (draw-decided m old); number = numbered (draw-packs m (length old) refl) (chosen _ _) (λ e. refl); buffer = lent _ old _ };
+  cardWrite = λ m t old. record { exact = exact (write-decided m t old); number = numbered (write-packs m t old refl) (chosen _ _) (λ e. refl); buffer = wrote _ old _ };
   cardRead = reads;
+  carried = carried-calls;
+  report = ?;
 }
   where
     wrote : (f : Fault) (old result : List ℕ) → Lent f (pick (isNone f) result old) old result

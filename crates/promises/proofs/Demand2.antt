@@ -19,7 +19,7 @@ use Rattle.card.proofs.Theorems.{card-laws}
 use Rattle.nb.specs.Judgements.{productBytesFault, reducedBytesFault}
 use Rattle.nb.specs.Calls.{productResult, reducedResult}
 use Rattle.promises.specs.Causes.{Holds}
-use Rattle.promises.specs.Demand1.{Fills}
+use Rattle.promises.specs.Answers.{Fills}
 use Rattle.promises.specs.Demand2.{bilinear, halved, HasCoords, DrawnBy, Demand2}
 use Rattle.promises.proofs.CauseTests.{wide, long}
 use Rattle.promises.proofs.Demand1.{demand1}

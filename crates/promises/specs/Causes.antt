@@ -6,7 +6,7 @@ use mathlib.Core.List.{List, [], _∷_, _++_}
 use Prim.Native.Nat.{ℕ, zero, suc, _+_, _*_, _<_, _≤_}
 use lib.ListN.{length}
 use Rattle.gf2.specs.Coordinates.{coord}
-use Rattle.gf2.specs.Operands.{maxWidth, bytesFor, zeroes}
+use Rattle.gf2.specs.Operands.{maxWidth, zeroes}
 use Rattle.gf2.specs.Quadratic.{trace}
 use Rattle.gf2.specs.Tables.{row}
 use Rattle.gf2.specs.Check.{Rule4, Rule5, Rule6, Rule7}
@@ -43,7 +43,7 @@ pub data Cause : Type 0 where
   tripleDiffers : ℕ → List ℕ → ℕ → ℕ → Cause
   rowSumWrong : ℕ → List ℕ → Cause
   turnTooFar : ℕ → ℕ → Cause
-  isZero : ℕ → List ℕ → Cause
+  isZero : ℕ → ℕ → List ℕ → Cause
   traceOne : ℕ → List ℕ → Cause
   tooShort : ℕ → ℕ → Cause
   typeZero : ℕ → Cause
@@ -70,8 +70,8 @@ Holds (tripleDiffers m table i j) = ¬ Rule6 m table i j
 Holds (rowSumWrong m table) = ¬ Rule7 m table
 -- "turn count m or more"
 Holds (turnTooFar m k) = m ≤ k
--- "inverse of zero"
-Holds (isZero m a) = a ≡ zeroes (bytesFor m) m
+-- "inverse of zero", of an operand of n bytes
+Holds (isZero n m a) = a ≡ zeroes n m
 -- "trace of c is 1"
 Holds (traceOne m c) = trace m c ≡ 1
 -- "lent output shorter than needed"
@@ -95,7 +95,7 @@ faultOf (rowsDiffer m table d) = RowPair d
 faultOf (tripleDiffers m table i j) = Triple i j
 faultOf (rowSumWrong m table) = RowSum
 faultOf (turnTooFar m k) = TurnCount
-faultOf (isZero m a) = InverseOfZero
+faultOf (isZero n m a) = InverseOfZero
 faultOf (traceOne m c) = TraceOne
 faultOf (tooShort given needed) = OutputShort
 faultOf (typeZero m) = NoType

@@ -59,7 +59,7 @@ pub long-report : (s : List ℕ) → inputLimit < length s → refusal Length �
 unfolding report
 long-report s h = rw (lt-ltb inputLimit (length s) h)
 
-short-report : (s : List ℕ) → length s ≤ inputLimit → report s ≡ readReport (readCard lent s)
+pub short-report : (s : List ℕ) → length s ≤ inputLimit → report s ≡ readReport (readCard lent s)
 unfolding report
 short-report s h = rw (le-ltb inputLimit (length s) h)
 
