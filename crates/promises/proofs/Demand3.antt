@@ -1,5 +1,5 @@
 -- Demand 3: each field by a law of the crate that proves it.
-use mathlib.Core.Path.{_≡_, sym, ap, _∙_}
+use mathlib.Core.Path.{_≡_, ap, ap₂, _∙_}
 use mathlib.Core.Logic.{_↔_}
 use mathlib.Core.List.{List}
 use Prim.Native.Nat.{ℕ, _*_, _<_, _≤_}
@@ -18,7 +18,7 @@ use Rattle.table.proofs.Theorems.{acceptance, fields, symmetry}
 use Rattle.netlist.specs.Gates.{Netlist}
 use Rattle.netlist.specs.Lists.{plain, reduced, common}
 use Rattle.netlist.specs.Running.{wires, result}
-use Rattle.netlist.specs.Calls.{answer, countsCommonCall}
+use Rattle.netlist.specs.Calls.{answer, countsCall}
 use Rattle.netlist.specs.Statements.{ListsHold, Holds as ListHolds, Counted, CommonCounts}
 use Rattle.netlist.proofs.Theorems.{theoremLists, theoremCommon}
 use Rattle.promises.specs.Demand3.{counted, RunsToProduct, HasGates, UnderAccepted, Demand3}
@@ -55,12 +55,12 @@ module _ (m : ℕ) (table : List ℕ) (two : 2 ≤ m) (w : m ≤ maxWidth) (byte
     unfolding answer isNone
     reported ands xors = rw (symmetry m table bytes .1 (shaped, accepted .symmetric))
 
-    -- the gates of the common list as it holds them and as they are reported
-    common-gates : (xors : ℕ) → Counted (common m table) (m * m) xors → HasGates (common m table) (countsCommonCall m table) (m * m) xors
-    common-gates xors h = record {
+    -- the gates of a list as it holds them and as they are reported
+    gates : (list : Netlist) (xors : ℕ) → Counted list (m * m) xors → HasGates list (countsCall m table list) (m * m) xors
+    gates list xors h = record {
       holdsAnds = h .andCount;
       holdsXors = h .xorCount;
-      reports = reported (m * m) _ ∙ ap (counted (m * m)) (sym (lists .ofCommon .counted .xorCount) ∙ h .xorCount);
+      reports = reported _ _ ∙ ap₂ counted (h .andCount) (h .xorCount);
     }
 
     under : UnderAccepted m table
@@ -72,10 +72,10 @@ module _ (m : ℕ) (table : List ℕ) (two : 2 ≤ m) (w : m ≤ maxWidth) (byte
       inverts = λ n a fits o. theoremB .inverses n m table a two fits is accepted o .isInverse;
       only = λ n a b fits oa ob. theoremB .inverses n m table a two fits is accepted oa .unique b ob;
       count = λ a. theoremB .products m table a two;
-      plainGates = record { holdsAnds = lists .ofPlain .counted .andCount; holdsXors = lists .ofPlain .counted .xorCount; reports = reported _ _ };
-      reducedGates = record { holdsAnds = lists .ofReduced .counted .andCount; holdsXors = lists .ofReduced .counted .xorCount; reports = reported _ _ };
-      commonGates = λ d l full. common-gates _ (commons .withRow d l full);
-      otherGates = λ none. common-gates _ (commons .without none);
+      plainGates = gates (plain m table) _ (lists .ofPlain .counted);
+      reducedGates = gates (reduced m table) _ (lists .ofReduced .counted);
+      commonGates = λ d l full. gates (common m table) _ (commons .withRow d l full);
+      otherGates = λ none. gates (common m table) _ (commons .without none);
     }
 
 pub demand3 : Demand3

@@ -14,8 +14,7 @@ use Rattle.operand.specs.declared.fault.Fault.the-variants.{None}
 use Rattle.operand.specs.Judgements.{bytesFault}
 use Rattle.table.specs.Judgements.{checkFault, symmetryFault, shapeFault}
 use Rattle.netlist.specs.Gates.{Netlist, words, andGates, xorGates}
-use Rattle.netlist.specs.Lists.{fullRows, plain, reduced as reducedList, common}
-use Rattle.netlist.specs.Counts.{listAnds, plainXors, reducedXors, commonXors}
+use Rattle.netlist.specs.Lists.{plain, reduced as reducedList, common}
 use Rattle.netlist.specs.Running.{gateCount, readList, wires as wiresOf, result as resultOf}
 use Rattle.netlist.specs.Calls.{countsPlainCall, countsReducedCall, countsCommonCall, listFault, listCall, listBuffer}
 use Rattle.gaussian.specs.Types.{typeOf}
@@ -172,13 +171,13 @@ pub record Demand1 : Type 0 where
   -- counts of gates, and gate lists
   pub countsPlain : (m : ℕ) (table : List ℕ) →
       Asks (symmetryCauses m table) (symmetryFault m table) (countsAnswer (countsPlainCall m table))
-      (listAnds m) (plainXors m (onesIn m table))
+      (andGates (plain m table .gates)) (xorGates (plain m table .gates))
   pub countsReduced : (m : ℕ) (table : List ℕ) →
       Asks (symmetryCauses m table) (symmetryFault m table) (countsAnswer (countsReducedCall m table))
-      (listAnds m) (reducedXors m (onesIn m table))
+      (andGates (reducedList m table .gates)) (xorGates (reducedList m table .gates))
   pub countsCommon : (m : ℕ) (table : List ℕ) →
       Asks (symmetryCauses m table) (symmetryFault m table) (countsAnswer (countsCommonCall m table))
-      (listAnds m) (commonXors m (onesIn m table) (fullRows m table))
+      (andGates (common m table .gates)) (xorGates (common m table .gates))
   pub listPlain : (m : ℕ) (table old : List ℕ) → Lists m table (plain m table) old
   pub listReduced : (m : ℕ) (table old : List ℕ) → Lists m table (reducedList m table) old
   pub listCommon : (m : ℕ) (table old : List ℕ) → Lists m table (common m table) old
