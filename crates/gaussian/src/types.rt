@@ -269,10 +269,16 @@ const TYPES: [u8; LISTED] = [
     6,
 ];
 
+fn wide(x: u8) -> usize
+    ensures { λ r. ⌜ r ≡ x ⌝ }
+{
+    x as usize
+}
+
 // The entry for a width.
 pub(crate) fn listed(width: usize) -> usize
     requires { ⌜ (2 ≤ width) × (width ≤ maxWidth) ⌝ }
     ensures { λ r. ⌜ r ≡ typeOf width ⌝ }
 {
-    TYPES[width - 2] as usize
+    wide(TYPES[width - 2])
 }

@@ -2,13 +2,12 @@
 use mathlib.Core.Path.{_≡_, sym, subst}
 use mathlib.Core.Bool.{true}
 use mathlib.Core.List.{List}
-use Prim.Native.Nat.{ℕ, zero, suc, _+_, _-_, _*_, _/_, _%_, _^_, _<_, _≤_}
+use Prim.Native.Nat.{ℕ, zero, suc, _-_, _/_, _%_, _^_, _<_, _≤_}
 use native.Mathlib.Omega.{arith}
 use lib.ListN.{length}
 use Rattle.gf2.specs.Sums.{sum}
 use Rattle.gf2.specs.Operands.{maxWidth}
 use Rattle.gf2.specs.Tables.{onesIn}
-use Rattle.gf2.specs.Check.{Symmetric}
 use Rattle.gf2.specs.Quadratic.{trace}
 use Rattle.gf2.specs.Inverse.{log2, binaryOnes, productsMade}
 use Rattle.gf2.proofs.Chain.{products-made}
@@ -18,18 +17,18 @@ use Rattle.operand.specs.Judgements.{widthFault, bytesFault}
 use Rattle.operand.proofs.ByteLists.{Bytes}
 use Rattle.operand.proofs.FaultLaws.{or-both, width-fine, none-is}
 use Rattle.table.specs.declared.OnesAnswer.{OnesAnswer}
-use Rattle.table.specs.Rows.{Shaped}
 use Rattle.table.specs.Judgements.{symmetryFault}
 use Rattle.table.specs.Calls.{onesCall}
 use Rattle.product.proofs.ChainSteps.{log2-le}
 use Rattle.netlist.specs.declared.CountsAnswer.{CountsAnswer}
-use Rattle.netlist.specs.Gates.{Netlist, words}
-use Rattle.netlist.specs.Lists.{plain, reduced, common, fullRows}
+use Rattle.netlist.specs.Gates.{Netlist, words, andGates, xorGates}
+use Rattle.netlist.specs.Lists.{plain, reduced, common}
 use Rattle.netlist.specs.Judgements.{outputFault}
-use Rattle.netlist.specs.Counts.{plainXors, reducedXors, commonXors}
-use Rattle.netlist.specs.Calls.{answer, countsPlainCall, countsReducedCall, countsCommonCall, listFault, listCall}
-use Rattle.netlist.proofs.ListLaws.{Gates, shared-ones, plain-gates, reduced-gates, common-gates}
-use Rattle.netlist.proofs.CallLaws.{width-times, ones-most, table-fine}
+use Rattle.netlist.specs.Calls.{answer, countsCall, countsPlainCall, countsReducedCall, countsCommonCall, listFault, listCall}
+use Rattle.netlist.specs.Statements.{Sized, ListsHold}
+use Rattle.netlist.proofs.SizeLaws.{ones-most, counts-most}
+use Rattle.netlist.proofs.Theorems.{theoremLists}
+use Rattle.netlist.proofs.CallLaws.{width-times, table-fine}
 use Rattle.gaussian.specs.declared.TypeAnswer.{TypeAnswer}
 use Rattle.gaussian.specs.Calls.{answer as typed, typeCall, drawFault, drawCall}
 use Rattle.gaussian.proofs.TypeBound.{type-small}
@@ -76,37 +75,6 @@ module _ (m : ℕ) (t : List ℕ) {r : OnesAnswer} (e : r ≡ onesCall m t) wher
   unfolding onesCall
   ones-packs = subst (λ (r : OnesAnswer). Packs (r .fault) (r .ones) 0) (sym e) (small-shape m t, λ n. (rw n (ones-small m t (shape-greatest m t n)), omega arith))
 
--- the gates of a list by kind, each from the numbers of ones and of all-ones rows of a table that keeps rules 4 and 5
-module _ (m : ℕ) (t : List ℕ) (small : Bytes t) (n : isNone (symmetryFault m t) ≡ true) where
-  shaped : Shaped m t
-  shaped = table-fine m t small n .0
-
-  ands-small : m * m < valueLimit
-  ands-small = omega (arith, width-times m m maxWidth (shaped .greatest) (shaped .greatest))
-
-  -- a width times a number up to 2·m²
-  times-small : (x : ℕ) → x ≤ 2 * (maxWidth * maxWidth) → m * x < valueLimit
-  times-small x h = omega (arith, width-times m x (2 * (maxWidth * maxWidth)) (shaped .greatest) h)
-
-  ones-few : onesIn m t ≤ maxWidth * maxWidth
-  ones-few = omega (arith, ones-most m t, width-times m m maxWidth (shaped .greatest) (shaped .greatest))
-
-  plain-small : plainXors m (onesIn m t) < valueLimit
-  plain-small = times-small (onesIn m t - 1) (omega (arith, ones-few))
-
-  reduced-small : reducedXors m (onesIn m t) < valueLimit
-  reduced-small = omega (arith, times-small (onesIn m t + m - 2) (omega (arith, ones-few, shaped .greatest)))
-
-  common-small : commonXors m (onesIn m t) (fullRows m t) < valueLimit
-  common-small = go (fullRows m t) (shared-ones m t (shaped .least) (shaped .isTable) (table-fine m t small n .1))
-    where
-      go : (q : ℕ) → m * q ≤ onesIn m t → commonXors m (onesIn m t) q < valueLimit
-      go zero h = plain-small
-      go (suc q) h =
-          let shared = m * suc q in
-          let most : m * (onesIn m t - shared) ≤ maxWidth * (maxWidth * maxWidth) = width-times m (onesIn m t - shared) (maxWidth * maxWidth) (shaped .greatest) (omega (arith, ones-few)) in
-          omega (arith, ones-few)
-
 -- both counts of an answer
 abbrev pub PacksCounts : CountsAnswer → Type 0
 PacksCounts r = Packs (r .fault) (r .ands .0) (r .xors .0)
@@ -124,33 +92,41 @@ module _ (m : ℕ) (t : List ℕ) (list : Netlist) (old : List ℕ) where
   unfolding listFault firstOf
   judged-list n = or-both _ _ n .0
 
-module _ (m : ℕ) (t : List ℕ) (small : Bytes t) {r : CountsAnswer} where
-  pub plain-packs : r ≡ countsPlainCall m t → PacksCounts r
-  plain-packs e = packs _ _ e (small-symmetry m t) (λ n. (ands-small m t small n, plain-small m t small n))
+module _ (m : ℕ) (t : List ℕ) (small : Bytes t) where
+  lists : isNone (symmetryFault m t) ≡ true → (m ≤ maxWidth) × ListsHold m t
+  lists n = let (shaped, rules) = table-fine m t small n in (shaped .greatest, theoremLists m t (shaped .least) (shaped .isTable) rules)
 
-  pub reduced-packs : r ≡ countsReducedCall m t → PacksCounts r
-  reduced-packs e = packs _ _ e (small-symmetry m t) (λ n. (ands-small m t small n, reduced-small m t small n))
+  module _ (list : Netlist) (sized : ListsHold m t → Sized m list) where
+    few : isNone (symmetryFault m t) ≡ true → (andGates (list .gates) < valueLimit) × (xorGates (list .gates) < valueLimit)
+    few n =
+        let both = counts-most m list (lists n .0) (sized (lists n .1)) in
+        (omega (arith, both), omega (arith, both))
 
-  pub common-packs : r ≡ countsCommonCall m t → PacksCounts r
-  common-packs e = packs _ _ e (small-symmetry m t) (λ n. (ands-small m t small n, common-small m t small n))
+    counts-pack : {r : CountsAnswer} → r ≡ countsCall m t list → PacksCounts r
+    counts-pack e = packs _ _ e (small-symmetry m t) few
 
-  module _ (old : List ℕ) where
-    -- a written list's gates, which are those that are counted
-    list-packs : (list : Netlist) (x : ℕ) → (Shaped m t → Symmetric m t → Gates list (m * m) x) → (isNone (symmetryFault m t) ≡ true → x < valueLimit) →
-        r ≡ listCall m t list old → PacksCounts r
-    list-packs list x g h e = packs _ _ e (small-list m t list old) (λ n.
-        let k = judged-list m t list old n in
-        let f = table-fine m t small k in
-        (rw (g (f .0) (f .1) .ands) (ands-small m t small k), rw (g (f .0) (f .1) .xors) (h k)))
+    list-packs : (old : List ℕ) {r : CountsAnswer} → r ≡ listCall m t list old → PacksCounts r
+    list-packs old e = packs _ _ e (small-list m t list old) (λ n. few (judged-list m t list old n))
 
-    pub plain-list-packs : r ≡ listCall m t (plain m t) old → PacksCounts r
-    plain-list-packs = list-packs (plain m t) _ (λ s y. plain-gates m t (s .least) (s .isTable) y) (plain-small m t small)
+  module _ {r : CountsAnswer} where
+    pub plain-packs : r ≡ countsPlainCall m t → PacksCounts r
+    plain-packs = counts-pack (plain m t) (λ h. h .ofPlain .sized)
 
-    pub reduced-list-packs : r ≡ listCall m t (reduced m t) old → PacksCounts r
-    reduced-list-packs = list-packs (reduced m t) _ (λ s y. reduced-gates m t (s .least) (s .isTable) y) (reduced-small m t small)
+    pub reduced-packs : r ≡ countsReducedCall m t → PacksCounts r
+    reduced-packs = counts-pack (reduced m t) (λ h. h .ofReduced .sized)
 
-    pub common-list-packs : r ≡ listCall m t (common m t) old → PacksCounts r
-    common-list-packs = list-packs (common m t) _ (λ s y. common-gates m t (s .least) (s .isTable) y) (common-small m t small)
+    pub common-packs : r ≡ countsCommonCall m t → PacksCounts r
+    common-packs = counts-pack (common m t) (λ h. h .ofCommon .sized)
+
+    module _ (old : List ℕ) where
+      pub plain-list-packs : r ≡ listCall m t (plain m t) old → PacksCounts r
+      plain-list-packs = list-packs (plain m t) (λ h. h .ofPlain .sized) old
+
+      pub reduced-list-packs : r ≡ listCall m t (reduced m t) old → PacksCounts r
+      reduced-list-packs = list-packs (reduced m t) (λ h. h .ofReduced .sized) old
+
+      pub common-list-packs : r ≡ listCall m t (common m t) old → PacksCounts r
+      common-list-packs = list-packs (common m t) (λ h. h .ofCommon .sized) old
 
 -- types
 type-packs : (f : Fault) (m : ℕ) → Small f → (isNone f ≡ true → isNone (widthFault m) ≡ true) → {r : TypeAnswer} → r ≡ typed f m →

@@ -1,18 +1,15 @@
 -- Laws of the counts and of the written lists: bounds, the numbers of all gates, and the answers and buffers of the calls.
-use mathlib.Core.Path.{_≡_, refl, sym, ap, ap₂, _∙_, subst, fun-ext}
+use mathlib.Core.Path.{_≡_, refl, sym, ap, _∙_, subst, fun-ext}
 use mathlib.Core.Bool.{Bool, true, false}
 use mathlib.Core.List.{List, _++_, append-nil}
 use Prim.Native.Nat.{ℕ, zero, suc, _+_, _-_, _*_, _/_, _<_, _≤_}
-use native.Mathlib.Nat.{mul-le-mul, mul-add, mul-one, mul-pos, suc-mul}
+use native.Mathlib.Nat.{mul-le-mul, mul-add, mul-pos}
 use native.Mathlib.Omega.{arith}
 use lib.ListN.{length, drop}
 use lib.Dec.{ltb}
-use Rattle.gf2.specs.Sums.{sum}
-use Rattle.gf2.specs.Coordinates.{coord}
 use Rattle.gf2.specs.Operands.{maxWidth}
-use Rattle.gf2.specs.Tables.{IsTable, row, onesIn}
+use Rattle.gf2.specs.Tables.{IsTable, onesIn}
 use Rattle.gf2.specs.Check.{Symmetric}
-use Rattle.gf2.proofs.Coordinates.{coord-lt}
 use Rattle.operand.specs.declared.fault.Fault.{Fault}
 use Rattle.operand.specs.declared.fault.Fault.the-variants.{None, OutputShort}
 use Rattle.operand.specs.Faults.{isNone, when}
@@ -32,25 +29,14 @@ use Rattle.netlist.specs.Gates.{Netlist, words, andGates, xorGates}
 use Rattle.netlist.specs.Lists.{folded, ands, plainTerms, plain, mixes, reducedTerms, reduced, otherTerms, sharing, common, ifNone, fullRows}
 use Rattle.netlist.specs.Counts.{commonXors, plainGates, reducedGates, sharingGates}
 use Rattle.netlist.specs.Judgements.{outputFault}
-use Rattle.netlist.specs.Calls.{answer, refusedWith, countedAs, chooseCounts, listFault, listCall, listBuffer}
+use Rattle.netlist.specs.Calls.{answer, refusedWith, countedAs, chooseCounts, countsCall, listFault, listCall, listBuffer}
 use Rattle.netlist.specs.Writing.{pairTerms, foldTerms, listOf, listBy, termsBy, xorsBy}
-use Rattle.netlist.proofs.SumLaws.{sum-zero, sum-next}
+use Rattle.netlist.proofs.SizeLaws.{ones-most}
 use Rattle.netlist.proofs.ListLaws.{Gates, ones-positive, shared-ones, plain-gates, reduced-gates, sharing-gates, common-gates}
 
 -- a product with a width
 pub width-times : (m x k : ℕ) → m ≤ maxWidth → x ≤ k → m * x ≤ maxWidth * k
 width-times m x k h l = mul-le-mul {n₁ = m} {m₁ = x} {n₂ = maxWidth} {m₂ = k} h l
-
-sum-most : (n c : ℕ) (f : ℕ → ℕ) → ((i : ℕ) → f i ≤ c) → sum n f ≤ n * c
-sum-most zero c f h = rw (sum-zero f) (omega arith)
-sum-most (suc n) c f h = rw (sum-next f n) (omega (arith, sum-most n c f h, h n, suc-mul n c))
-
-pub ones-most : (m : ℕ) (table : List ℕ) → onesIn m table ≤ m * m
-unfolding onesIn
-ones-most m table = sum-most m m _ (λ d. row-ones (row m table d))
-  where
-    row-ones : (bytes : List ℕ) → sum m (coord bytes) ≤ m
-    row-ones bytes = omega (arith, sum-most m 1 (coord bytes) (λ s. omega (arith, coord-lt bytes s)), mul-one m)
 
 -- a table that has passed
 pub table-fine : (m : ℕ) (table : List ℕ) → Bytes table → isNone (symmetryFault m table) ≡ true → Shaped m table × Symmetric m table
@@ -110,9 +96,9 @@ module _ (m : ℕ) (table : List ℕ) (list : Netlist) (old : List ℕ) where
   abbrev pub Answered : CountsAnswer → List ℕ → Type 0
   Answered r out = (r ≡ listCall m table list old) × (out ≡ listBuffer m table list old)
 
-  pub list-refused : (a x : ℕ) {c : CountsAnswer} → c ≡ answer (symmetryFault m table) a x → isNone (symmetryFault m table) ≡ false → Answered c old
-  list-refused a x e n = (
-    e ∙ answer-refused (symmetryFault m table) a x n ∙ sym (ap (λ f. answer f (andGates (list .gates)) (xorGates (list .gates))) first ∙ answer-refused (symmetryFault m table) _ _ n),
+  pub list-refused : {c : CountsAnswer} → c ≡ countsCall m table list → isNone (symmetryFault m table) ≡ false → Answered c old
+  list-refused e n = (
+    e ∙ ap (λ f. answer f (andGates (list .gates)) (xorGates (list .gates))) (sym first),
     sym (ap (λ b. chooseBytes b (words m list ++ drop (length (words m list)) old) old) (ap isNone first ∙ n)),
   )
     where
@@ -161,12 +147,12 @@ ones-given m table r b s e = (same, rw same (ones-most m table))
     same = ap (λ (r : OnesAnswer). r .ones) e ∙ (unfold onesCall isNone in rw none)
 
 -- the answer of a call that has delivered the list l
-pub list-answer : (m : ℕ) (table : List ℕ) (list l : Netlist) (old : List ℕ) (x : ℕ) {c r : CountsAnswer} {out : List ℕ} → Gates list (m * m) x → isNone (symmetryFault m table) ≡ true →
-    c ≡ answer (symmetryFault m table) (m * m) x → l ≡ list →
+pub list-answer : (m : ℕ) (table : List ℕ) (list l : Netlist) (old : List ℕ) {c r : CountsAnswer} {out : List ℕ} → isNone (symmetryFault m table) ≡ true →
+    c ≡ countsCall m table list → l ≡ list →
     (r ≡ chooseCounts (ltb (length old) (length (words m l))) (refusedWith OutputShort) c) × (out ≡ chooseBytes (ltb (length old) (length (words m l))) old (words m l ++ drop (length (words m l)) old)) →
     Answered m table list old r out
-list-answer m table list l old x {c} {r} {out} g n e q h =
-    list-delivered m table list old n (e ∙ answer-counted _ _ _ n ∙ ap₂ countedAs (sym (g .ands)) (sym (g .xors))) (moved .0) (moved .1)
+list-answer m table list l old {c} {r} {out} n e q h =
+    list-delivered m table list old n (e ∙ answer-counted _ _ _ n) (moved .0) (moved .1)
   where
     moved : (r ≡ chooseCounts (ltb (length old) (length (words m list))) (refusedWith OutputShort) c) × (out ≡ chooseBytes (ltb (length old) (length (words m list))) old (words m list ++ drop (length (words m list)) old))
     moved = subst (λ (z : Netlist). (r ≡ chooseCounts (ltb (length old) (length (words m z))) (refusedWith OutputShort) c) × (out ≡ chooseBytes (ltb (length old) (length (words m z))) old (words m z ++ drop (length (words m z)) old))) q h

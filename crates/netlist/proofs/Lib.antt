@@ -4,6 +4,7 @@
 -- NetlistLaws: a list that starts with gates and then folds for each r; the run of a list on two operands.
 -- ListLaws: the plain, the reduced and the common list of a table.
 -- WordLaws: the words of a list, read back and run.
+-- SizeLaws: the ones of a table, and the gates and words of its lists, at most.
 -- Theorems: the proofs of the statements in specs/Statements.antt.
 -- StoreLaws: stores of several elements in a row.
 -- RunLaws: the runner's tests and loops. JudgeLaws: its faults.
@@ -16,6 +17,7 @@ pub mod FoldLaws
 pub mod NetlistLaws
 pub mod ListLaws
 pub mod WordLaws
+pub mod SizeLaws
 pub mod Theorems
 pub mod StoreLaws
 pub mod RunLaws

@@ -1,8 +1,8 @@
--- Laws of sums of numbers: one more term, constant terms, monotony; a test as a number; sums over the pairs i < j.
+-- Laws of sums of numbers: one more term, constant terms, monotony, bounds; a test as a number; sums over the pairs i < j.
 use mathlib.Core.Path.{_≡_, refl, sym, ap, ap₂, _∙_}
 use mathlib.Core.Bool.{Bool, true, false, _&&_}
 use Prim.Native.Nat.{ℕ, zero, suc, _+_, _*_, _<_, _≤_}
-use native.Mathlib.Nat.{zero-mul, one-mul, suc-mul, mul-suc}
+use native.Mathlib.Nat.{zero-mul, one-mul, suc-mul, mul-suc, mul-zero}
 use native.Mathlib.Decide.{ℕ-discrete}
 use native.Mathlib.Omega.{arith}
 use lib.Dec.{ltb, eqb}
@@ -44,6 +44,26 @@ sum-mono f i (suc n) h = elim (ℕ-discrete i (suc n)) [
   | yes e ↦ rw e (omega arith)
   | no ne ↦ omega (arith, sum-mono f i n (omega arith))
 ]
+
+-- terms of which none is above c
+pub sum-most : (n c : ℕ) (f : ℕ → ℕ) → ((i : ℕ) → f i ≤ c) → sum n f ≤ n * c
+unfolding sum
+sum-most zero c f h = omega arith
+sum-most (suc n) c f h = omega (arith, sum-most n c f h, h n, suc-mul n c)
+
+-- a test that at most one number passes
+pub count-one : (n : ℕ) (test : ℕ → Bool) → ((d e : ℕ) → d < n → e < n → test d ≡ true → test e ≡ true → d ≡ e) → sum n (λ d. num (test d)) ≤ 1
+unfolding sum
+count-one zero test h = omega arith
+count-one (suc n) test h = go (test n) refl (count-one n test (λ d e ld le. h d e (omega arith) (omega arith)))
+  where
+    off : test n ≡ true → (d : ℕ) → d < n → (x : Bool) → test d ≡ x → num (test d) ≡ 0
+    off t d l true e = absurd (omega (arith, h d n (omega arith) (omega arith) e t))
+    off t d l false e = ap num e
+
+    go : (x : Bool) → test n ≡ x → sum n (λ d. num (test d)) ≤ 1 → sum n (λ d. num (test d)) + num (test n) ≤ 1
+    go true e ih = rw (e, sum-ext n (λ d. num (test d)) (λ d. 0) (λ d l. off e d l (test d) refl), sum-const n 0, mul-zero n) (omega arith)
+    go false e ih = rw e (omega arith)
 
 -- only the terms below j
 pub sum-cut : (m j : ℕ) (f : ℕ → ℕ) → j ≤ m → sum m (λ i. num (ltb i j) * f i) ≡ sum j f

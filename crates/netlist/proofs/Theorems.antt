@@ -1,12 +1,11 @@
--- The proofs of Statements: theoremLists, theoremCommon.
-use mathlib.Core.Path.{_≡_, refl, sym, ap, _∙_}
+-- The proofs of Statements: theoremLists, theoremCounts, theoremCommon.
+use mathlib.Core.Path.{_≡_, refl, sym, ap, ap₂, _∙_}
 use mathlib.Core.Bool.{Bool, true, false}
 use mathlib.Core.List.{List}
-use Prim.Native.Nat.{ℕ, zero, suc, _+_, _-_, _*_, _%_, _<_, _≤_}
+use Prim.Native.Nat.{ℕ, suc, _+_, _-_, _*_, _%_, _<_, _≤_}
 use native.Mathlib.Nat.{mod-eq-of-lt, mul-one, mul-zero}
 use native.Mathlib.Omega.{arith}
 use lib.ListN.{length, getD}
-use Rattle.gf2.specs.Sums.{sum}
 use Rattle.gf2.specs.Coordinates.{coord}
 use Rattle.gf2.specs.Operands.{bytesFor, ones, fromCoords}
 use Rattle.gf2.specs.Tables.{IsTable, row, onesIn}
@@ -16,15 +15,20 @@ use Rattle.gf2.proofs.Sums.{sum-ext}
 use Rattle.gf2.proofs.Operands.{coord-from, from-eq, from-ext, from-coord, from-operand}
 use Rattle.gf2.proofs.OperandVectors.{bytes-fit}
 use Rattle.gf2.proofs.Theorems.{theoremA, theoremE}
+use Rattle.operand.specs.Faults.{isNone}
+use Rattle.table.proofs.Theorems.{symmetry}
 use Rattle.netlist.specs.Gates.{Netlist}
 use Rattle.netlist.specs.Lists.{plain, reduced, common, allOnes, fullRows}
 use Rattle.netlist.specs.Running.{valueOn, wires, result}
 use Rattle.netlist.specs.Counts.{commonXors}
-use Rattle.netlist.specs.Statements.{Computes, Counted, Holds, TheoremLists, TheoremCommon}
-use Rattle.netlist.proofs.SumLaws.{num, sum-next, sum-const, sum-mono}
+use Rattle.netlist.specs.Calls.{countedAs, countsCall}
+use Rattle.netlist.specs.Statements.{Computes, Counted, Sized, Holds, TheoremLists, TheoremCounts, TheoremCommon}
+use Rattle.netlist.proofs.SumLaws.{num, sum-next, sum-const, sum-mono, count-one}
 use Rattle.netlist.proofs.NetlistLaws.{wires-bits}
 use Rattle.netlist.proofs.ListLaws.{Sound, Gates, Gives, coord-product, ones-at, ones-of, plain-sound, plain-gives, plain-gates, reduced-sound, reduced-gives, reduced-gates, common-sound, common-gives, common-gates}
-use Rattle.netlist.proofs.WordLaws.{size-words, words-run}
+use Rattle.netlist.proofs.WordLaws.{words-run}
+use Rattle.netlist.proofs.SizeLaws.{plain-sized, reduced-sized, common-sized}
+use Rattle.netlist.proofs.CallLaws.{answer-counted}
 
 module _ (m : ℕ) (table : List ℕ) where
   module _ (list : Netlist) (gives : Gives m table list) where
@@ -42,34 +46,33 @@ module _ (m : ℕ) (table : List ℕ) where
       resized = resized;
     }
 
-    holds : {x : ℕ} → 2 ≤ m → Sound m list → Gates list (m * m) x → Holds m table list x
-    holds two sound gates = record {
+    holds : {x : ℕ} → 2 ≤ m → Sound m list → Gates list (m * m) x → Sized m list → Holds m table list x
+    holds two sound gates size = record {
       computes = computes;
       runs = words-run m list sound two;
       counted = record { andCount = gates .ands; xorCount = gates .xors };
-      size = size-words m list (sound .size);
+      sized = size;
     }
 
 pub theoremLists : TheoremLists
 theoremLists m table two is s = record {
-  ofPlain = holds m table (plain m table) (plain-gives m table two is s) two (plain-sound m table two is s) (plain-gates m table two is s);
-  ofReduced = holds m table (reduced m table) (reduced-gives m table two is s) two (reduced-sound m table two is s) (reduced-gates m table two is s);
-  ofCommon = holds m table (common m table) (common-gives m table two is s) two (common-sound m table two is s) (common-gates m table two is s);
+  ofPlain = holds m table (plain m table) (plain-gives m table two is s) two (plain-sound m table two is s) (plain-gates m table two is s) (plain-sized m table two is s);
+  ofReduced = holds m table (reduced m table) (reduced-gives m table two is s) two (reduced-sound m table two is s) (reduced-gates m table two is s) (reduced-sized m table two is s);
+  ofCommon = holds m table (common m table) (common-gives m table two is s) two (common-sound m table two is s) (common-gates m table two is s) (common-sized m table two is s);
 }
 
--- a test that at most one number passes
-count-one : (n : ℕ) (test : ℕ → Bool) → ((d e : ℕ) → d < n → e < n → test d ≡ true → test e ≡ true → d ≡ e) → sum n (λ d. num (test d)) ≤ 1
-unfolding sum
-count-one zero test h = omega arith
-count-one (suc n) test h = go (test n) refl (count-one n test (λ d e ld le. h d e (omega arith) (omega arith)))
+pub theoremCounts : TheoremCounts
+theoremCounts m table bytes none =
+    let f = symmetry m table bytes .0 none in
+    let lists = theoremLists m table (f .0 .least) (f .0 .isTable) (f .1) in
+    record {
+      ofPlain = counts (plain m table) (lists .ofPlain .counted);
+      ofReduced = counts (reduced m table) (lists .ofReduced .counted);
+      ofCommon = counts (common m table) (lists .ofCommon .counted);
+    }
   where
-    off : test n ≡ true → (d : ℕ) → d < n → (x : Bool) → test d ≡ x → num (test d) ≡ 0
-    off t d l true e = absurd (omega (arith, h d n (omega arith) (omega arith) e t))
-    off t d l false e = ap num e
-
-    go : (x : Bool) → test n ≡ x → sum n (λ d. num (test d)) ≤ 1 → sum n (λ d. num (test d)) + num (test n) ≤ 1
-    go true e ih = rw (e, sum-ext n (λ d. num (test d)) (λ d. 0) (λ d l. off e d l (test d) refl), sum-const n 0, mul-zero n) (omega arith)
-    go false e ih = rw e (omega arith)
+    counts : (list : Netlist) {ands xors : ℕ} → Counted list ands xors → countsCall m table list ≡ countedAs ands xors
+    counts list h = answer-counted _ _ _ (ap isNone none ∙ (unfold isNone in refl)) ∙ ap₂ countedAs (h .andCount) (h .xorCount)
 
 module _ (m : ℕ) (table : List ℕ) (two : 2 ≤ m) (is : IsTable m table) (k : Accepted m table) where
   full-row : (d : ℕ) → d < m → allOnes m (row m table d) ≡ true → row m table d ≡ ones (bytesFor m) m

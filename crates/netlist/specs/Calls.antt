@@ -4,7 +4,6 @@ use mathlib.Core.List.{List, [], _∷_, _++_}
 use Prim.Native.Nat.{ℕ}
 use lib.ListN.{length, drop}
 use Rattle.gf2.specs.Operands.{bytesFor, choose}
-use Rattle.gf2.specs.Tables.{onesIn}
 use Rattle.operand.specs.declared.Operand.{Operand}
 use Rattle.operand.specs.declared.fault.Fault.{Fault}
 use Rattle.operand.specs.declared.fault.Fault.the-variants.{None}
@@ -13,9 +12,8 @@ use Rattle.operand.specs.Calls.{chooseBytes}
 use Rattle.table.specs.Judgements.{symmetryFault}
 use Rattle.netlist.specs.declared.CountsAnswer.{CountsAnswer}
 use Rattle.netlist.specs.Gates.{Netlist, words, andGates, xorGates}
-use Rattle.netlist.specs.Lists.{fullRows}
+use Rattle.netlist.specs.Lists.{plain, reduced, common}
 use Rattle.netlist.specs.Running.{readList, wires, result}
-use Rattle.netlist.specs.Counts.{listAnds, plainXors, reducedXors, commonXors}
 use Rattle.netlist.specs.Judgements.{outputFault}
 
 -- a fault and no counts, or no fault and both counts
@@ -34,23 +32,26 @@ abbrev pub chooseCounts : Bool → CountsAnswer → CountsAnswer → CountsAnswe
 chooseCounts true x y = x
 chooseCounts false x y = y
 
--- "AND gates and XOR gates are counted apart and both counts returned. The same two counts can be had without writing the list"
+-- "The same two counts can be had without writing the list. They are the numbers of kind 0 and of kind 1 gates among the g."
+abbrev pub countsCall : ℕ → List ℕ → Netlist → CountsAnswer
+countsCall m table list = answer (symmetryFault m table) (andGates (list .gates)) (xorGates (list .gates))
+
+-- of each of the three lists
 abbrev pub countsPlainCall : ℕ → List ℕ → CountsAnswer
-countsPlainCall m table = answer (symmetryFault m table) (listAnds m) (plainXors m (onesIn m table))
+countsPlainCall m table = countsCall m table (plain m table)
 
 abbrev pub countsReducedCall : ℕ → List ℕ → CountsAnswer
-countsReducedCall m table = answer (symmetryFault m table) (listAnds m) (reducedXors m (onesIn m table))
+countsReducedCall m table = countsCall m table (reduced m table)
 
 abbrev pub countsCommonCall : ℕ → List ℕ → CountsAnswer
-countsCommonCall m table =
-    answer (symmetryFault m table) (listAnds m) (commonXors m (onesIn m table) (fullRows m table))
+countsCommonCall m table = countsCall m table (common m table)
 
 -- "4 and 5 also for the .. gate lists"; 11 where the list is longer than the buffer
 unfoldable pub listFault : ℕ → List ℕ → Netlist → List ℕ → Fault
 listFault m table list old =
     firstOf (symmetryFault m table ∷ outputFault (length old) (length (words m list)) ∷ [])
 
--- writing a list returns "the numbers of kind 0 and of kind 1 gates among the g"
+-- "AND gates and XOR gates are counted apart and both counts returned"
 abbrev pub listCall : ℕ → List ℕ → Netlist → List ℕ → CountsAnswer
 listCall m table list old =
     answer (listFault m table list old) (andGates (list .gates)) (xorGates (list .gates))

@@ -1,4 +1,5 @@
--- "The same two counts can be had without writing the list": from m, the number C of ones and the number q of all-ones rows.
+-- The numbers by which the gates of a list are counted without writing it: from m, the number C of ones and the number q of
+-- all-ones rows. `CountsHold` of Statements says that they are those of the lists.
 use Prim.Native.Nat.{ℕ, _+_, _-_, _*_, _/_}
 use Rattle.netlist.specs.Lists.{ifNone}
 

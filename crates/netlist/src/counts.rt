@@ -6,11 +6,10 @@ ghost use Rattle.gf2.specs.Operands.{maxWidth};
 ghost use Rattle.gf2.specs.Tables.{onesIn};
 ghost use Rattle.gf2.specs.Check.{Symmetric};
 ghost use Rattle.table.specs.Rows.{Shaped};
-ghost use Rattle.table.specs.Judgements.{symmetryFault};
 ghost use Rattle.netlist.specs.Gates.{wordLimit};
-ghost use Rattle.netlist.specs.Counts.{listAnds, plainXors, reducedXors, commonXors, plainGates, reducedGates, sharingGates};
-ghost use Rattle.netlist.specs.Calls.{answer, refusedWith, countedAs, countsPlainCall, countsReducedCall, countsCommonCall};
-ghost use Rattle.netlist.specs.Writing.{xorsBy};
+ghost use Rattle.netlist.specs.Counts.{plainXors, reducedXors, commonXors, plainGates, reducedGates, sharingGates};
+ghost use Rattle.netlist.specs.Calls.{refusedWith, countedAs, countsCall, countsPlainCall, countsReducedCall, countsCommonCall};
+ghost use Rattle.netlist.specs.Writing.{listBy, xorsBy};
 use crate::AndCount;
 use crate::CountsAnswer;
 use crate::XorCount;
@@ -114,7 +113,7 @@ fn xors_by(width: usize, table: &[u8], method: Method) -> usize
 }
 
 pub(crate) fn counts_by(width: usize, table: &[u8], method: Method) -> CountsAnswer
-    ensures { λ r. ⌜ r ≡ answer (symmetryFault width (now (table .entry))) (listAnds width) (xorsBy method width (now (table .entry))) ⌝ }
+    ensures { λ r. ⌜ r ≡ countsCall width (now (table .entry)) (listBy method width (now (table .entry))) ⌝ }
 {
     let fault = table::judge_symmetry(width, table);
     if !operand::is_none(fault) {

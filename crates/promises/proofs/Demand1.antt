@@ -38,6 +38,7 @@ use Rattle.promises.proofs.CauseTests.{by-width, by-length, by-high, by
 use Rattle.promises.proofs.CardTests.{good-read, card-exact}
 use Rattle.promises.proofs.AnswerLaws.{none-true, some-false, numbered, plainly, chosen, lent, fills}
 use Rattle.promises.proofs.CarriedCalls.{carried-calls}
+use Rattle.promises.proofs.Reports.{reports}
 
 -- the counts of a list
 counts : (m : ℕ) (table : List ℕ) (ands xors : ℕ) → PacksCounts (answer (symmetryFault m table) ands xors) →
@@ -143,12 +144,12 @@ demand1 = record {
   sum = λ m a b old. fills (sum-decided m a b old) (packs refl (small-sum-call m a b old)) old _;
   trace = λ m a. record { exact = exact (operand-decided m a); number = plainly (trace-packs m a) };
   solve = λ m c old. fills (solve-decided m c old) (packs refl (small-solve-call m c old)) old _;
-  countsPlain = λ m t. counts m t _ _ ?;
-  countsReduced = λ m t. counts m t _ _ ?;
-  countsCommon = λ m t. counts m t _ _ ?;
-  listPlain = λ m t old. lists m t (plain m t) old ?;
-  listReduced = λ m t old. lists m t (reduced m t) old ?;
-  listCommon = λ m t old. lists m t (common m t) old ?;
+  countsPlain = λ m t. counts m t _ _ (plain-packs m t refl);
+  countsReduced = λ m t. counts m t _ _ (reduced-packs m t refl);
+  countsCommon = λ m t. counts m t _ _ (common-packs m t refl);
+  listPlain = λ m t old. lists m t (plain m t) old (plain-list-packs m t old refl);
+  listReduced = λ m t old. lists m t (reduced m t) old (reduced-list-packs m t old refl);
+  listCommon = λ m t old. lists m t (common m t) old (common-list-packs m t old refl);
   run = λ m list a b result wires. fills (run-decided m list a b result wires) (packs refl (small-run-call m list a b result wires)) result _;
   runsWires = λ m list a b result wires. lent _ wires _;
   typed = λ m. record { exact = exact (then (by-width m) (last (by-type m)) .first); number = numbered (type-answer-packs m refl) (chosen _ _) (λ e. refl) };
@@ -156,7 +157,7 @@ demand1 = record {
   cardWrite = λ m t old. record { exact = exact (write-decided m t old); number = numbered (write-packs m t old refl) (chosen _ _) (λ e. refl); buffer = wrote _ old _ };
   cardRead = reads;
   carried = carried-calls;
-  report = ?;
+  report = reports;
 }
   where
     wrote : (f : Fault) (old result : List ℕ) → Lent f (pick (isNone f) result old) old result

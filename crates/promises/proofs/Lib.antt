@@ -1,5 +1,6 @@
 -- The proofs of the records in specs/.
 -- CauseLaws: faults that are decided by causes. CauseTests: each judgement decides its causes. CardTests: so does reading a card.
+-- NoFaults: calls that give no fault.
 -- AnswerLaws: what comes out of an answer, and what a lent buffer holds. CarriedCalls, Reports: the parts of demand 1 of these names.
 -- Demand1, Demand2, Demand3: the demands.
 pub mod CauseLaws
@@ -8,6 +9,7 @@ pub mod CardTests
 pub mod AnswerLaws
 pub mod CarriedCalls
 pub mod NoFaults
-pub mod Half
+pub mod Reports
 pub mod Demand1
 pub mod Demand2
+pub mod Demand3

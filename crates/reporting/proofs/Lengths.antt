@@ -2,7 +2,7 @@
 use mathlib.Core.Path.{_≡_, refl, ap, _∙_}
 use mathlib.Core.Bool.{Bool, true, false}
 use mathlib.Core.List.{List, [], _∷_}
-use Prim.Native.Nat.{ℕ, zero, suc, _+_, _-_, _*_, _<_, _≤_}
+use Prim.Native.Nat.{ℕ, _+_, _-_, _*_, _<_, _≤_}
 use native.Mathlib.Nat.{mul-le-mul}
 use native.Mathlib.Omega.{arith}
 use lib.ListN.{length, replicate, length-append}
@@ -22,11 +22,12 @@ use Rattle.card.specs.Numbers.{pick, Read, refused, got}
 use Rattle.card.specs.Cards.{Table, readCard}
 use Rattle.card.specs.Statements.{Bytes}
 use Rattle.card.proofs.Trips.{card-written}
-use Rattle.netlist.specs.Lists.{fullRows}
-use Rattle.netlist.specs.Counts.{plainXors, reducedXors, commonXors}
-use Rattle.netlist.specs.Calls.{answer}
-use Rattle.netlist.proofs.CallLaws.{width-times, ones-most}
-use Rattle.netlist.proofs.ListLaws.{shared-ones}
+use Rattle.netlist.specs.Gates.{Netlist, andGates, xorGates}
+use Rattle.netlist.specs.Lists.{plain, reduced, common}
+use Rattle.netlist.specs.Calls.{answer, countsCall}
+use Rattle.netlist.specs.Statements.{Sized}
+use Rattle.netlist.proofs.SizeLaws.{ones-most, counts-most}
+use Rattle.netlist.proofs.Theorems.{theoremLists}
 use Rattle.reporting.specs.declared.text.Text.{Text}
 use Rattle.reporting.specs.Text.{ascii, spaced, line, room, textOf}
 use Rattle.reporting.specs.Steps.{appended}
@@ -63,28 +64,21 @@ module _ (m : ℕ) (table : List ℕ) (small : Bytes table) (shaped : Shaped m t
   square : m * m ≤ 65025
   square = mul-le-mul {n₁ = m} {m₁ = m} {n₂ = maxWidth} {m₂ = maxWidth} (shaped .greatest) (shaped .greatest)
 
-  plain-small : plainXors m (onesIn m table) < great
-  plain-small = omega (arith, width-times m (onesIn m table - 1) 65025 (shaped .greatest) (omega (arith, ones-most m table, square)))
-
-  reduced-small : reducedXors m (onesIn m table) < great
-  reduced-small = omega (arith, width-times m (onesIn m table + m - 2) 65300 (shaped .greatest) (omega (arith, ones-most m table, square, shaped .greatest)))
-
-  common-small : checkFault m table ≡ None → commonXors m (onesIn m table) (fullRows m table) < great
-  common-small e = go (fullRows m table) (shared-ones m table (shaped .least) (shaped .isTable) (accepted-table m table small .0 e .1 .symmetric))
+  counts-short : (word : List ℕ) (list : Netlist) → Sized m list → length (countsLine word (countsCall m table list)) ≤ length word + 21
+  counts-short word list s = counts-length word (symmetryFault m table) _ _ (omega (arith, both)) (omega (arith, both))
     where
-      go : (q : ℕ) → m * q ≤ onesIn m table → commonXors m (onesIn m table) q < great
-      go zero h = plain-small
-      go (suc q) h = omega (arith, width-times m (onesIn m table - m * suc q) 65025 (shaped .greatest) (omega (arith, ones-most m table, square)), ones-most m table, square, h)
+      both : andGates (list .gates) + xorGates (list .gates) < great
+      both = omega (arith, counts-most m list (shaped .greatest) s)
 
   acceptance-length : checkFault m table ≡ None → length (acceptance m table) ≤ 90
   unfolding acceptance line spaced
   acceptance-length e =
-      let s = square in
+      let lists = theoremLists m table (shaped .least) (shaped .isTable) (accepted-table m table small .0 e .1 .symmetric) in
       simp length-append (omega (
         arith,
-        counts-length (ascii "plain") (symmetryFault m table) (m * m) (plainXors m (onesIn m table)) (omega arith) plain-small,
-        counts-length (ascii "reduced") (symmetryFault m table) (m * m) (reducedXors m (onesIn m table)) (omega arith) reduced-small,
-        counts-length (ascii "common") (symmetryFault m table) (m * m) (commonXors m (onesIn m table) (fullRows m table)) (omega arith) (common-small e),
+        counts-short (ascii "plain") (plain m table) (lists .ofPlain .sized),
+        counts-short (ascii "reduced") (reduced m table) (lists .ofReduced .sized),
+        counts-short (ascii "common") (common m table) (lists .ofCommon .sized),
       ))
 
   verdict-length : length (pick (isNone (checkFault m table)) (acceptance m table) (refusal (checkFault m table))) ≤ 90

@@ -1,12 +1,11 @@
 -- `netlist::counts::counts_by` meets its contract.
-use mathlib.Core.Path.{sym, ap, _∙_}
-use Prim.Native.Nat.{_*_}
+use mathlib.Core.Path.{sym, ap, ap₂, _∙_}
 use native.Mathlib.Omega.{arith}
 use borrow.Author.Tests.{not-true, not-false}
 use Rattle.operand.proofs.FaultLaws.{judged}
 use Rattle.netlist.specs.Calls.{refusedWith, countedAs}
 use Rattle.netlist.proofs.TermLaws.{width-square}
-use Rattle.netlist.proofs.CallLaws.{table-fine, answer-refused, answer-counted}
+use Rattle.netlist.proofs.CallLaws.{table-fine, answer-refused, answer-counted, gates-by}
 use borrow.Author.Needs.{needs}
 use Rattle.netlist.proofs.counts.counts_by.Statement.{statement}
 use Rattle.netlist.proofs.counts.counts_by.Tie as tie
@@ -42,8 +41,10 @@ counted-requires c κs = search needs
 returns-2 : tie.Need-returns-2
 returns-2 c =
     let a = c .before .before .before .before .before .before .args in
-    c .counted .ensures ∙ ap (countedAs (a .width * a .width)) (c .before .xors-by .ensures)
-    ∙ sym (answer-counted _ _ _ (judged (c .before .before .before .before .judge-symmetry .ensures) (c .before .before .before .is-none .ensures) (not-false _ (c .before .before .if1 .left))))
+    let n = judged (c .before .before .before .before .judge-symmetry .ensures) (c .before .before .before .is-none .ensures) (not-false _ (c .before .before .if1 .left)) in
+    let f = table-fine (a .width) (a .table .now) (λ b. c .before .before .before .before .before .shared-slice-known .given b .fits) n in
+    let g = gates-by (a .width) (a .table .now) (f .0 .least) (f .0 .isTable) (f .1) (a .method) in
+    c .counted .ensures ∙ ap₂ countedAs (sym (g .ands)) (c .before .xors-by .ensures ∙ sym (g .xors)) ∙ sym (answer-counted _ _ _ n)
 
 pub counts-by-spec : {M : Type 1} → statement M
 counts-by-spec =

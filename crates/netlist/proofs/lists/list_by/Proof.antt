@@ -3,9 +3,8 @@ use mathlib.Core.Path.{sym, ap, _∙_}
 use borrow.Author.Tests.{not-true, not-false}
 use lib.ListN.{length}
 use Rattle.operand.proofs.FaultLaws.{judged}
-use Rattle.netlist.specs.Counts.{listAnds}
-use Rattle.netlist.specs.Writing.{listOf, listBy, xorsBy}
-use Rattle.netlist.proofs.CallLaws.{table-fine, answer-fault, list-refused, list-by, gates-by, list-answer}
+use Rattle.netlist.specs.Writing.{listOf, listBy}
+use Rattle.netlist.proofs.CallLaws.{table-fine, answer-fault, list-refused, list-by, list-answer}
 use borrow.Author.Needs.{needs}
 use Rattle.netlist.proofs.lists.list_by.Statement.{statement}
 use Rattle.netlist.proofs.lists.list_by.Tie as tie
@@ -19,7 +18,7 @@ is-none-requires c κs = search needs
 returns : tie.Need-returns
 returns c =
     let a = c .before .before .before .before .before .args in
-    list-refused (a .width) (a .table .now) (listBy (a .method) (a .width) (a .table .now)) (a .out .now) (listAnds (a .width)) (xorsBy (a .method) (a .width) (a .table .now)) (c .before .before .counts-by .ensures)
+    list-refused (a .width) (a .table .now) (listBy (a .method) (a .width) (a .table .now)) (a .out .now) (c .before .before .counts-by .ensures)
     (judged (answer-fault _ _ (c .before .before .counts-by .ensures)) (c .before .is-none .ensures) (not-true _ (c .if1 .taken)))
 
 terms-by-requires : tie.Need-terms-by-requires
@@ -43,8 +42,7 @@ returns-2 c =
     let m = a .width in
     let t = a .table .now in
     let n = judged (answer-fault _ _ (c .before .before .before .before .before .before .before .before .counts-by .ensures)) (c .before .before .before .before .before .before .before .is-none .ensures) (not-false _ (c .before .before .before .before .before .before .if1 .left)) in
-    let f = table-fine m t (λ b. c .before .before .before .before .before .before .before .before .before .before .shared-slice-known .given b .fits) n in
-    list-answer m t (listBy (a .method) m t) _ (a .out .now) (xorsBy (a .method) m t) (gates-by m t (f .0 .least) (f .0 .isTable) (f .1) (a .method)) n (c .before .before .before .before .before .before .before .before .counts-by .ensures)
+    list-answer m t (listBy (a .method) m t) _ (a .out .now) n (c .before .before .before .before .before .before .before .before .counts-by .ensures)
     (ap (λ z. listOf z m t) (c .before .before .before .before .before .terms-by .ensures) ∙ list-by m t (a .method)) (c .before .before .deliver .ensures)
 
 pub list-by-spec : {M : Type 1} → statement M
