@@ -19,7 +19,6 @@ pub use carried::table4;
 pub use carried::table5;
 pub use counts::ones;
 pub use rows::judge_shape;
-pub use rows::row;
 pub use symmetry::judge_symmetry;
 pub use triples::check;
 
