@@ -12,9 +12,9 @@ pub(crate) struct Text {
 
 impl Text {
     // Enough for every report: proofs/Lengths.antt.
-    pub const ROOM: usize = 128;
+    pub(crate) const ROOM: usize = 128;
 
-    pub fn empty() -> Text
+    pub(crate) fn empty() -> Text
         ensures { λ r. ⌜ r ≡ textOf [] ⌝ }
     {
         Text {
@@ -24,7 +24,7 @@ impl Text {
     }
 
     // A byte without room is left out, so that no caller has to count; a report never has one.
-    pub fn push(self, byte: u8) -> Text
+    pub(crate) fn push(self, byte: u8) -> Text
         ensures { λ r. ⌜ r ≡ pushed self byte ⌝ }
     {
         let length = self.length;
@@ -39,7 +39,7 @@ impl Text {
         }
     }
 
-    pub fn append(self, word: &[u8]) -> Text
+    pub(crate) fn append(self, word: &[u8]) -> Text
         ensures { λ r. ⌜ r ≡ appended self (now (word .entry)) ⌝ }
     {
         let mut text = self;
@@ -53,7 +53,7 @@ impl Text {
     }
 
     // A space and the number in decimal.
-    pub fn append_number(self, n: usize) -> Text
+    pub(crate) fn append_number(self, n: usize) -> Text
         ensures { λ r. ⌜ r ≡ appended self (spaced (n ∷ [])) ⌝ }
     {
         let mut digits = [0u8; 20];
@@ -62,14 +62,14 @@ impl Text {
     }
 
     // A word and a number on a line.
-    pub fn append_line(self, word: &[u8], n: usize) -> Text
+    pub(crate) fn append_line(self, word: &[u8], n: usize) -> Text
         ensures { λ r. ⌜ r ≡ appended self (line (now (word .entry)) (n ∷ [])) ⌝ }
     {
         self.append(word).append_number(n).push(b'\n')
     }
 
     // A word and two numbers on a line.
-    pub fn append_pair(self, word: &[u8], first: usize, second: usize) -> Text
+    pub(crate) fn append_pair(self, word: &[u8], first: usize, second: usize) -> Text
         ensures { λ r. ⌜ r ≡ appended self (line (now (word .entry)) (first ∷ second ∷ [])) ⌝ }
     {
         self.append(word)
