@@ -9,10 +9,6 @@ mod sums;
 mod symmetry;
 mod triples;
 
-pub use carried::CARRIED2;
-pub use carried::CARRIED3;
-pub use carried::CARRIED4;
-pub use carried::CARRIED5;
 pub use carried::table2;
 pub use carried::table3;
 pub use carried::table4;
