@@ -17,7 +17,7 @@ use crate::entries;
 use operand::Fault;
 
 // The three lists of a table.
-pub enum Method {
+pub(crate) enum Method {
     Plain,
     Reduced,
     Common,

@@ -10,7 +10,7 @@ ghost use Rattle.netlist.specs.Gates.{wordLimit};
 ghost use Rattle.netlist.specs.Writing.{Pushed};
 
 // Whether there is a term, the running wire, and the number of the next gate.
-pub struct Fold {
+pub(crate) struct Fold {
     pub begun: bool,
     pub running: u32,
     pub gates: usize,

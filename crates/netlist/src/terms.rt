@@ -13,7 +13,7 @@ use crate::fold::Fold;
 use crate::successors;
 
 // The pairs having r; those with i below j; those that are all ones; the others having r.
-pub enum Terms {
+pub(crate) enum Terms {
     Plain,
     Reduced,
     Shared,

@@ -16,7 +16,7 @@ pub(crate) fn xored(x: [u8; Operand::BYTES], y: [u8; Operand::BYTES]) -> [u8; Op
 }
 
 // The coordinates below m, the others cleared.
-pub fn cleared(x: [u8; Operand::BYTES], m: usize) -> [u8; Operand::BYTES]
+pub(crate) fn cleared(x: [u8; Operand::BYTES], m: usize) -> [u8; Operand::BYTES]
     ensures { λ r. ⌜ r ≡ fromCoords carriedBytes m (coord x) ⌝ }
 {
     words::to_bytes(words::low_words(words::to_words(x), m))

@@ -36,7 +36,7 @@ pub fn judge_length(given: usize, laid_down: usize) -> Fault
     }
 }
 
-pub fn judge_turn(width: usize, k: usize) -> Fault
+pub(crate) fn judge_turn(width: usize, k: usize) -> Fault
     ensures { λ r. ⌜ r ≡ turnFault width k ⌝ }
 {
     if width <= k {

@@ -17,7 +17,6 @@ mod turn;
 mod words;
 
 pub use bytes::carried;
-pub use bytes::cleared;
 pub use bytes::copy_out;
 pub use fault::Fault;
 pub use fault::FaultNumber;
@@ -29,7 +28,6 @@ pub use judge::judge_high;
 pub use judge::judge_length;
 pub use judge::judge_operand;
 pub use judge::judge_pair;
-pub use judge::judge_turn;
 pub use judge::judge_width;
 pub use words::low_words;
 pub use words::lower_pair;

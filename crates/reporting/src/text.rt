@@ -12,7 +12,7 @@ pub struct Text {
 
 impl Text {
     // Enough for every report: proofs/Lengths.antt.
-    pub const ROOM: usize = 128;
+    pub(crate) const ROOM: usize = 128;
 
     pub(crate) fn empty() -> Text
         ensures { λ r. ⌜ r ≡ textOf [] ⌝ }

@@ -4,7 +4,7 @@ use mathlib.Core.Logic.{_↔_}
 use mathlib.Core.Bool.{Bool, true, false, true≢false}
 use mathlib.Core.List.{List, [], _∷_}
 use Prim.Native.Nat.{ℕ, _+_, _-_, _*_, _/_, _%_, _^_, _<_, _≤_}
-use native.Mathlib.Nat.{suc-mul, mul-le-mul-right, mul-le-mul, mod-lt, lt-of-le-of-lt, lt-of-lt-of-le, div-eq-of-lt, zero-div}
+use native.Mathlib.Nat.{suc-mul, mul-le-mul-right, mul-le-mul, lt-of-le-of-lt, lt-of-lt-of-le, div-eq-of-lt, zero-div}
 use native.Mathlib.Decide.{decLt}
 use native.Mathlib.Omega.{arith}
 use lib.ListN.{length, getD, drop, length-drop, List·getD-eq-default}
@@ -21,8 +21,7 @@ use Rattle.gf2.proofs.Operands.{clear-at, clear-of}
 use Rattle.operand.specs.declared.fault.Fault.{Fault}
 use Rattle.operand.specs.declared.fault.Fault.the-variants.{None, HighBit}
 use Rattle.operand.specs.Faults.{isNone, orElse, firstOf}
-use Rattle.operand.specs.Judgements.{widthFault, lengthFault, bytesFault}
-use Rattle.operand.specs.Calls.{answer}
+use Rattle.operand.specs.Judgements.{widthFault, lengthFault}
 use Rattle.operand.proofs.ByteLists.{Bytes}
 use Rattle.operand.proofs.WordLoops.{ored, ored-at, ored-of, ored-shr}
 use Rattle.operand.proofs.CallLaws.{coord-carried}
@@ -30,7 +29,6 @@ use Rattle.operand.proofs.FaultLaws.{or-second, or-assoc, first-two, first-more
 use Rattle.operand.proofs.FaultFree.{IsWidth, width-none, length-none}
 use Rattle.table.specs.Rows.{Shaped, carriedBy, carriedRow}
 use Rattle.table.specs.Judgements.{rowsFault, shapeFault}
-use Rattle.table.specs.Calls.{rowCall}
 use Rattle.table.proofs.Searches.{when-passes, when-fails, when-none, none-true, high-some, three-none}
 
 -- three causes, of which the first two are judged together
@@ -104,16 +102,6 @@ module _ {m : ℕ} {t : List ℕ} (s : Shaped m t) (d : ℕ) (l : d < m) where
   -- it may be turned
   pub row-turns : {x : List ℕ} → x ≡ carriedRow m t d → (k : ℕ) → k < m → (2 ≤ m) × (m ≤ maxWidth) × IsOperand carriedBytes m x × (k < m)
   row-turns e k h = (s .least, s .greatest, rw e row-operand, h)
-
--- the answer of `row` for a table whose size has no fault
-pub row-read : (m d : ℕ) (t : List ℕ) → Sized m (length t) → answer (bytesFault m (row m t (d % m))) m (carriedRow m t (d % m)) ≡ rowCall m t d
-unfolding rowCall bytesFault
-row-read m d t s = ap (λ f. answer f m (carriedRow m t (d % m)))
-    (first-three _ _ _ ∙ or-second _ _ fine ∙ sym (first-three _ _ _ ∙ or-second _ _ (size-none s)))
-  where
-    fine : isNone (firstOf (widthFault m ∷ lengthFault (length (row m t (d % m))) (bytesFor m) ∷ [])) ≡ true
-    fine = none-true (first-two _ _ ∙ or-second _ _ (none-true (width-none m (width-of s)))
-        ∙ length-none _ _ (row-length m (d % m) t (s .exact) (mod-lt d (let l = s .least in omega arith))))
 
 -- the fault of shape, row after row
 module _ (m : ℕ) (t : List ℕ) where

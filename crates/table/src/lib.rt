@@ -9,17 +9,12 @@ mod sums;
 mod symmetry;
 mod triples;
 
-pub use carried::CARRIED2;
-pub use carried::CARRIED3;
-pub use carried::CARRIED4;
-pub use carried::CARRIED5;
 pub use carried::table2;
 pub use carried::table3;
 pub use carried::table4;
 pub use carried::table5;
 pub use counts::ones;
 pub use rows::judge_shape;
-pub use rows::row;
 pub use symmetry::judge_symmetry;
 pub use triples::check;
 

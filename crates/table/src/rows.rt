@@ -8,10 +8,8 @@ ghost use Rattle.operand.specs.Faults.{firstOf};
 ghost use Rattle.operand.specs.Judgements.{widthFault, lengthFault};
 ghost use Rattle.table.specs.Rows.{Shaped, carriedRow};
 ghost use Rattle.table.specs.Judgements.{rowsFault, shapeFault};
-ghost use Rattle.table.specs.Calls.{rowCall};
 use operand::Fault;
 use operand::Operand;
-use operand::OperandAnswer;
 
 // The number of bytes is worked out only for a width that has passed: of any other it may be more than a usize holds.
 fn judge_size(width: usize, size: usize) -> Fault
@@ -33,19 +31,6 @@ pub(crate) fn row_bytes(width: usize, table: &[u8], d: usize) -> [u8; Operand::B
     let size = operand::bytes_for(width);
     let from = d * size;
     operand::carried(&table[from..from + size])
-}
-
-// Row d modulo the width.
-pub fn row(width: usize, table: &[u8], d: usize) -> OperandAnswer
-    ensures { λ r. ⌜ r ≡ rowCall width (now (table .entry)) d ⌝ }
-{
-    let fault = judge_size(width, table.len());
-    if !operand::is_none(fault) {
-        return operand::refused(fault);
-    }
-    let size = operand::bytes_for(width);
-    let from = d % width * size;
-    Operand::read(width, &table[from..from + size])
 }
 
 // Bits at the width and above can stand only in the last byte of a row, and in none where the width is a multiple of 8.

@@ -59,21 +59,13 @@ K-233, type 2: drawn type #, on the curve #, with one bit changed #
     answers::put_drawn(out, 28, 3, &mut drawn3);
     answers::put_drawn(out, 33, 4, &mut drawn4);
     answers::put_drawn(out, 39, 5, &mut drawn5);
-    let table2 = table::CARRIED2;
-    let table3 = table::CARRIED3;
-    let table4 = table::CARRIED4;
-    let table5 = table::CARRIED5;
     let mut words25 = [99u32; 25];
     let mut words24 = [99u32; 24];
-    answers::put_list(out, 46, 2, &table2, &mut words25);
-    answers::put_list(out, 74, 2, &table2, &mut words24);
-    answers::put_xors(out, 101, 4, &table4);
-    answers::put_xors(out, 104, 5, &table5);
-    answers::put_xors(out, 107, 3, b"\x02\x07\x07");
     let mut bytes7 = [0u8; 7];
     let mut bytes10 = [0u8; 10];
     let mut bytes13 = [0u8; 13];
     let mut bytes16 = [0u8; 16];
+<<<<<<< HEAD
     let mut read2 = [0u8; 2];
     let mut read3 = [0u8; 3];
     let mut read4 = [0u8; 4];
@@ -86,6 +78,21 @@ K-233, type 2: drawn type #, on the curve #, with one bit changed #
     answers::put_read(out, 152, &bytes13, &table4, &mut read4);
     answers::put_card(out, 155, 5, &table5, &mut bytes16);
     answers::put_read(out, 173, &bytes16, &table5, &mut read5);
+=======
+    let table2 = table::table2();
+    answers::put_list(out, 46, 2, &table2, &mut words25);
+    answers::put_list(out, 74, 2, &table2, &mut words24);
+    answers::put_card(out, 110, 2, &table2, &mut bytes7);
+    let table3 = table::table3();
+    answers::put_card(out, 119, 3, &table3, &mut bytes10);
+    let table4 = table::table4();
+    answers::put_xors(out, 101, 4, &table4);
+    answers::put_card(out, 131, 4, &table4, &mut bytes13);
+    let table5 = table::table5();
+    answers::put_xors(out, 104, 5, &table5);
+    answers::put_card(out, 146, 5, &table5, &mut bytes16);
+    answers::put_xors(out, 107, 3, b"\x02\x07\x07");
+>>>>>>> 1ca3e570102c80dfecc582f75996b148a2870b19
     let one163 = Operand::one(163);
     let zero233 = Operand::zero(233);
     let one233 = Operand::one(233);

@@ -65,6 +65,9 @@ slice-aggregate-put-drawn-5 c = search needs
 put-drawn-requires-5 : tie.Need-put-drawn-requires-5 Inv-loop μ-loop
 put-drawn-requires-5 c κs = search needs
 
+table2-requires : tie.Need-table2-requires Inv-loop μ-loop
+table2-requires c κs = search needs
+
 slice-aggregate-put-list : tie.Need-slice-aggregate-put-list Inv-loop μ-loop
 slice-aggregate-put-list c = search needs
 
@@ -83,24 +86,6 @@ slice-aggregate-put-list-4 c = search needs
 put-list-requires-2 : tie.Need-put-list-requires-2 Inv-loop μ-loop
 put-list-requires-2 c κs = search needs
 
-slice-aggregate-put-xors : tie.Need-slice-aggregate-put-xors Inv-loop μ-loop
-slice-aggregate-put-xors c = search needs
-
-put-xors-requires : tie.Need-put-xors-requires Inv-loop μ-loop
-put-xors-requires c κs = search needs
-
-slice-aggregate-put-xors-2 : tie.Need-slice-aggregate-put-xors-2 Inv-loop μ-loop
-slice-aggregate-put-xors-2 c = search needs
-
-put-xors-requires-2 : tie.Need-put-xors-requires-2 Inv-loop μ-loop
-put-xors-requires-2 c κs = search needs
-
-slice-aggregate-put-xors-3 : tie.Need-slice-aggregate-put-xors-3 Inv-loop μ-loop
-slice-aggregate-put-xors-3 c = search needs
-
-put-xors-requires-3 : tie.Need-put-xors-requires-3 Inv-loop μ-loop
-put-xors-requires-3 c κs = search needs
-
 slice-aggregate-put-card : tie.Need-slice-aggregate-put-card Inv-loop μ-loop
 slice-aggregate-put-card c = search needs
 
@@ -110,6 +95,7 @@ slice-aggregate-put-card-2 c = search needs
 put-card-requires : tie.Need-put-card-requires Inv-loop μ-loop
 put-card-requires c κs = search needs
 
+<<<<<<< HEAD
 slice-aggregate-put-read : tie.Need-slice-aggregate-put-read Inv-loop μ-loop
 slice-aggregate-put-read c = search needs
 
@@ -121,6 +107,10 @@ slice-aggregate-put-read-3 c = search needs
 
 put-read-requires : tie.Need-put-read-requires Inv-loop μ-loop
 put-read-requires c κs = search needs
+=======
+table3-requires : tie.Need-table3-requires Inv-loop μ-loop
+table3-requires c κs = search needs
+>>>>>>> 1ca3e570102c80dfecc582f75996b148a2870b19
 
 slice-aggregate-put-card-3 : tie.Need-slice-aggregate-put-card-3 Inv-loop μ-loop
 slice-aggregate-put-card-3 c = search needs
@@ -131,6 +121,7 @@ slice-aggregate-put-card-4 c = search needs
 put-card-requires-2 : tie.Need-put-card-requires-2 Inv-loop μ-loop
 put-card-requires-2 c κs = search needs
 
+<<<<<<< HEAD
 slice-aggregate-put-read-4 : tie.Need-slice-aggregate-put-read-4 Inv-loop μ-loop
 slice-aggregate-put-read-4 c = search needs
 
@@ -142,6 +133,16 @@ slice-aggregate-put-read-6 c = search needs
 
 put-read-requires-2 : tie.Need-put-read-requires-2 Inv-loop μ-loop
 put-read-requires-2 c κs = search needs
+=======
+table4-requires : tie.Need-table4-requires Inv-loop μ-loop
+table4-requires c κs = search needs
+
+slice-aggregate-put-xors : tie.Need-slice-aggregate-put-xors Inv-loop μ-loop
+slice-aggregate-put-xors c = search needs
+
+put-xors-requires : tie.Need-put-xors-requires Inv-loop μ-loop
+put-xors-requires c κs = search needs
+>>>>>>> 1ca3e570102c80dfecc582f75996b148a2870b19
 
 slice-aggregate-put-card-5 : tie.Need-slice-aggregate-put-card-5 Inv-loop μ-loop
 slice-aggregate-put-card-5 c = search needs
@@ -152,6 +153,7 @@ slice-aggregate-put-card-6 c = search needs
 put-card-requires-3 : tie.Need-put-card-requires-3 Inv-loop μ-loop
 put-card-requires-3 c κs = search needs
 
+<<<<<<< HEAD
 slice-aggregate-put-read-7 : tie.Need-slice-aggregate-put-read-7 Inv-loop μ-loop
 slice-aggregate-put-read-7 c = search needs
 
@@ -163,6 +165,16 @@ slice-aggregate-put-read-9 c = search needs
 
 put-read-requires-3 : tie.Need-put-read-requires-3 Inv-loop μ-loop
 put-read-requires-3 c κs = search needs
+=======
+table5-requires : tie.Need-table5-requires Inv-loop μ-loop
+table5-requires c κs = search needs
+
+slice-aggregate-put-xors-2 : tie.Need-slice-aggregate-put-xors-2 Inv-loop μ-loop
+slice-aggregate-put-xors-2 c = search needs
+
+put-xors-requires-2 : tie.Need-put-xors-requires-2 Inv-loop μ-loop
+put-xors-requires-2 c κs = search needs
+>>>>>>> 1ca3e570102c80dfecc582f75996b148a2870b19
 
 slice-aggregate-put-card-7 : tie.Need-slice-aggregate-put-card-7 Inv-loop μ-loop
 slice-aggregate-put-card-7 c = search needs
@@ -173,6 +185,7 @@ slice-aggregate-put-card-8 c = search needs
 put-card-requires-4 : tie.Need-put-card-requires-4 Inv-loop μ-loop
 put-card-requires-4 c κs = search needs
 
+<<<<<<< HEAD
 slice-aggregate-put-read-10 : tie.Need-slice-aggregate-put-read-10 Inv-loop μ-loop
 slice-aggregate-put-read-10 c = search needs
 
@@ -184,6 +197,13 @@ slice-aggregate-put-read-12 c = search needs
 
 put-read-requires-4 : tie.Need-put-read-requires-4 Inv-loop μ-loop
 put-read-requires-4 c κs = search needs
+=======
+slice-aggregate-put-xors-3 : tie.Need-slice-aggregate-put-xors-3 Inv-loop μ-loop
+slice-aggregate-put-xors-3 c = search needs
+
+put-xors-requires-3 : tie.Need-put-xors-requires-3 Inv-loop μ-loop
+put-xors-requires-3 c κs = search needs
+>>>>>>> 1ca3e570102c80dfecc582f75996b148a2870b19
 
 one-requires : tie.Need-one-requires Inv-loop μ-loop
 one-requires c κs = search needs
@@ -299,21 +319,17 @@ main-spec =
     put-drawn-requires-4
     slice-aggregate-put-drawn-5
     put-drawn-requires-5
+    table2-requires
     slice-aggregate-put-list
     slice-aggregate-put-list-2
     put-list-requires
     slice-aggregate-put-list-3
     slice-aggregate-put-list-4
     put-list-requires-2
-    slice-aggregate-put-xors
-    put-xors-requires
-    slice-aggregate-put-xors-2
-    put-xors-requires-2
-    slice-aggregate-put-xors-3
-    put-xors-requires-3
     slice-aggregate-put-card
     slice-aggregate-put-card-2
     put-card-requires
+<<<<<<< HEAD
     slice-aggregate-put-read
     slice-aggregate-put-read-2
     slice-aggregate-put-read-3
@@ -339,6 +355,26 @@ main-spec =
     slice-aggregate-put-read-11
     slice-aggregate-put-read-12
     put-read-requires-4
+=======
+    table3-requires
+    slice-aggregate-put-card-3
+    slice-aggregate-put-card-4
+    put-card-requires-2
+    table4-requires
+    slice-aggregate-put-xors
+    put-xors-requires
+    slice-aggregate-put-card-5
+    slice-aggregate-put-card-6
+    put-card-requires-3
+    table5-requires
+    slice-aggregate-put-xors-2
+    put-xors-requires-2
+    slice-aggregate-put-card-7
+    slice-aggregate-put-card-8
+    put-card-requires-4
+    slice-aggregate-put-xors-3
+    put-xors-requires-3
+>>>>>>> 1ca3e570102c80dfecc582f75996b148a2870b19
     one-requires
     zero-requires
     one-requires-2
