@@ -34,4 +34,4 @@ pub record Reports (s : List ℕ) : Type 0 where
   -- "m; C; verdict; AND then XOR counts"
   pub accepted : length s ≤ inputLimit → (m : ℕ) (table : List ℕ) → GoodCard lent s m table → NoCause (checkCauses m table) →
       report s ≡ head m table ++ (line (ascii "accepted") [] ++ (gates (ascii "plain") (plain m table)
-          ++ (gates (ascii "reduced") (reduced m table) ++ gates (ascii "common") (common m table))))
+      ++ (gates (ascii "reduced") (reduced m table) ++ gates (ascii "common") (common m table))))

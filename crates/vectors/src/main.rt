@@ -65,34 +65,27 @@ K-233, type 2: drawn type #, on the curve #, with one bit changed #
     let mut bytes10 = [0u8; 10];
     let mut bytes13 = [0u8; 13];
     let mut bytes16 = [0u8; 16];
-<<<<<<< HEAD
     let mut read2 = [0u8; 2];
     let mut read3 = [0u8; 3];
     let mut read4 = [0u8; 4];
     let mut read5 = [0u8; 5];
-    answers::put_card(out, 110, 2, &table2, &mut bytes7);
-    answers::put_read(out, 119, &bytes7, &table2, &mut read2);
-    answers::put_card(out, 122, 3, &table3, &mut bytes10);
-    answers::put_read(out, 134, &bytes10, &table3, &mut read3);
-    answers::put_card(out, 137, 4, &table4, &mut bytes13);
-    answers::put_read(out, 152, &bytes13, &table4, &mut read4);
-    answers::put_card(out, 155, 5, &table5, &mut bytes16);
-    answers::put_read(out, 173, &bytes16, &table5, &mut read5);
-=======
     let table2 = table::table2();
     answers::put_list(out, 46, 2, &table2, &mut words25);
     answers::put_list(out, 74, 2, &table2, &mut words24);
     answers::put_card(out, 110, 2, &table2, &mut bytes7);
+    answers::put_read(out, 119, &bytes7, &table2, &mut read2);
     let table3 = table::table3();
-    answers::put_card(out, 119, 3, &table3, &mut bytes10);
+    answers::put_card(out, 122, 3, &table3, &mut bytes10);
+    answers::put_read(out, 134, &bytes10, &table3, &mut read3);
     let table4 = table::table4();
     answers::put_xors(out, 101, 4, &table4);
-    answers::put_card(out, 131, 4, &table4, &mut bytes13);
+    answers::put_card(out, 137, 4, &table4, &mut bytes13);
+    answers::put_read(out, 152, &bytes13, &table4, &mut read4);
     let table5 = table::table5();
     answers::put_xors(out, 104, 5, &table5);
-    answers::put_card(out, 146, 5, &table5, &mut bytes16);
+    answers::put_card(out, 155, 5, &table5, &mut bytes16);
+    answers::put_read(out, 173, &bytes16, &table5, &mut read5);
     answers::put_xors(out, 107, 3, b"\x02\x07\x07");
->>>>>>> 1ca3e570102c80dfecc582f75996b148a2870b19
     let one163 = Operand::one(163);
     let zero233 = Operand::zero(233);
     let one233 = Operand::one(233);
