@@ -27,7 +27,7 @@ use Rattle.gf2.proofs.Theorems.{theoremD, theoremE}
 use Rattle.netlist.specs.Gates.{Gate, XOR, Netlist, andGates, xorGates}
 use Rattle.netlist.specs.Lists.{pairs, before, andWire, ands, fold, folded, has, plainTerms, plain, mixes, mixWire, reducedTerms, reduced, allOnes, fullRows, isShared, sharedTerms, sharedWire, otherTerms, sharing, ifNone, common}
 use Rattle.netlist.specs.Running.{valueOn, wires}
-use Rattle.netlist.specs.Counts.{commonXors}
+use Rattle.netlist.specs.Counts.{plainXors, reducedXors, commonXors}
 use Rattle.netlist.proofs.SumLaws.{num, num-and, num-bit, sum-const, sum-triangle, sum-below, sum-mono, sum-next}
 use Rattle.netlist.proofs.FoldLaws.{Below, Earlier, Holds, AllAnd, AllXor, total, total-append, total-cons, total-one, total-pairs, length-pairs, length-fold, below-append, below-cons, below-one, below-pairs, below-mono, end-below, earlier-append, earlier-fold, earlier-pairs, holds-append, holds-pairs, fold-value, and-append, xor-append, and-pairs, xor-pairs, xor-fold}
 use Rattle.netlist.proofs.NetlistLaws.{folded-value, folded-start, folded-length, folded-ands, folded-xors, folded-earlier, outputs-below, length-outputs, length-ands, and-below, earlier-ands, wires-hold, and-value, picked-value}
@@ -186,7 +186,7 @@ module _ (m : ℕ) (table : List ℕ) where
         hold : Holds (valueOn (wires m (plain m table) a b)) (2 * m) (folded m (ands m) (plainTerms m table) .gates)
         hold = unfold plain in wires-hold m a b (plain m table) (plain-sound .earlier)
 
-    pub plain-gates : Gates (plain m table) (m * m) (m * (onesIn m table - 1))
+    pub plain-gates : Gates (plain m table) (m * m) (plainXors m (onesIn m table))
     unfolding plain
     plain-gates = record {
       ands = folded-ands m (ands m) (plainTerms m table) ∙ ands-gates .ands ∙ length-ands m;
@@ -194,7 +194,7 @@ module _ (m : ℕ) (table : List ℕ) where
       all = folded-length m (ands m) (plainTerms m table) ∙ omega (arith, length-ands m, folds);
     }
       where
-        folds : sum m (λ r. length (plainTerms m table r) - 1) ≡ m * (onesIn m table - 1)
+        folds : sum m (λ r. length (plainTerms m table r) - 1) ≡ plainXors m (onesIn m table)
         folds = sum-ext m _ _ (λ r l. ap (λ k. k - 1) (length-plain r l)) ∙ sum-const m _
 
     -- Reduced
@@ -249,7 +249,7 @@ module _ (m : ℕ) (table : List ℕ) where
       size = length-outputs m mixed (reducedTerms m table);
     }
 
-    pub reduced-gates : Gates (reduced m table) (m * m) (m * (onesIn m table + m - 2) / 2)
+    pub reduced-gates : Gates (reduced m table) (m * m) (reducedXors m (onesIn m table))
     unfolding reduced
     reduced-gates = record {
       ands = folded-ands m mixed (reducedTerms m table) ∙ and-append (ands m) (mixes m) ∙ omega (arith, ands-gates .ands, mixes-gates .ands, length-ands m);
@@ -269,7 +269,7 @@ module _ (m : ℕ) (table : List ℕ) where
         shape : onesIn m table + m - 2 ≡ half + half + (m - 1)
         shape = omega (arith, ones-half 0 (omega arith))
 
-        total-xors : length (mixes m) + sum m (λ r. length (reducedTerms m table r) - 1) ≡ m * (onesIn m table + m - 2) / 2
+        total-xors : length (mixes m) + sum m (λ r. length (reducedTerms m table r) - 1) ≡ reducedXors m (onesIn m table)
         total-xors = rw shape (omega (arith, folds, mul-add m (half + half) (m - 1), mul-add m half half, mul-sub m m 1, mul-one m, twice-mixes))
 
     module _ (a b : List ℕ) where

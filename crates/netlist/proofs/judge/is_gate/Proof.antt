@@ -30,7 +30,7 @@ word-requires-2 : tie.Need-word-requires-2
 word-requires-2 c κs = search needs
 
 returns-2 : tie.Need-returns-2
-returns-2 c = gate-left _ _ _ _ _ (c .before .before .before .word .ensures .0) (c .before .word2 .ensures .0) (omega arith) (c .if2 .taken)
+returns-2 c = gate-left _ _ _ _ _ (c .before .before .before .word .ensures .0) (c .before .word2 .ensures .0) (omega arith) (omega arith)
 
 add-word-2 : tie.Need-add-word-2
 add-word-2 c = search needs

@@ -23,7 +23,7 @@ put-pair-requires c κs =
     let s = c .before .before .before .before in
     let a = s .args in
     let w = c .before .before .loop in
-    (s .pre .0, s .pre .1, c .before .loop-test .taken, omega (arith, s .pre .2, put-most (w .j) (w .inv .1) (gates-most (a .mixed) (a .width) (a .i) (w .j))))
+    (s .pre .0, omega arith, omega arith, omega (arith, s .pre .2, put-most (w .j) (w .inv .1) (gates-most (a .mixed) (a .width) (a .i) (w .j))))
 
 add-j : tie.Need-add-j Inv-loop μ-loop
 add-j c = search needs
