@@ -190,10 +190,7 @@ small-product-call m t a b old = search smalls depth 12
 
 pub small-reduced-call : (m : ℕ) (t a b old : List ℕ) → Small (reducedBytesFault m t a b old)
 unfolding reducedBytesFault
-small-reduced-call m t a b old = small-then _ (small-width m) (λ e.
-    let rules = small-first _ (small-row-zero m t) (small-first _ (small-row-pair m t (width-fine m e .1)) small-none) in
-    let bits = small-first _ (small-rows m t) (small-first _ (small-high m a) (small-first _ (small-high m b) rules)) in
-    small-first _ (small-length _ _) (small-first _ (small-length _ _) (small-first _ (small-length _ _) (small-first _ (small-length _ _) bits))))
+small-reduced-call m t a b old = small-then _ (small-width m) (λ e. let h = width-fine m e .1 in search (smalls, small-row-zero, small-row-pair) depth 14)
 
 pub small-inverse-call : (m : ℕ) (t a old : List ℕ) → Small (inverseBytesFault m t a old)
 unfolding inverseBytesFault

@@ -41,7 +41,7 @@ returns c =
     let a = c .before .before .before .before .before .before .before .args in
     let s = c .before in
     let call = inverse-begins (a .width) (a .a .now) (a .result .now) (a .table .now) in (
-      refuses call (s .before .before .judge-one .ensures) (s .before .is-none .ensures) (s .if1 .taken) (productsMade (a .width) (a .table .now) (a .a .now)) 0 (c .answer .ensures),
+      refuses call (s .before .before .judge-one .ensures) (s .before .is-none .ensures) (s .if1 .taken) _ _ (c .answer .ensures),
       kept call (s .before .before .judge-one .ensures) (s .before .is-none .ensures) (s .if1 .taken) _ _,
     )
 
