@@ -92,9 +92,9 @@ module _ (m : ℕ) (t : List ℕ) (list : Netlist) (old : List ℕ) where
   unfolding listFault firstOf
   judged-list n = or-both _ _ n .0
 
-module _ (m : ℕ) (t : List ℕ) (small : Bytes t) where
+module _ (m : ℕ) (t : List ℕ) where
   lists : isNone (symmetryFault m t) ≡ true → (m ≤ maxWidth) × ListsHold m t
-  lists n = let (shaped, rules) = table-fine m t small n in (shaped .greatest, theoremLists m t (shaped .least) (shaped .isTable) rules)
+  lists n = let (shaped, rules) = table-fine m t n in (shaped .greatest, theoremLists m t (shaped .least) (shaped .isTable) rules)
 
   module _ (list : Netlist) (sized : ListsHold m t → Sized m list) where
     few : isNone (symmetryFault m t) ≡ true → (andGates (list .gates) < valueLimit) × (xorGates (list .gates) < valueLimit)

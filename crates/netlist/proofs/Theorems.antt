@@ -62,8 +62,8 @@ theoremLists m table two is s = record {
 }
 
 pub theoremCounts : TheoremCounts
-theoremCounts m table bytes none =
-    let f = symmetry m table bytes .0 none in
+theoremCounts m table none =
+    let f = symmetry m table .0 none in
     let lists = theoremLists m table (f .0 .least) (f .0 .isTable) (f .1) in
     record {
       ofPlain = counts (plain m table) (lists .ofPlain .counted);

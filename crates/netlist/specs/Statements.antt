@@ -17,7 +17,6 @@ use Rattle.gf2.specs.Check.{Symmetric, Accepted}
 use Rattle.operand.specs.declared.Operand.{Operand}
 use Rattle.operand.specs.declared.fault.Fault.the-variants.{None}
 use Rattle.table.specs.Judgements.{symmetryFault}
-use Rattle.table.specs.Statements.{Bytes}
 use Rattle.netlist.specs.Gates.{Netlist, words, andGates, xorGates}
 use Rattle.netlist.specs.Lists.{plain, reduced, fullRows, common}
 use Rattle.netlist.specs.Running.{valueOn, wires, result, readList}
@@ -79,7 +78,7 @@ pub record CountsHold (m : ℕ) (table : List ℕ) : Type 0 where
   pub ofCommon : countsCommonCall m table ≡ countedAs (listAnds m) (commonXors m (onesIn m table) (fullRows m table))
 
 abbrev pub TheoremCounts : Type 0
-TheoremCounts = (m : ℕ) (table : List ℕ) → Bytes table → symmetryFault m table ≡ None → CountsHold m table
+TheoremCounts = (m : ℕ) (table : List ℕ) → symmetryFault m table ≡ None → CountsHold m table
 
 -- "if common m(C-m)+m-1 where a row is all ones, else m(C-1)"
 pub record CommonCounts (m : ℕ) (table : List ℕ) : Type 0 where

@@ -144,12 +144,12 @@ demand1 = record {
   sum = λ m a b old. fills (sum-decided m a b old) (packs refl (small-sum-call m a b old)) old _;
   trace = λ m a. record { exact = exact (operand-decided m a); number = plainly (trace-packs m a) };
   solve = λ m c old. fills (solve-decided m c old) (packs refl (small-solve-call m c old)) old _;
-  countsPlain = λ m t. counts m t _ _ (plain-packs m t ? refl);
-  countsReduced = λ m t. counts m t _ _ (reduced-packs m t ? refl);
-  countsCommon = λ m t. counts m t _ _ (common-packs m t ? refl);
-  listPlain = λ m t old. lists m t (plain m t) old (plain-list-packs m t ? old refl);
-  listReduced = λ m t old. lists m t (reduced m t) old (reduced-list-packs m t ? old refl);
-  listCommon = λ m t old. lists m t (common m t) old (common-list-packs m t ? old refl);
+  countsPlain = λ m t. counts m t _ _ (plain-packs m t refl);
+  countsReduced = λ m t. counts m t _ _ (reduced-packs m t refl);
+  countsCommon = λ m t. counts m t _ _ (common-packs m t refl);
+  listPlain = λ m t old. lists m t (plain m t) old (plain-list-packs m t old refl);
+  listReduced = λ m t old. lists m t (reduced m t) old (reduced-list-packs m t old refl);
+  listCommon = λ m t old. lists m t (common m t) old (common-list-packs m t old refl);
   run = λ m list a b result wires. fills (run-decided m list a b result wires) (packs refl (small-run-call m list a b result wires)) result _;
   runsWires = λ m list a b result wires. lent _ wires _;
   typed = λ m. record { exact = exact (then (by-width m) (last (by-type m)) .first); number = numbered (type-answer-packs m refl) (chosen _ _) (λ e. refl) };

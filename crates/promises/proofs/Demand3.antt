@@ -15,7 +15,7 @@ use Rattle.gf2.specs.Field.{Op, Field}
 use Rattle.gf2.specs.Inverse.{inverse}
 use Rattle.gf2.specs.Statements.{GivesInverse, pairsBelow}
 use Rattle.gf2.proofs.OperandVectors.{bytes-fit}
-use Rattle.gf2.proofs.Theorems.{theoremB, theoremD, theoremE, theoremG}
+use Rattle.gf2.proofs.Theorems.{theoremB, theoremD, theoremE, theoremG, theoremH}
 use Rattle.operand.specs.declared.fault.Fault.the-variants.{None}
 use Rattle.operand.specs.Faults.{isNone}
 use Rattle.table.specs.Rows.{Shaped}
@@ -135,7 +135,7 @@ module _ (m : ℕ) (table : List ℕ) (e : checkFault m table ≡ None) where
     plainRun = runs-to (plain m table) (lists .ofPlain);
     reducedRun = runs-to (reduced m table) (lists .ofReduced);
     commonRun = runs-to (common m table) (lists .ofCommon);
-    unit = one-neutral m table (shaped .least) (shaped .isTable) accepted;
+    unit = theoremH m table (shaped .least) (shaped .isTable) accepted;
     inverts = inverts;
     only = λ a b old x n w. only a old x n w b;
     logarithm = theoremB .logarithm (m - 1) (let l = shaped .least in omega arith);

@@ -60,7 +60,7 @@ unfolding countsLine answer
 counts-length word f a x h k = line-two word _ _ (choose-small (isNone f) a h) (choose-small (isNone f) x k)
 
 -- the numbers of a table that is accepted
-module _ (m : ℕ) (table : List ℕ) (small : Bytes table) (shaped : Shaped m table) where
+module _ (m : ℕ) (table : List ℕ) (shaped : Shaped m table) where
   square : m * m ≤ 65025
   square = mul-le-mul {n₁ = m} {m₁ = m} {n₂ = maxWidth} {m₂ = maxWidth} (shaped .greatest) (shaped .greatest)
 
@@ -73,7 +73,7 @@ module _ (m : ℕ) (table : List ℕ) (small : Bytes table) (shaped : Shaped m t
   acceptance-length : checkFault m table ≡ None → length (acceptance m table) ≤ 90
   unfolding acceptance line spaced
   acceptance-length e =
-      let lists = theoremLists m table (shaped .least) (shaped .isTable) (accepted-table m table small .0 e .1 .symmetric) in
+      let lists = theoremLists m table (shaped .least) (shaped .isTable) (accepted-table m table .0 e .1 .symmetric) in
       simp length-append (omega (
         arith,
         counts-short (ascii "plain") (plain m table) (lists .ofPlain .sized),
@@ -105,7 +105,7 @@ read-length : (s : List ℕ) → Bytes s → (x : Read Table) → readCard lent 
 read-length s small (refused f) q = omega (arith, refusal-length f)
 read-length s small (got t rest) q =
     let r = card-written lent s t rest small q in
-    table-length (t .width) (t .bytes) (r .small) (record { least = r .lent .least; greatest = r .lent .greatest; isTable = r .isTable })
+    table-length (t .width) (t .bytes) (record { least = r .lent .least; greatest = r .lent .greatest; isTable = r .isTable })
 
 pub report-length : (s : List ℕ) → Bytes s → length (report s) ≤ room
 unfolding report

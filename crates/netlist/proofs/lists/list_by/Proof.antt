@@ -22,15 +22,15 @@ returns c =
     (judged (answer-fault _ _ (c .before .before .counts-by .ensures)) (c .before .is-none .ensures) (not-true _ (c .if1 .taken)))
 
 terms-by-requires : tie.Need-terms-by-requires
-terms-by-requires c κs = let a = c .before .before .before .before .before .args in table-fine (a .width) (a .table .now) (λ b. c .before .before .before .before .shared-slice-known .given b .fits) (judged (answer-fault _ _ (c .before .before .counts-by .ensures)) (c .before .is-none .ensures) (not-false _ (c .if1 .left))) .0
+terms-by-requires c κs = let a = c .before .before .before .before .before .args in table-fine (a .width) (a .table .now) (judged (answer-fault _ _ (c .before .before .counts-by .ensures)) (c .before .is-none .ensures) (not-false _ (c .if1 .left))) .0
 
 gates-by-requires : tie.Need-gates-by-requires
-gates-by-requires c κs = let a = c .before .before .before .before .before .before .args in table-fine (a .width) (a .table .now) (λ b. c .before .before .before .before .before .shared-slice-known .given b .fits) (judged (answer-fault _ _ (c .before .before .before .counts-by .ensures)) (c .before .before .is-none .ensures) (not-false _ (c .before .if1 .left)))
+gates-by-requires c κs = let a = c .before .before .before .before .before .before .args in table-fine (a .width) (a .table .now) (judged (answer-fault _ _ (c .before .before .before .counts-by .ensures)) (c .before .before .is-none .ensures) (not-false _ (c .before .if1 .left)))
 
 deliver-requires : tie.Need-deliver-requires
 deliver-requires c κs =
     let a = c .before .before .before .before .before .before .before .before .args in
-    let f = table-fine (a .width) (a .table .now) (λ b. c .before .before .before .before .before .before .before .shared-slice-known .given b .fits) (judged (answer-fault _ _ (c .before .before .before .before .before .counts-by .ensures)) (c .before .before .before .before .is-none .ensures) (not-false _ (c .before .before .before .if1 .left))) in
+    let f = table-fine (a .width) (a .table .now) (judged (answer-fault _ _ (c .before .before .before .before .before .counts-by .ensures)) (c .before .before .before .before .is-none .ensures) (not-false _ (c .before .before .before .if1 .left))) in
     (f .0, c .before .gates-by .ensures .0 ∙ ap (λ z. length (listOf z (a .width) (a .table .now) .gates)) (sym (c .before .before .terms-by .ensures)), c .before .gates-by .ensures .1)
 
 same-length : tie.Need-same-length
