@@ -27,6 +27,7 @@ use Rattle.netlist.specs.Running.{readList, wires, result}
 use Rattle.netlist.specs.Calls.{answer, countsCall, listBuffer}
 use Rattle.netlist.specs.Statements.{ListsHold, Holds as ListHolds, Counted, CommonCounts}
 use Rattle.netlist.proofs.Theorems.{theoremLists, theoremCommon}
+use Rattle.nb.specs.Judgements.{runBytesFault}
 use Rattle.nb.specs.Calls.{productResult, inverseResult, runResult, runWires}
 use Rattle.nb.proofs.CarryLaws.{HasBytes, inverse-is}
 use Rattle.promises.specs.Demand3.{counted, wordsWritten, Multiplies, Reduces, Runs, RunsToProduct, Inverts, HasGates, UnderAccepted, Demand3}
@@ -54,7 +55,7 @@ module _ (m : ℕ) (table : List ℕ) (e : checkFault m table ≡ None) where
   accepted = acceptance m table .0 e .1
 
   field : Field m table
-  field = fields m table .0 e .1 .0
+  field = fields m table .0 e .1
 
   symmetric : symmetryFault m table ≡ None
   symmetric = symmetry m table .1 (shaped, accepted .symmetric)
@@ -79,7 +80,7 @@ module _ (m : ℕ) (table : List ℕ) (e : checkFault m table ≡ None) where
     is-inverse = rw (none-true (inverse-none passed a old x room n))
 
     operand : Op m (inverse m table a)
-    operand = inverse-is (record { greatest = shaped .greatest; size = x .size }) table
+    operand = inverse-is table (record { greatest = shaped .greatest; size = x .size })
 
     gives : GivesInverse (bytesFor m) m table a
     gives = theoremB .inverses (bytesFor m) m table a (shaped .least) (bytes-fit m) (shaped .isTable) accepted x
@@ -103,11 +104,19 @@ module _ (m : ℕ) (table : List ℕ) (e : checkFault m table ≡ None) where
         length lent ≡ 2 * m + length (list .gates) → Runs m table list out a b old lent
     runs out a b old lent room x y w all =
         let n = run-none passed list (h .runs) a b old lent x y w all in
-        rw (written out room) (record {
-          noFault = n;
-          value = rw (none-true n, h .runs .readBack) (ap (λ k. result k m list a b) (sym (x .size)) ∙ h .computes .bytes a b (rw (x .size) (bytes-fit m)) ∙ sym (multiplies a b old x y w .value));
-          wire = rw (none-true n, h .runs .readBack);
-        })
+        let e = written out room in
+        record {
+          noFault = ap (λ l. runBytesFault m l a b old lent) e ∙ n;
+          value = ap (λ l. runResult m l a b old lent) e ∙ ran n ∙ ap (λ k. result k m list a b) (sym (x .size))
+              ∙ h .computes .bytes a b (rw (x .size) (bytes-fit m)) ∙ sym (multiplies a b old x y w .value);
+          wire = ap (λ l. runWires m l a b old lent) e ∙ wired n;
+        }
+      where
+        ran : runBytesFault m (words m list) a b old lent ≡ None → runResult m (words m list) a b old lent ≡ result (bytesFor m) m list a b
+        ran n = rw (none-true n, h .runs .readBack)
+
+        wired : runBytesFault m (words m list) a b old lent ≡ None → runWires m (words m list) a b old lent ≡ wires m list a b
+        wired n = rw (none-true n, h .runs .readBack)
 
     runs-to : RunsToProduct m table list
     runs-to = record { isWritten = λ out room. (list-none passed list out room, written out room); runs = runs }
@@ -117,11 +126,11 @@ module _ (m : ℕ) (table : List ℕ) (e : checkFault m table ≡ None) where
 
   -- the counts are reported without a fault
   gates : (list : Netlist) {ands xors : ℕ} → Counted list ands xors → HasGates list (countsCall m table list) ands xors
-  unfolding answer
+  unfolding answer isNone
   gates list h = record {
     holdsAnds = h .andCount;
     holdsXors = h .xorCount;
-    reports = rw (none-true symmetric) (ap₂ counted (h .andCount) (h .xorCount));
+    reports = rw symmetric (ap₂ counted (h .andCount) (h .xorCount));
   }
 
   -- the XORs of the reduced list are a whole number: C is odd, and so is one of m and m-1 even

@@ -42,7 +42,7 @@ returns-2 : tie.Need-returns-2
 returns-2 c =
     let a = c .before .before .before .before .before .before .args in
     let n = judged (c .before .before .before .before .judge-symmetry .ensures) (c .before .before .before .is-none .ensures) (not-false _ (c .before .before .if1 .left)) in
-    let f = table-fine (a .width) (a .table .now) (λ b. c .before .before .before .before .before .shared-slice-known .given b .fits) n in
+    let f = table-fine (a .width) (a .table .now) n in
     let g = gates-by (a .width) (a .table .now) (f .0 .least) (f .0 .isTable) (f .1) (a .method) in
     c .counted .ensures ∙ ap₂ countedAs (sym (g .ands)) (c .before .xors-by .ensures ∙ sym (g .xors)) ∙ sym (answer-counted _ _ _ n)
 
