@@ -15,12 +15,14 @@ type Pair = (usize, usize);
 
 /// The numbers each call can give beside 0. The check can't give 7: rules 4, 5 and 6 imply rule 7, by theorem C of
 /// crates/gf2/specs/Statements.antt.
-const NUMBERS: [(&str, &[u32]); 20] = [
+const NUMBERS: [(&str, &[u32]); 22] = [
     ("check", &[1, 2, 3, 4, 5, 6]),
     ("ones", &[1, 2, 3]),
     ("product", &[1, 2, 3]),
     ("product_reduced", &[1, 2, 3, 4, 5]),
     ("inverse", &[1, 2, 3, 9]),
+    ("zero", &[1, 2]),
+    ("one", &[1, 2]),
     ("turn", &[1, 2, 3, 8]),
     ("sum", &[1, 2, 3]),
     ("trace", &[1, 2, 3]),
@@ -144,6 +146,12 @@ impl Run {
     fn operands(&mut self, m: usize) {
         let (a, b, mut x) = (self.operand(m), self.operand(m), self.result(m));
         let mut y = x.clone();
+        let ours = proved::zero(m, &mut x);
+        let theirs = nothing(bits::zero(m, &mut y));
+        self.log.same("zero", (ours, &x), (theirs, &y), m);
+        let ours = proved::one(m, &mut x);
+        let theirs = nothing(bits::one(m, &mut y));
+        self.log.same("one", (ours, &x), (theirs, &y), m);
         let n = self.near(m);
         let k = match self.source.below(8) {
             0 => n - 1,
