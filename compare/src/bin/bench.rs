@@ -2,9 +2,9 @@
 //!
 //!     rt staticlib nb && cargo run --release --offline --manifest-path compare/Cargo.toml --bin bench
 //!
-//! Prints a table in Markdown, the ratio proved / Rust last. With the argument `growth` it prints how each cost grows from
-//! width 64 to 255 instead, with `calls` the times at 233, type 2, and those of the check over more tables, which
-//! compare/before-after reads. Every time is of a whole call, with every judgement in it; lent buffers are not cleared before a call.
+//! Prints the lines of docs/benchmark.csv, in nanoseconds, the ratio proved / Rust last, and on standard error how long the product
+//! takes by definition. With the argument `growth` it prints how each cost grows from width 65 to 255 instead, with `calls` the times at
+//! 233, type 2, and those of the check over more tables, which compare/before-after reads. Every time is of a whole call, with every judgement in it; lent buffers are not cleared before a call.
 
 use compare::inputs::{changed_pair, dense, Source};
 use compare::proved::packed as proved;
@@ -142,20 +142,18 @@ fn least(cases: &[Case]) -> Vec<Vec<(&'static str, f64, f64)>> {
 }
 
 fn compared(cases: &[Case]) {
-    println!("| call | width, table | proved | Rust, same source | proved / Rust |");
-    println!("|---|---|---|---|---|");
+    println!("call,width,table,proved ns,Rust ns,proved / Rust");
     let all = least(cases);
     for (case, rows) in cases.iter().zip(&all) {
         for (name, ours, theirs) in rows {
-            println!("| {name} | {} | {} | {} | {:.2} |", case.label, shown(*ours), shown(*theirs), ours / theirs);
+            println!("{name},{},{ours:.1},{theirs:.1},{:.2}", case.label.replace(", ", ","), ours / theirs);
         }
     }
     let (case, ours) = (&cases[1], all[1][0].1);
     let mut result = vec![0; bits::bytes_for(case.m)];
     let mut by_definition = || { field::product(case.m, &case.table, &case.a, &case.b, &mut result).ok(); };
     let theirs = (0..TRIES * PASSES).map(|_| time(1, &mut by_definition)).fold(f64::INFINITY, f64::min);
-    println!();
-    println!("By definition (compare/src/field.rs), product at {}: {}; the proved call is {:.0} times as quick.", case.label, shown(theirs), theirs / ours);
+    eprintln!("By definition (compare/src/field.rs), product at {}: {}; the proved call is {:.0} times as quick.", case.label, shown(theirs), theirs / ours);
 }
 
 /// Of the tables that differ from an accepted one in coordinate 0 of one row, and in the row that rule 5 ties to it, the one whose
