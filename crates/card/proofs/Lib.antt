@@ -2,6 +2,7 @@
 -- Numbers: a number written and read, and read at a place of the card.
 -- Places: the places of a row's ones, as a list and as bytes.
 -- Trips: rows and cards, written and read, both ways.
+-- Lengths: how long numbers, rows and cards are.
 -- Stores: bytes that are stored at a place of a lent buffer.
 -- ReadSteps: the steps of the code that reads.
 -- WriteSteps: the steps of the code that writes.
@@ -10,6 +11,7 @@
 pub mod Numbers
 pub mod Places
 pub mod Trips
+pub mod Lengths
 pub mod Stores
 pub mod ReadSteps
 pub mod WriteSteps

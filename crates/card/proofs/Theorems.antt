@@ -20,9 +20,10 @@ use Rattle.card.specs.Numbers.{number, Read, refused, got}
 use Rattle.card.specs.Rows.{places, steps, rowCard, rowsCard}
 use Rattle.card.specs.Cards.{card, Table, readCard}
 use Rattle.card.specs.Calls.{inFront, readAnswer, readInto, readCall, writeFault, writeCall, writeCard}
-use Rattle.card.specs.Statements.{Bytes, TableTrip, widthRead, tableRead, CardTrip, CardLaws, CarriedCards}
+use Rattle.card.specs.Statements.{Bytes, TableTrip, widthRead, tableRead, CardTrip, CardLaws, CardLengths, CarriedCards}
 use Rattle.card.proofs.Numbers.{read-written, written-read}
 use Rattle.card.proofs.Trips.{rows-read, rows-written, card-read, CardRead, card-written}
+use Rattle.card.proofs.Lengths.{card-le, ones-table, ones-longest}
 use Rattle.card.proofs.Refusals.{card-refusals}
 
 -- a refusal has a number
@@ -111,6 +112,9 @@ card-laws = record {
   tables = tables;
   cards = cards;
 }
+
+pub card-lengths : CardLengths
+card-lengths = record { most = card-le; isTable = ones-table; reached = ones-longest }
 
 pub carried-cards : CarriedCards
 unfolding card number rowsCard rowCard places steps row coord

@@ -112,11 +112,11 @@ bytes-append [] t hx ht b = ht b
 bytes-append (a ∷ x) t hx ht zero = hx 0
 bytes-append (a ∷ x) t hx ht (suc b) = bytes-append x t (λ c. hx (suc c)) ht b
 
-row-first : (m : ℕ) (x t : List ℕ) → length x ≡ bytesFor m → row m (x ++ t) 0 ≡ x
+pub row-first : (m : ℕ) (x t : List ℕ) → length x ≡ bytesFor m → row m (x ++ t) 0 ≡ x
 unfolding row
 row-first m x t h = rw zero-mul (take-at x t (bytesFor m) h)
 
-row-next : (m : ℕ) (x t : List ℕ) (d : ℕ) → length x ≡ bytesFor m → row m (x ++ t) (suc d) ≡ row m t d
+pub row-next : (m : ℕ) (x t : List ℕ) (d : ℕ) → length x ≡ bytesFor m → row m (x ++ t) (suc d) ≡ row m t d
 unfolding row
 row-next m x t d h =
     let e : suc d * bytesFor m ≡ length x + d * bytesFor m = omega (arith, suc-mul d (bytesFor m)) in

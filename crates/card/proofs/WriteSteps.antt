@@ -1,14 +1,13 @@
 -- The steps of the code that writes a card.
 -- Numbers and rows: the loops over the places of a row and over the rows.
--- Lengths: no card is longer than `longest`.
 -- Calls: the answers of `write`, and the output afterwards.
 use mathlib.Core.Path.{_≡_, refl, sym, ap, _∙_}
 use mathlib.Core.List.{List, [], _∷_, _++_}
 use mathlib.Core.Bool.{true, false}
 use Prim.Native.Nat.{ℕ, zero, suc, _+_, _-_, _*_, _/_, _%_, _^_, _<_, _≤_}
-use native.Mathlib.Nat.{add-zero, zero-div, suc-mul, mul-le-mul, lt-of-le-of-lt}
+use native.Mathlib.Nat.{add-zero, zero-div, lt-of-le-of-lt}
 use native.Mathlib.Numerals.{add-one}
-use native.Mathlib.Decide.{decLt, ℕ-discrete}
+use native.Mathlib.Decide.{decLt}
 use native.Mathlib.Omega.{arith}
 use lib.ListN.{length, getD, take, drop, set, length-append}
 use lib.Seq.{sets}
@@ -34,23 +33,10 @@ use Rattle.card.specs.Numbers.{number}
 use Rattle.card.specs.Rows.{places, steps, onesOf, rowCard, rowsCard}
 use Rattle.card.specs.Cards.{card}
 use Rattle.card.specs.Calls.{writeFault, writeCall, writeCard}
-use Rattle.card.specs.Steps.{longest, Begins}
+use Rattle.card.specs.Steps.{Begins}
 use Rattle.card.proofs.Places.{places-zero, places-one, places-ascend, count-le}
+use Rattle.card.proofs.Lengths.{one-byte, two-bytes, row-length as row-bytes}
 use Rattle.card.proofs.Stores.{sets-append, sets-front}
-
-one-byte : (n : ℕ) → n < 128 → number n ≡ n ∷ []
-unfolding number
-one-byte n h = rw (lt-ltb n 128 h)
-
-two-bytes : (n : ℕ) → 128 ≤ n → number n ≡ (128 + n % 128) ∷ (n / 128) ∷ []
-unfolding number
-two-bytes n h = rw (le-ltb n 128 h)
-
-number-le : (n : ℕ) → length (number n) ≤ 2
-number-le n = elim (decLt n 128) [
-  | yes h ↦ rw (one-byte n h) (omega arith)
-  | no h ↦ rw (two-bytes n (omega arith)) (omega arith)
-]
 
 module _ (n at : ℕ) (out : List ℕ) where
   pub put-short : n < 128 → (at + 1 ≡ at + length (number n)) × (set out at n ≡ sets out at (number n))
@@ -220,7 +206,7 @@ module _ (m : ℕ) (x : List ℕ) {ps : List ℕ} {n : ℕ} (p : ps ≡ onesOf m
   row-is = rw (e, p)
 
   pub row-length : length (rowCard m x) ≡ length (number n) + length (steps 0 ps)
-  row-length = ap length row-is ∙ length-append (number n) (steps 0 ps)
+  row-length = row-bytes m x ∙ rw (e, p)
 
   pub row-ones : n ≤ m
   row-ones = omega (arith, e, ap length p, ones-le m (coord x))
@@ -277,34 +263,6 @@ module _ {m : ℕ} {table : List ℕ} {start count at : ℕ} {old new : List ℕ
 
   pub put-done : start + count ≤ d → (next ≡ at + length (rowsCard m table start count)) × (new ≡ sets old at (rowsCard m table start count))
   put-done h = (omega (arith, to .ends, ap length (put-all h)), ap (sets new next) (sym (put-all h)) ∙ to .stored)
-
--- lengths
-
-steps-le : (free : ℕ) (ps : List ℕ) → length (steps free ps) ≤ 2 * length ps
-unfolding steps
-steps-le free [] = omega arith
-steps-le free (p ∷ ps) = omega (arith, length-append (number (p - free)) (steps (p + 1) ps), number-le (p - free), steps-le (p + 1) ps)
-
-row-le : (m : ℕ) (x : List ℕ) → length (rowCard m x) ≤ 2 * m + 2
-row-le m x = omega (arith, row-length m x {ps = onesOf m x} refl refl, number-le (length (onesOf m x)), steps-le 0 (onesOf m x), ones-le m (coord x))
-
-rows-le : (m : ℕ) (table : List ℕ) (start count : ℕ) → length (rowsCard m table start count) ≤ count * (2 * m + 2)
-unfolding rowsCard
-rows-le m table start zero = omega arith
-rows-le m table start (suc count) = rw (length-append, suc-mul) (omega (arith, row-le m (row m table start), rows-le m table (start + 1) count))
-
-pub one-length : length (number 1) ≡ 1
-unfolding number
-one-length = refl
-
-pub card-length : (m : ℕ) (table : List ℕ) → length (card m table) ≡ 1 + length (number m) + length (rowsCard m table 0 m)
-unfolding card number
-card-length m table = omega (arith, length-append (number 1) (number m ++ rowsCard m table 0 m), length-append (number m) (rowsCard m table 0 m))
-
-pub card-le : (m : ℕ) (table : List ℕ) → m ≤ maxWidth → length (card m table) ≤ longest
-card-le m table h =
-    let wide : 2 * m + 2 ≤ 2 * maxWidth + 2 = omega arith in
-    omega (arith, card-length m table, number-le m, rows-le m table 0 m, mul-le-mul h wide)
 
 pub card-put : (m : ℕ) (table old : List ℕ) {a b new : List ℕ} {form rows : ℕ} → form ≡ 0 + length (number 1) → a ≡ sets old 0 (number 1) →
     rows ≡ form + length (number m) → b ≡ sets a form (number m) → new ≡ sets b rows (rowsCard m table 0 m) → new ≡ sets old 0 (card m table)

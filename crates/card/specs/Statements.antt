@@ -1,17 +1,17 @@
 -- What is proved of cards beside the contracts of the calls: the statements alone, over the definitions that the contracts cite.
 -- Numbers, rows and cards: what is written is read as it was, and what is read is written as it was.
--- A table has exactly one card. The cards of the four carried tables, byte by byte.
+-- A table has exactly one card. How long a card can be. The cards of the four carried tables, byte by byte.
 use mathlib.Core.Path.{_≡_}
 use mathlib.Core.List.{List, [], _∷_, _++_}
-use Prim.Native.Nat.{ℕ, _+_, _*_, _<_, _≤_}
+use Prim.Native.Nat.{ℕ, zero, suc, _+_, _*_, _<_, _≤_}
 use lib.ListN.{length, getD, take}
-use Rattle.gf2.specs.Operands.{maxWidth, bytesFor, IsOperand}
+use Rattle.gf2.specs.Operands.{maxWidth, bytesFor, ones, IsOperand}
 use Rattle.gf2.specs.Tables.{row, IsTable}
 use Rattle.operand.specs.declared.fault.Fault.the-variants.{None}
 use Rattle.table.specs.Carried.{carried2, carried3, carried4, carried5}
 use Rattle.card.specs.Numbers.{number, numberLimit, got, readNumber}
 use Rattle.card.specs.Rows.{rowsCard, rowRange, readRows}
-use Rattle.card.specs.Cards.{card}
+use Rattle.card.specs.Cards.{card, longest}
 use Rattle.card.specs.Calls.{inFront, readCall, readTable, writeCall, writeCard}
 
 -- every element of a list is a byte
@@ -61,6 +61,21 @@ pub record CardLaws : Type 0 where
   pub rows : (m : ℕ) → m ≤ maxWidth → RowTrips m
   pub tables : (m : ℕ) (table : List ℕ) → 2 ≤ m → m ≤ maxWidth → IsTable m table → TableTrip m table
   pub cards : (s old : List ℕ) → Bytes s → readCall s old .fault ≡ None → CardTrip s (widthRead s old) (tableRead s old)
+
+-- `count` rows, each the operand one
+unfoldable pub oneRows : ℕ → ℕ → List ℕ
+oneRows m zero = []
+oneRows m (suc count) = ones (bytesFor m) m ++ oneRows m count
+
+-- the table of m rows whose every coordinate below m is 1
+abbrev pub allOnesTable : ℕ → List ℕ
+allOnesTable m = oneRows m m
+
+-- a card has at most 3 + m·(m + 2) bytes, whatever the width and the table's bytes; from width 128 on the table of ones has a card as long
+pub record CardLengths : Type 0 where
+  pub most : (m : ℕ) (table : List ℕ) → length (card m table) ≤ longest m
+  pub isTable : (m : ℕ) → IsTable m (allOnesTable m)
+  pub reached : (m : ℕ) → 128 ≤ m → length (card m (allOnesTable m)) ≡ longest m
 
 -- "Four tables are carried in the program itself", "written and compared by the cards": 01 02 01 01 02 00 00 is document 01's own
 pub record CarriedCards : Type 0 where

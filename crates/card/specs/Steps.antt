@@ -1,19 +1,15 @@
 -- What the code's steps through a card say: a place in its bytes stands for the bytes that are left from there.
 use mathlib.Core.Path.{_≡_}
 use mathlib.Core.List.{List}
-use Prim.Native.Nat.{ℕ, _+_, _-_, _*_, _<_, _≤_}
+use Prim.Native.Nat.{ℕ, _-_, _<_, _≤_}
 use lib.ListN.{drop}
 use lib.Seq.{sets}
-use Rattle.gf2.specs.Operands.{maxWidth, carriedBytes, fromCoords}
+use Rattle.gf2.specs.Operands.{carriedBytes, fromCoords}
 use Rattle.card.specs.Numbers.{Read, refused, got}
 use Rattle.card.specs.Rows.{places, isPlace}
 use Rattle.card.specs.declared.reading.Step.{Step}
 use Rattle.card.specs.declared.reading.Step.the-variants.{Got, Refused}
 use Rattle.card.specs.declared.reading.Row.{Row}
-
--- no card is longer: a row of m places takes at most m + 1 numbers
-abbrev pub longest : ℕ
-longest = 2 * (maxWidth + 1) * (maxWidth + 1)
 
 -- r is the first place from `from` on where f isn't 0, or m or above where there is none below m: what is left from there is the same
 pub record Begins (m : ℕ) (f : ℕ → ℕ) (from r : ℕ) : Type 0 where

@@ -3,8 +3,8 @@ ghost use mathlib.Core.Path.{_≡_};
 ghost use Prim.Native.Nat.{_≤_};
 ghost use lib.ListN.{set, take};
 ghost use lib.Seq.{sets};
-ghost use Rattle.gf2.specs.Operands.{carriedBytes};
-ghost use Rattle.card.specs.Steps.{longest};
+ghost use Rattle.gf2.specs.Operands.{maxWidth, carriedBytes};
+ghost use Rattle.card.specs.Cards.{longest};
 use operand::Operand;
 
 // A byte is stored only where there is room for it: so the first pass of reading, and the length of a card, are the second pass
@@ -19,7 +19,7 @@ pub(crate) fn put(out: &mut [u8], at: usize, byte: u8)
 
 // The first `size` bytes of a row, at a place of the table.
 pub(crate) fn put_bytes(out: &mut [u8], at: usize, row: [u8; Operand::BYTES], size: usize)
-    requires { ⌜ (at ≤ longest) × (size ≤ carriedBytes) ⌝ }
+    requires { ⌜ (at ≤ longest maxWidth) × (size ≤ carriedBytes) ⌝ }
     ensures { λ _. ⌜ now (out .exit) ≡ sets (now (out .entry)) at (take size row) ⌝ }
 {
     let mut b = 0;

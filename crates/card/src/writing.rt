@@ -7,16 +7,16 @@ ghost use Rattle.gf2.specs.Operands.{maxWidth, bytesFor};
 ghost use Rattle.card.specs.Numbers.{number, numberLimit};
 ghost use Rattle.operand.specs.Words.{wordCoord};
 ghost use Rattle.card.specs.Rows.{places, steps, rowCard, rowsCard};
-ghost use Rattle.card.specs.Cards.{card};
+ghost use Rattle.card.specs.Cards.{card, longest};
 ghost use Rattle.card.specs.Calls.{writeCall, writeCard};
-ghost use Rattle.card.specs.Steps.{longest, Begins};
+ghost use Rattle.card.specs.Steps.{Begins};
 use crate::CardAnswer;
 use crate::refused;
 use crate::store;
 use operand::Fault;
 
 fn put_number(out: &mut [u8], at: usize, n: usize) -> usize
-    requires { ⌜ (n < numberLimit) × (at ≤ longest) ⌝ }
+    requires { ⌜ (n < numberLimit) × (at ≤ longest maxWidth) ⌝ }
     ensures { λ r. ⌜ (r ≡ at + length (number n)) × (now (out .exit) ≡ sets (now (out .entry)) at (number n)) ⌝ }
 {
     if n < 128 {
@@ -58,7 +58,7 @@ fn ones(row: &[u64], width: usize) -> usize
 }
 
 fn put_places(out: &mut [u8], at: usize, row: &[u64], width: usize) -> usize
-    requires { ⌜ (width ≤ maxWidth) × (width ≤ 64 * length (now row)) × (at + length (steps 0 (places (wordCoord (now row)) 0 width)) ≤ longest) ⌝ }
+    requires { ⌜ (width ≤ maxWidth) × (width ≤ 64 * length (now row)) × (at + length (steps 0 (places (wordCoord (now row)) 0 width)) ≤ longest maxWidth) ⌝ }
     ensures { λ r. ⌜ (r ≡ at + length (steps 0 (places (wordCoord (now (row .entry))) 0 width))) × (now (out .exit) ≡ sets (now (out .entry)) at (steps 0 (places (wordCoord (now (row .entry))) 0 width))) ⌝ }
 {
     let mut next = at;
@@ -74,7 +74,7 @@ fn put_places(out: &mut [u8], at: usize, row: &[u64], width: usize) -> usize
 }
 
 fn put_row(out: &mut [u8], at: usize, row: &[u8], width: usize) -> usize
-    requires { ⌜ (width ≤ 8 * length (now row)) × (width ≤ maxWidth) × (at + length (rowCard width (now row)) ≤ longest) ⌝ }
+    requires { ⌜ (width ≤ 8 * length (now row)) × (width ≤ maxWidth) × (at + length (rowCard width (now row)) ≤ longest maxWidth) ⌝ }
     ensures { λ r. ⌜ (r ≡ at + length (rowCard width (now (row .entry)))) × (now (out .exit) ≡ sets (now (out .entry)) at (rowCard width (now (row .entry)))) ⌝ }
 {
     let words = operand::to_words(operand::carried(row));
@@ -92,7 +92,7 @@ fn put_rows(
     start: usize,
     count: usize,
 ) -> usize
-    requires { ⌜ (width ≤ maxWidth) × (length (now table) ≡ width * bytesFor width) × (start + count ≤ width) × (at + length (rowsCard width (now table) start count) ≤ longest) ⌝ }
+    requires { ⌜ (width ≤ maxWidth) × (length (now table) ≡ width * bytesFor width) × (start + count ≤ width) × (at + length (rowsCard width (now table) start count) ≤ longest maxWidth) ⌝ }
     ensures { λ r. ⌜ (r ≡ at + length (rowsCard width (now (table .entry)) start count)) × (now (out .exit) ≡ sets (now (out .entry)) at (rowsCard width (now (table .entry)) start count)) ⌝ }
 {
     let size = operand::bytes_for(width);

@@ -1,4 +1,4 @@
--- The values that the calls return have room in their bits: ones, products made, gates by kind, types, lengths of cards.
+-- The values that the calls return have room in their bits: ones, products made, traces, gates by kind, types, lengths of cards.
 use mathlib.Core.Path.{_≡_, sym, subst}
 use mathlib.Core.Bool.{true}
 use mathlib.Core.List.{List}
@@ -9,11 +9,12 @@ use Rattle.gf2.specs.Sums.{sum}
 use Rattle.gf2.specs.Operands.{maxWidth}
 use Rattle.gf2.specs.Tables.{onesIn}
 use Rattle.gf2.specs.Check.{Symmetric}
+use Rattle.gf2.specs.Quadratic.{trace}
 use Rattle.gf2.specs.Inverse.{log2, binaryOnes, productsMade}
 use Rattle.gf2.proofs.Chain.{products-made}
 use Rattle.operand.specs.declared.fault.Fault.{Fault}
 use Rattle.operand.specs.Faults.{isNone, firstOf}
-use Rattle.operand.specs.Judgements.{widthFault}
+use Rattle.operand.specs.Judgements.{widthFault, bytesFault}
 use Rattle.operand.proofs.ByteLists.{Bytes}
 use Rattle.operand.proofs.FaultLaws.{or-both, width-fine, none-is}
 use Rattle.table.specs.declared.OnesAnswer.{OnesAnswer}
@@ -35,11 +36,12 @@ use Rattle.gaussian.proofs.TypeBound.{type-small}
 use Rattle.card.specs.declared.CardAnswer.{CardAnswer}
 use Rattle.card.specs.Cards.{card}
 use Rattle.card.specs.Calls.{writeFault, writeCall, readCall}
-use Rattle.card.proofs.WriteSteps.{card-le, shape-size}
+use Rattle.card.proofs.Lengths.{card-most}
+use Rattle.card.proofs.WriteSteps.{shape-size}
 use Rattle.card.proofs.Theorems.{card-laws}
 use Rattle.nb.specs.Packing.{valueLimit, Small, Packs}
 use Rattle.nb.specs.Judgements.{inverseBytesFault}
-use Rattle.nb.proofs.PackLaws.{small-or, small-none, small-first, small-width, small-length, small-output, small-type, small-shape, small-symmetry, shape-greatest}
+use Rattle.nb.proofs.PackLaws.{small-or, small-none, small-first, small-width, small-length, small-output, small-type, small-shape, small-symmetry, small-bytes, small-inverse-call, shape-greatest}
 use Rattle.nb.proofs.CardFaults.{small-read}
 
 sum-bits : (n : ℕ) (f : ℕ → ℕ) → sum n (λ j. f j % 2) ≤ n
@@ -52,9 +54,19 @@ unfolding binaryOnes
 made-small m t a h l =
     omega (arith, products-made m t a h, log2-le (m - 1), sum-bits (suc (log2 (m - 1))) (λ j. (m - 1) / 2 ^ j))
 
-pub inverse-small : (m : ℕ) (t a old : List ℕ) → isNone (inverseBytesFault m t a old) ≡ true → productsMade m t a < valueLimit
-unfolding inverseBytesFault firstOf
-inverse-small m t a old n = let w = width-fine m (or-both _ _ n .0) in made-small m t a (w .0) (w .1)
+-- the products of an inverse
+module _ (m : ℕ) (t a old : List ℕ) where
+  inverse-width : isNone (inverseBytesFault m t a old) ≡ true → isNone (widthFault m) ≡ true
+  unfolding inverseBytesFault firstOf
+  inverse-width n = or-both _ _ n .0
+
+  pub inverse-packs : Packs (inverseBytesFault m t a old) (productsMade m t a) 0
+  inverse-packs = (small-inverse-call m t a old, λ n. let w = width-fine m (inverse-width n) in (made-small m t a (w .0) (w .1), omega arith))
+
+-- a trace is 0 or 1
+pub trace-packs : (m : ℕ) (a : List ℕ) → Packs (bytesFault m a) (trace m a) 0
+unfolding trace
+trace-packs m a = (small-bytes m a, λ n. (omega arith, omega arith))
 
 ones-small : (m : ℕ) (t : List ℕ) → m ≤ maxWidth → onesIn m t < valueLimit
 ones-small m t h = omega (arith, ones-most m t, width-times m m maxWidth h h)
@@ -162,7 +174,7 @@ module _ (m : ℕ) (t old : List ℕ) {r : CardAnswer} where
   unfolding writeFault firstOf
   write-packs e = subst (λ (r : CardAnswer). Packs (r .fault) (r .value) 0) (sym e) (
     small-or (small-shape m t) (λ e. small-or (small-output (length old) (length (card m t))) (λ e. small-none)),
-    λ n. (rw n (omega (arith, card-le m t (shape-size m t (or-both _ _ n .0) .0))), omega arith),
+    λ n. (rw n (omega (arith, card-most m t (shape-size m t (or-both _ _ n .0) .0))), omega arith),
   )
 
 module _ (s old : List ℕ) (small : Bytes s) {r : CardAnswer} where

@@ -1,18 +1,18 @@
 -- A call on operands of W bytes: it judges the lengths, carries the operands, calls the crate below, and writes the result.
 -- Begins: the causes of the lengths stand first. refused, kept, refuses: a call whose lengths are at fault.
 -- One, Two: what holds where no length is at fault. Works: what the call below then gives. done: the call's fault, and the bytes of its result.
--- The rest says of each call below what it gives for carried operands: the faults after the lengths, and the carried result.
+-- The rest says of each call below what it gives for carried operands: the faults after the lengths, and the carried result; and what zero and one give.
 use mathlib.Core.Path.{_≡_, refl, sym, ap, ap₂, _∙_}
-use mathlib.Core.Bool.{Bool, true, false, not}
+use mathlib.Core.Bool.{Bool, true, false, true≢false, not, _&&_}
 use mathlib.Core.List.{List, [], _∷_, _++_}
-use Prim.Native.Nat.{ℕ, _*_, _%_, _<_, _≤_}
+use Prim.Native.Nat.{ℕ, _*_, _%_, _≤_}
 use native.Mathlib.Omega.{arith}
-use lib.Dec.{eqb}
+use lib.Dec.{leb, eqb}
 use lib.ListN.{length}
 use borrow.Author.Tests.{le-leb, not-true, not-false}
 use Rattle.gf2.specs.Sums.{sum}
 use Rattle.gf2.specs.Coordinates.{coord, pack}
-use Rattle.gf2.specs.Operands.{maxWidth, bytesFor, carriedBytes, choose, IsOperand, zeroes, added, turned}
+use Rattle.gf2.specs.Operands.{maxWidth, bytesFor, carriedBytes, choose, IsOperand, fromCoords, zeroes, added, turned}
 use Rattle.gf2.specs.Quadratic.{trace, root}
 use Rattle.gf2.specs.Products.{product, reduced}
 use Rattle.gf2.specs.Inverse.{inverse, productsMade}
@@ -22,12 +22,12 @@ use Rattle.operand.specs.declared.Operand.{Operand}
 use Rattle.operand.specs.declared.OperandAnswer.{OperandAnswer}
 use Rattle.operand.specs.declared.TraceAnswer.{TraceAnswer}
 use Rattle.operand.specs.declared.fault.Fault.{Fault}
-use Rattle.operand.specs.declared.fault.Fault.the-variants.{None, InverseOfZero, TraceOne}
+use Rattle.operand.specs.declared.fault.Fault.the-variants.{None, Width, InverseOfZero, TraceOne}
 use Rattle.operand.specs.Faults.{isNone, when, orElse, firstOf}
-use Rattle.operand.specs.Judgements.{widthFault, lengthFault, highFault, turnFault, traceFault, operandFault, pairFault, bytesFault}
-use Rattle.operand.specs.Calls.{chooseBytes, answer, readCall, turnCall, sumCall, traceCall, solveCall}
-use Rattle.operand.proofs.FaultLaws.{judged, or-first, or-second, or-none, or-both, or-cong, or-assoc, width-fine, length-fine, high-fine}
-use Rattle.operand.proofs.FaultFree.{IsWidth, carry, width-none, length-none}
+use Rattle.operand.specs.Judgements.{widthFault, lengthFault, highFault, turnFault, traceFault, operandFault, pairFault, bytesFault, roomFault}
+use Rattle.operand.specs.Calls.{noOperand, chooseOperand, chooseBytes, answer, readCall, writeCall, turnCall, sumCall, traceCall, solveCall}
+use Rattle.operand.proofs.FaultLaws.{judged, or-first, or-second, or-none, or-both, or-cong, or-assoc, two-fine as both-fine, width-fine, length-fine, high-fine}
+use Rattle.operand.proofs.FaultFree.{IsWidth, carry, width-none, length-none, high-none}
 use Rattle.operand.proofs.ByteLists.{Bytes}
 use Rattle.table.specs.Rows.{carriedBy}
 use Rattle.table.specs.Judgements.{same, rowsFault, rowZeroFault, rowPairFault}
@@ -37,7 +37,7 @@ use Rattle.product.specs.declared.InverseAnswer.{InverseAnswer}
 use Rattle.product.specs.Judgements.{productFault, reducedFault, zeroFault, inverseFault}
 use Rattle.product.specs.Calls.{productCall, reducedCall, inverseCall}
 use Rattle.nb.specs.Packing.{packedAnswer}
-use Rattle.nb.specs.Judgements.{turnBytesFault, sumBytesFault, solveBytesFault, productBytesFault, reducedBytesFault, zeroBytesFault, inverseBytesFault}
+use Rattle.nb.specs.Judgements.{constantBytesFault, turnBytesFault, sumBytesFault, solveBytesFault, productBytesFault, reducedBytesFault, zeroBytesFault, inverseBytesFault}
 use Rattle.nb.specs.Inner.{oneSizes, twoSizes, carriedAs}
 use Rattle.nb.proofs.CarryLaws.{HasBytes, same-coord, high-carried, turned-carried, turned-is, root-carried, root-is, added-carried, added-is, product-carried, product-is, reduced-carried, reduced-is, inverse-carried, inverse-is, count-carried}
 
@@ -140,6 +140,11 @@ writes : {m : ℕ} {z : List ℕ} (old : List ℕ) → IsWidth m → IsOperand (
 writes {m} {z} old w o size =
     ap₂ pack (size ∙ sym (o .size)) (same-coord (record { greatest = w .greatest; size = o .size })) ∙ sym (pack-coord z (o .byte))
 
+-- bytes that count only where there is no fault
+chosen : (b : Bool) {x y : List ℕ} (old : List ℕ) → (b ≡ true → x ≡ y) → chooseBytes b x old ≡ chooseBytes b y old
+chosen true old e = e refl
+chosen false old e = refl
+
 -- the call has the fault `judged`, and leaves z in its result where that is none
 pub record Done (judged : Fault) (z old : List ℕ) (given : Fault) (new : List ℕ) : Type 0 where
   pub fault : given ≡ judged
@@ -147,17 +152,16 @@ pub record Done (judged : Fault) (z old : List ℕ) (given : Fault) (new : List 
 
 done : {m : ℕ} {sizes own : List Fault} {judged : Fault} {z old : List ℕ} {s f fault : Fault} {b : Bool} {v : Operand} {new : List ℕ}
     → Begins sizes own judged → s ≡ firstOf sizes → b ≡ isNone s → not b ≡ false → Works m own z old f v → Settled old f v fault new → Done judged z old fault new
-done {m} {sizes} {own} {judged} {z} {old} {s} {f} {fault} {b} {v} {new} call e t q w (p, r) = record {
+done {sizes = sizes} {own} {judged} {z} {old} {f = f} {fault} {v = v} call e t q w (p, r) = record {
   fault = whole;
-  bytes = r ∙ go (isNone fault) refl ∙ ap (λ f. chooseBytes (isNone f) z old) whole;
+  bytes = r ∙ chosen (isNone fault) old written ∙ ap (λ f. chooseBytes (isNone f) z old) whole;
 }
   where
     whole : fault ≡ judged
     whole = p ∙ append-goes sizes own e t q (w .fault) ∙ sym (call .all)
 
-    go : (b : Bool) → isNone fault ≡ b → chooseBytes b (pack (length old) (coord (v .bytes))) old ≡ chooseBytes b z old
-    go true n = ap (λ (v : Operand). pack (length old) (coord (v .bytes))) (w .value (ap isNone (sym (p ∙ w .fault)) ∙ n)) ∙ writes old (w .width) (w .operand) (w .room)
-    go false n = refl
+    written : isNone fault ≡ true → pack (length old) (coord (v .bytes)) ≡ z
+    written n = ap (λ (v : Operand). pack (length old) (coord (v .bytes))) (w .value (ap isNone (sym (p ∙ w .fault)) ∙ n)) ∙ writes old (w .width) (w .operand) (w .room)
 
 -- a call that returns nothing beside its fault
 pub answered : {judged given : Fault} {z old new : List ℕ} {n : ℕ} → Done judged z old given new → n ≡ packedAnswer given 0 0
@@ -334,6 +338,45 @@ module _ (m : ℕ) (t a old : List ℕ) (small : Bytes a) {s fault : Fault} {b :
       ap (λ (r : InverseAnswer). r .count) (e ∙ ap (inverseCall m t) (one .carried))
       ∙ ap (λ b. choose b (productsMade m t (carriedBy a)) 0) (ap isNone (append-goes (oneSizes m (length a) (length old)) (inverseOwn m t a) sizes p q own ∙ sym (inverse-begins m a old t .all)) ∙ n) ∙ count-carried t (one .operand)
 
+-- beside a fault of the width stands the operand of width 0, which is refused with 1
+bad-width : (m : ℕ) → isNone (widthFault m) ≡ false → widthFault m ≡ Width
+unfolding widthFault isNone
+bad-width m = go (not (leb 2 m && leb m maxWidth))
+  where
+    go : (b : Bool) → isNone (when b Width) ≡ false → when b Width ≡ Width
+    go true e = refl
+    go false e = absurd (true≢false e)
+
+bad-room : (size : ℕ) → roomFault noOperand size ≡ Width
+unfolding roomFault widthFault firstOf orElse isNone
+bad-room size = refl
+
+-- zero and one, by their coordinates f: the call below makes the operand, and writes it as its W bytes
+module _ (m : ℕ) (f : ℕ → ℕ) (old : List ℕ) {r : OperandAnswer} (e : r ≡ answer (widthFault m) m (fromCoords carriedBytes m f)) where
+  constant-fault : roomFault (r .value) (length old) ≡ constantBytesFault m old
+  unfolding answer roomFault constantBytesFault firstOf
+  constant-fault = ap (λ (r : OperandAnswer). roomFault (r .value) (length old)) e ∙ go (isNone (widthFault m)) refl
+    where
+      go : (b : Bool) → isNone (widthFault m) ≡ b → roomFault (chooseOperand b (carry m (fromCoords carriedBytes m f)) noOperand) (length old) ≡ constantBytesFault m old
+      go true n = ap (λ g. orElse (widthFault m) (orElse (lengthFault (length old) (bytesFor m)) g)) (or-second _ _ (none-true (high-none m _ (from-operand carriedBytes m f))))
+      go false n = bad-room (length old) ∙ sym (or-first _ _ n ∙ bad-width m n)
+
+  constant-value : isNone (constantBytesFault m old) ≡ true → pack (length old) (coord (r .value .bytes)) ≡ fromCoords (bytesFor m) m f
+  unfolding constantBytesFault
+  constant-value n =
+      let fine = both-fine _ _ n in
+      let w = width-of m (fine .0) in
+      ap (λ (v : Operand). pack (length old) (coord (v .bytes)))
+      (answer-value (widthFault m) e (fine .0) ∙ ap (carry m) (sym (carried-from {n = bytesFor m} (omega (arith, w .greatest)) (omega arith) f)))
+      ∙ writes old w (from-operand (bytesFor m) m f) (length-fine _ _ (fine .1))
+
+  pub constant-done : {fault : Fault} {new : List ℕ} → fault ≡ roomFault (r .value) (length old) → new ≡ writeCall (r .value) old →
+      Done (constantBytesFault m old) (fromCoords (bytesFor m) m f) old fault new
+  constant-done p q = record {
+    fault = p ∙ constant-fault;
+    bytes = q ∙ ap (λ g. chooseBytes (isNone g) (pack (length old) (coord (r .value .bytes))) old) constant-fault ∙ chosen _ old constant-value;
+  }
+
 -- the trace of an operand that is read
 module _ (m : ℕ) (a : List ℕ) {q : OperandAnswer} {r : TraceAnswer} (read : q ≡ readCall m a) (e : r ≡ traceCall (q .value)) where
   pub trace-fault : q .fault ≡ bytesFault m a
@@ -349,7 +392,3 @@ module _ (m : ℕ) (a : List ℕ) {q : OperandAnswer} {r : TraceAnswer} (read : 
       let bytes : HasBytes m a = record { greatest = width .greatest; size = length-fine _ _ (l .0) } in
       ap (λ (r : TraceAnswer). r .trace) e ∙ ap (λ v. traceCall v .trace) (answer-value (bytesFault m a) read n)
       ∙ ap (λ b. choose b (trace m (carriedBy a)) 0) (ap isNone (operand-high width bytes) ∙ h .0) ∙ trace-carried bytes
-
-pub trace-small : (m : ℕ) (a : List ℕ) → trace m a < 2
-unfolding trace
-trace-small m a = omega arith

@@ -1,5 +1,5 @@
 -- The laws of this crate's definitions.
--- PackLaws: equal answers; what is returned beside a fault has room in its bits.
+-- PackLaws: equal answers; what comes back out of an answer; what is returned beside a fault has room in its bits.
 -- CardFaults: nothing is returned beside the fault of a card.
 -- Bounds: so have the values that the calls return.
 -- CarryLaws: operations on operands of W bytes and on the same operands carried.

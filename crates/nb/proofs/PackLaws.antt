@@ -1,13 +1,13 @@
--- Laws of packed answers: what is returned beside a fault has room in its bits, and equal answers.
-use mathlib.Core.Path.{_≡_, refl, ap, _∙_}
+-- Laws of packed answers: equal answers, what comes back out of one, and that what is returned beside a fault has room in its bits.
+use mathlib.Core.Path.{_≡_, refl, sym, ap, _∙_}
 use mathlib.Core.Bool.{Bool, true, false, not, _&&_}
 use mathlib.Core.List.{List, [], _∷_}
-use Prim.Native.Nat.{ℕ, _+_, _-_, _<_, _≤_}
+use Prim.Native.Nat.{ℕ, _+_, _-_, _^_, _<_, _≤_}
 use native.Mathlib.Omega.{arith}
 use lib.Dec.{leb, ltb, eqb}
 use lib.ListN.{length}
 use Rattle.gf2.specs.Sums.{every}
-use Rattle.gf2.specs.Operands.{maxWidth, bytesFor, isClear, zeroes, turned}
+use Rattle.gf2.specs.Operands.{maxWidth, bytesFor, choose, isClear, zeroes, turned}
 use Rattle.gf2.specs.Quadratic.{trace}
 use Rattle.gf2.specs.Tables.{row, basis}
 use Rattle.gf2.specs.Products.{product}
@@ -16,14 +16,15 @@ use Rattle.operand.specs.declared.fault.Fault.{Fault}
 use Rattle.operand.specs.declared.fault.Fault.the-variants.{None, Width, Length, HighBit, RowZero, RowPair, Triple, RowSum, TurnCount, InverseOfZero, TraceOne, OutputShort, NoType, BadGate}
 use Rattle.operand.specs.Faults.{numberOf, isNone, when, orElse, firstOf, firstFrom}
 use Rattle.operand.specs.Judgements.{widthFault, lengthFault, highFault, turnFault, traceFault, bytesFault}
-use Rattle.operand.proofs.FaultLaws.{when-keeps, or-keeps, first-keeps, from-keeps, or-both, width-fine}
+use Rattle.operand.proofs.FaultLaws.{none-is, number-most, when-keeps, or-keeps, first-keeps, from-keeps, or-both, width-fine}
 use Rattle.table.specs.Judgements.{same, rowsFault, shapeFault, rowZeroFault, rowPairFault, tripleFault, rowSumFault, symmetryFault, checkFault}
+use Rattle.table.proofs.Searches.{none-true}
 use Rattle.netlist.specs.Running.{gateCount}
 use Rattle.netlist.specs.Judgements.{wordsFault, isGate, isOutput, gatesFault}
 use Rattle.gaussian.specs.Types.{typeOf}
 use Rattle.gaussian.specs.Calls.{typeFault}
-use Rattle.nb.specs.Packing.{packedAnswer, Small, Packs}
-use Rattle.nb.specs.Judgements.{turnBytesFault, sumBytesFault, solveBytesFault, productBytesFault, reducedBytesFault, zeroBytesFault, inverseBytesFault, runBytesFault}
+use Rattle.nb.specs.Packing.{packed, packedFault, packedAnswer, valueLimit, Small, Packs, Unpacks}
+use Rattle.nb.specs.Judgements.{constantBytesFault, turnBytesFault, sumBytesFault, solveBytesFault, productBytesFault, reducedBytesFault, zeroBytesFault, inverseBytesFault, runBytesFault}
 
 -- equal faults and, where these are none, equal values make equal answers
 pub answer-same : {f g : Fault} {x y u v : ℕ} → f ≡ g → (isNone g ≡ true → (x ≡ y) × (u ≡ v)) → packedAnswer f x u ≡ packedAnswer g y v
@@ -34,13 +35,42 @@ answer-same {f} {g} {x} {y} {u} {v} e h = ap (λ k. packedAnswer k x u) e ∙ go
     go true q = ap (λ k. packedAnswer g k u) (h q .0) ∙ ap (packedAnswer g y) (h q .1)
     go false q = rw q
 
+-- a number of 8 bits and a value of 28 come back out, and with them what stands above
+unpack : (number first second : ℕ) → number < 2 ^ 8 → first < valueLimit → Unpacks (packed number first second) number first second
+unpack number first second n f = record { number = omega arith; first = omega arith; second = omega arith }
+
+pub unpack-values : (first second : ℕ) → first < valueLimit → Unpacks (packed 0 first second) 0 first second
+unpack-values first second f = unpack 0 first second (omega arith) f
+
+pub unpack-fault : (f : Fault) → Small f → Unpacks (packedFault f) (numberOf f .0) (numberOf f .1) (numberOf f .2)
+unfolding packedFault
+unpack-fault f s = unpack (numberOf f .0) (numberOf f .1) (numberOf f .2) (omega (arith, number-most f)) (s .first)
+
+-- the answer of a call
+module _ {f : Fault} {first second : ℕ} (p : Packs f first second) where
+  pub unpack-refused : ¬ (f ≡ None) → Unpacks (packedAnswer f first second) (numberOf f .0) (numberOf f .1) (numberOf f .2)
+  unfolding packedAnswer
+  unpack-refused n = go (isNone f) refl
+    where
+      go : (b : Bool) → isNone f ≡ b → Unpacks (choose b (packed 0 first second) (packedFault f)) (numberOf f .0) (numberOf f .1) (numberOf f .2)
+      go true e = absurd (n (none-is f e))
+      go false e = unpack-fault f (p .0)
+
+  pub unpack-answered : f ≡ None → Unpacks (packedAnswer f first second) 0 first second
+  unfolding packedAnswer
+  unpack-answered e = rw (none-true e) (unpack-values first second (p .1 (none-true e) .0))
+
 -- a fault beside which nothing is returned
 pub bare : (f : Fault) → numberOf f .1 ≡ 0 → numberOf f .2 ≡ 0 → Small f
 bare f p q = record { first = omega arith; second = omega arith }
 
+-- equal faults and, where these are none, equal values have room alike
+pub packs-same : {f g : Fault} {x y u v : ℕ} → f ≡ g → (isNone g ≡ true → (x ≡ y) × (u ≡ v)) → Packs g y v → Packs f x u
+packs-same e h p = (rw e (p .0), λ n. let k = ap isNone (sym e) ∙ n in (rw (h k .0) (p .1 k .0), rw (h k .1) (p .1 k .1)))
+
 -- an answer with nothing beside its fault
 pub packs : {f g : Fault} → f ≡ g → Small g → Packs f 0 0
-packs e s = (rw e s, λ n. (omega arith, omega arith))
+packs e s = packs-same e (λ n. (refl, refl)) (s, λ n. (omega arith, omega arith))
 
 small-when : (b : Bool) (f : Fault) → Small f → Small (when b f)
 small-when = when-keeps Small (bare None refl refl)
@@ -138,6 +168,10 @@ module _ (m : ℕ) (t : List ℕ) where
   small-row-sum = bare-when (not (same (rowSum m t) (basis m 0))) RowSum refl refl
 
 -- the faults of the calls on operands of W bytes
+pub small-constant-call : (m : ℕ) (old : List ℕ) → Small (constantBytesFault m old)
+unfolding constantBytesFault
+small-constant-call m old = search smalls
+
 pub small-turn-call : (m : ℕ) (a : List ℕ) (k : ℕ) (old : List ℕ) → Small (turnBytesFault m a k old)
 unfolding turnBytesFault
 small-turn-call m a k old = search smalls depth 12
@@ -156,10 +190,7 @@ small-product-call m t a b old = search smalls depth 12
 
 pub small-reduced-call : (m : ℕ) (t a b old : List ℕ) → Small (reducedBytesFault m t a b old)
 unfolding reducedBytesFault
-small-reduced-call m t a b old = small-then _ (small-width m) (λ e.
-    let rules = small-first _ (small-row-zero m t) (small-first _ (small-row-pair m t (width-fine m e .1)) small-none) in
-    let bits = small-first _ (small-rows m t) (small-first _ (small-high m a) (small-first _ (small-high m b) rules)) in
-    small-first _ (small-length _ _) (small-first _ (small-length _ _) (small-first _ (small-length _ _) (small-first _ (small-length _ _) bits))))
+small-reduced-call m t a b old = small-then _ (small-width m) (λ e. let h = width-fine m e .1 in search (smalls, small-row-zero, small-row-pair) depth 14)
 
 pub small-inverse-call : (m : ℕ) (t a old : List ℕ) → Small (inverseBytesFault m t a old)
 unfolding inverseBytesFault

@@ -2,7 +2,7 @@
 -- Operands are their W bytes: turn, sum, product and inverse are document 01's, of the very bytes handed in.
 use mathlib.Core.List.{List}
 use Prim.Native.Nat.{ℕ}
-use Rattle.gf2.specs.Operands.{bytesFor, added, turned}
+use Rattle.gf2.specs.Operands.{bytesFor, zeroes, ones, added, turned}
 use Rattle.gf2.specs.Quadratic.{trace, root}
 use Rattle.gf2.specs.Products.{product, reduced}
 use Rattle.gf2.specs.Inverse.{inverse, productsMade}
@@ -16,7 +16,7 @@ use Rattle.netlist.specs.Running.{readList, wires as wiresOf, result as resultO
 use Rattle.gaussian.specs.declared.TypeAnswer.{TypeAnswer}
 use Rattle.card.specs.declared.CardAnswer.{CardAnswer}
 use Rattle.nb.specs.Packing.{packedAnswer}
-use Rattle.nb.specs.Judgements.{turnBytesFault, sumBytesFault, solveBytesFault, productBytesFault, reducedBytesFault, inverseBytesFault, runBytesFault}
+use Rattle.nb.specs.Judgements.{constantBytesFault, turnBytesFault, sumBytesFault, solveBytesFault, productBytesFault, reducedBytesFault, inverseBytesFault, runBytesFault}
 
 -- nb_check: with 5 "number, least d", with 6 "number, i, j"
 abbrev pub checkAnswer : ℕ → List ℕ → ℕ
@@ -25,6 +25,20 @@ checkAnswer m table = packedAnswer (checkFault m table) 0 0
 -- nb_ones: "C is the number of ones in the table"
 abbrev pub onesAnswer : ℕ → List ℕ → ℕ
 onesAnswer m table = packedAnswer (onesCall m table .fault) (onesCall m table .ones) 0
+
+-- nb_zero: "Zero is a fixed operand of every width"
+abbrev pub zeroAnswer : ℕ → List ℕ → ℕ
+zeroAnswer m old = packedAnswer (constantBytesFault m old) 0 0
+
+abbrev pub zeroResult : ℕ → List ℕ → List ℕ
+zeroResult m old = chooseBytes (isNone (constantBytesFault m old)) (zeroes (bytesFor m) m) old
+
+-- nb_one: "one is the operand with all m coordinates 1"
+abbrev pub oneAnswer : ℕ → List ℕ → ℕ
+oneAnswer m old = packedAnswer (constantBytesFault m old) 0 0
+
+abbrev pub oneResult : ℕ → List ℕ → List ℕ
+oneResult m old = chooseBytes (isNone (constantBytesFault m old)) (ones (bytesFor m) m) old
 
 -- nb_turn: "turned k places, coordinate i of the result is coordinate i-k of the old"
 abbrev pub turnAnswer : ℕ → List ℕ → ℕ → List ℕ → ℕ

@@ -12,6 +12,10 @@ use Rattle.table.specs.Judgements.{same, rowsFault, rowZeroFault, rowPairFault}
 use Rattle.netlist.specs.Running.{gateCount}
 use Rattle.netlist.specs.Judgements.{wordsFault, gatesFault}
 
+-- zero and one: 1 and 2
+unfoldable pub constantBytesFault : ℕ → List ℕ → Fault
+constantBytesFault m result = firstOf (widthFault m ∷ lengthFault (length result) (bytesFor m) ∷ [])
+
 -- the turn: 1 to 3 and 8
 unfoldable pub turnBytesFault : ℕ → List ℕ → ℕ → List ℕ → Fault
 turnBytesFault m a k result =

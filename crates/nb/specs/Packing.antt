@@ -1,7 +1,7 @@
--- How an answer is packed into one number of 64 bits.
+-- How an answer is packed into one number of 64 bits, and what comes back out of it.
 use mathlib.Core.Path.{_≡_}
 use mathlib.Core.Bool.{true}
-use Prim.Native.Nat.{ℕ, _+_, _*_, _^_, _<_}
+use Prim.Native.Nat.{ℕ, _+_, _*_, _/_, _%_, _^_, _<_}
 use Rattle.gf2.specs.Operands.{choose}
 use Rattle.operand.specs.declared.fault.Fault.{Fault}
 use Rattle.operand.specs.Faults.{numberOf, isNone}
@@ -30,3 +30,9 @@ pub record Small (f : Fault) : Type 0 where
 -- a fault that has room, or none and two values that have
 abbrev pub Packs : Fault → ℕ → ℕ → Type 0
 Packs f first second = Small f × (isNone f ≡ true → (first < valueLimit) × (second < valueLimit))
+
+-- what comes back out of an answer: its low 8 bits are the number n, the 28 above them the first value x, the rest the second value y
+pub record Unpacks (answer n x y : ℕ) : Type 0 where
+  pub number : answer % 2 ^ 8 ≡ n
+  pub first : answer / 2 ^ 8 % 2 ^ 28 ≡ x
+  pub second : answer / 2 ^ 36 ≡ y

@@ -1,9 +1,28 @@
 // The calls on operands alone.
 ghost use mathlib.Core.Path.{_≡_};
-ghost use Rattle.nb.specs.Calls.{turnAnswer, turnResult, sumAnswer, sumResult, traceAnswer, solveAnswer, solveResult};
+ghost use Rattle.nb.specs.Calls.{zeroAnswer, zeroResult, oneAnswer, oneResult, turnAnswer, turnResult, sumAnswer, sumResult, traceAnswer, solveAnswer, solveResult};
 use crate::bytes;
 use crate::packing;
 use operand::Operand;
+
+// Where the width is at fault, zero and one are the operand of width 0, which `write` refuses with 1.
+#[no_mangle]
+pub extern "C" fn nb_zero(width: u64, result: &mut [u8]) -> u64
+    ensures { λ r. ⌜ (r ≡ zeroAnswer width (now (result .entry))) × (now (result .exit) ≡ zeroResult width (now (result .entry))) ⌝ }
+{
+    let zero = Operand::zero(width as usize);
+    let value = zero.value;
+    packing::answer(value.write(result), 0, 0)
+}
+
+#[no_mangle]
+pub extern "C" fn nb_one(width: u64, result: &mut [u8]) -> u64
+    ensures { λ r. ⌜ (r ≡ oneAnswer width (now (result .entry))) × (now (result .exit) ≡ oneResult width (now (result .entry))) ⌝ }
+{
+    let one = Operand::one(width as usize);
+    let value = one.value;
+    packing::answer(value.write(result), 0, 0)
+}
 
 #[no_mangle]
 pub extern "C" fn nb_turn(width: u64, a: &[u8], k: u64, result: &mut [u8]) -> u64

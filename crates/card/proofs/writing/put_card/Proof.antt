@@ -1,6 +1,7 @@
 -- `card::writing::put_card` meets its contract.
 use native.Mathlib.Omega.{arith}
-use Rattle.card.proofs.WriteSteps.{one-length, card-length, card-le, card-put}
+use Rattle.card.proofs.Lengths.{one-length, card-length, card-most}
+use Rattle.card.proofs.WriteSteps.{card-put}
 use borrow.Author.Needs.{needs}
 use Rattle.card.proofs.writing.put_card.Statement.{statement}
 use Rattle.card.proofs.writing.put_card.Tie as tie
@@ -16,7 +17,7 @@ put-rows-requires c κs =
     let a = c .before .before .before .before .before .before .before .before .before .before .before in
     let m = a .args .width in
     let t = a .args .table .now in
-    (a .pre .0, a .pre .1, omega arith, omega (arith, one-length, c .before .before .before .before .before .before .before .put-number .ensures .0, c .before .before .before .put-number2 .ensures .0, card-length m t, card-le m t (a .pre .0)))
+    (a .pre .0, a .pre .1, omega arith, omega (arith, one-length, c .before .before .before .before .before .before .before .put-number .ensures .0, c .before .before .before .put-number2 .ensures .0, card-length m t, card-most m t (a .pre .0)))
 
 same-length : tie.Need-same-length
 same-length c = search needs

@@ -49,7 +49,7 @@ put-row-requires c κs =
     let inv = c .before .before .before .loop .inv in
     let lt : c .before .before .before .loop .d < a .args .width = omega arith in
     rw (lent-row (a .args .width) (c .before .before .before .loop .d) _ (a .args .table .now) (c .before .before .before .before .bytes-for .ensures))
-    (omega (arith, row-length (a .args .width) (c .before .before .before .loop .d) (a .args .table .now) (a .pre .1) lt), a .pre .0, omega (arith, put-fits inv (c .before .before .loop-test .taken), a .pre .3))
+    (omega (arith, row-length (a .args .width) (c .before .before .before .loop .d) (a .args .table .now) (a .pre .1) lt), a .pre .0, omega (arith, put-fits inv (omega (arith, c .before .before .loop-test .taken)), a .pre .3))
 
 add-d : tie.Need-add-d Inv-loop μ-loop
 add-d c = search needs
@@ -61,13 +61,13 @@ loop-again : tie.Need-loop-again Inv-loop μ-loop
 loop-again c =
     let a = c .before .before .before .before .before .before .before .before .before .before in
     let e = rw (lent-row (a .args .width) (c .before .before .before .before .before .before .loop .d) _ (a .args .table .now) (c .before .before .before .before .before .before .before .bytes-for .ensures)) at (c .before .before .put-row .ensures) in
-    put-more (c .before .before .before .before .before .before .loop .inv) (c .before .before .before .before .before .loop-test .taken) (e .0) (e .1) (c .before .before .put-row .kept .0)
+    put-more (c .before .before .before .before .before .before .loop .inv) (omega (arith, c .before .before .before .before .before .loop-test .taken)) (e .0) (e .1) (c .before .before .put-row .kept .0)
 
 same-length : tie.Need-same-length Inv-loop μ-loop
 same-length c = c .before .loop .inv .kept
 
 returns : tie.Need-returns Inv-loop μ-loop
-returns c = put-done (c .before .loop .inv) (c .loop-test .left)
+returns c = put-done (c .before .loop .inv) (omega (arith, c .loop-test .left))
 
 pub put-rows-spec : {M : Type 1} → statement M
 put-rows-spec =

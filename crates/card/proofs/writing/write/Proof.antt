@@ -3,6 +3,7 @@ use mathlib.Core.Path.{sym, _∙_}
 use borrow.Author.Tests.{not-true, not-false}
 use Rattle.operand.proofs.FaultLaws.{judged}
 use Rattle.card.proofs.WriteSteps.{shape-size, wrote-shape, wrote-short, wrote-card}
+use native.Mathlib.Omega.{arith}
 use borrow.Author.Needs.{needs}
 use Rattle.card.proofs.writing.write.Statement.{statement}
 use Rattle.card.proofs.writing.write.Tie as tie
@@ -33,7 +34,8 @@ refused-requires-2 c κs = search needs
 returns-2 : tie.Need-returns-2
 returns-2 c =
     let shape = judged (c .before .before .before .before .before .before .before .judge-shape .ensures) (c .before .before .before .before .before .before .is-none .ensures) (not-false _ (c .before .before .before .before .before .if1 .left)) in
-    let x = wrote-short _ _ _ shape (c .before .before .before .put-card .ensures .0) (c .before .if2 .taken) in
+    let old = c .before .before .before .before .before .before .before .before .before .before .args .out .now in
+    let x = wrote-short _ _ old shape (c .before .before .before .put-card .ensures .0) (omega (arith, c .before .if2 .taken)) in
     (c .refused2 .ensures ∙ x .answers, x .leaves)
 
 put-card-requires-2 : tie.Need-put-card-requires-2
@@ -45,7 +47,7 @@ same-length c = search needs
 returns-3 : tie.Need-returns-3
 returns-3 c =
     let shape = judged (c .before .before .before .before .before .before .before .before .before .before .judge-shape .ensures) (c .before .before .before .before .before .before .before .before .before .is-none .ensures) (not-false _ (c .before .before .before .before .before .before .before .before .if1 .left)) in
-    let x = wrote-card _ _ _ shape (c .before .before .before .before .before .before .put-card .ensures .0) (c .before .before .before .before .if2 .left) (c .before .before .put-card2 .ensures .1) in
+    let x = wrote-card _ _ _ shape (c .before .before .before .before .before .before .put-card .ensures .0) (omega (arith, c .before .before .before .before .if2 .left)) (c .before .before .put-card2 .ensures .1) in
     (x .answers, x .leaves)
 
 pub write-spec : {M : Type 1} → statement M

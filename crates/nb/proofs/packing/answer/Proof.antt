@@ -22,7 +22,9 @@ number-requires : tie.Need-number-requires
 number-requires c κs = search needs
 
 pack-requires-2 : tie.Need-pack-requires-2
-pack-requires-2 c κs = rw (c .number .ensures) (omega (arith, number-most (c .before .before .before .args .fault)), c .before .before .before .pre .0 .first, c .before .before .before .pre .0 .second)
+pack-requires-2 c κs =
+    let s = c .before .before .before in
+    rw (c .number .ensures) (omega (arith, number-most (s .args .fault)), omega (arith, s .pre .0 .first, s .pre .0 .second), omega (arith, s .pre .0 .first, s .pre .0 .second))
 
 returns-2 : tie.Need-returns-2
 unfolding packedAnswer packedFault

@@ -1,8 +1,7 @@
 -- `nb::tables::nb_check` meets its contract.
 use mathlib.Core.Path.{ap, _∙_}
-use native.Mathlib.Omega.{arith}
 use Rattle.nb.specs.Packing.{packedAnswer}
-use Rattle.nb.proofs.PackLaws.{small-check}
+use Rattle.nb.proofs.PackLaws.{packs, small-check}
 use borrow.Author.Needs.{needs}
 use Rattle.nb.proofs.tables.nb_check.Statement.{statement}
 use Rattle.nb.proofs.tables.nb_check.Tie as tie
@@ -11,7 +10,7 @@ check-requires : tie.Need-check-requires
 check-requires c κs = search needs
 
 answer-requires : tie.Need-answer-requires
-answer-requires c κs = (rw (c .check .ensures) (small-check _ _), λ e. (omega arith, omega arith))
+answer-requires c κs = packs (c .check .ensures) (small-check _ _)
 
 returns : tie.Need-returns
 returns c = c .answer .ensures ∙ ap (λ f. packedAnswer f 0 0) (c .before .check .ensures)

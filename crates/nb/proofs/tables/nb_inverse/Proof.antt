@@ -1,12 +1,11 @@
 -- `nb::tables::nb_inverse` meets its contract.
-use mathlib.Core.Path.{_≡_, refl, sym, ap, _∙_}
+use mathlib.Core.Path.{_≡_, refl, _∙_}
 use mathlib.Core.Bool.{true}
-use native.Mathlib.Omega.{arith}
 use Rattle.gf2.specs.Inverse.{inverse, productsMade}
 use Rattle.operand.specs.Faults.{isNone}
 use Rattle.nb.specs.Judgements.{inverseBytesFault}
-use Rattle.nb.proofs.PackLaws.{answer-same, packs, small-inverse-call}
-use Rattle.nb.proofs.Bounds.{inverse-small}
+use Rattle.nb.proofs.PackLaws.{answer-same, packs-same, packs, small-inverse-call}
+use Rattle.nb.proofs.Bounds.{inverse-packs}
 use Rattle.nb.proofs.CallLaws.{refused, kept, refuses, Done, inverse-begins, inverse-done, inverse-count}
 use borrow.Author.Needs.{needs}
 use Rattle.nb.proofs.tables.nb_inverse.Statement.{statement}
@@ -42,7 +41,7 @@ returns c =
     let a = c .before .before .before .before .before .before .before .args in
     let s = c .before in
     let call = inverse-begins (a .width) (a .a .now) (a .result .now) (a .table .now) in (
-      refuses call (s .before .before .judge-one .ensures) (s .before .is-none .ensures) (s .if1 .taken) (productsMade (a .width) (a .table .now) (a .a .now)) 0 (c .answer .ensures),
+      refuses call (s .before .before .judge-one .ensures) (s .before .is-none .ensures) (s .if1 .taken) _ _ (c .answer .ensures),
       kept call (s .before .before .judge-one .ensures) (s .before .is-none .ensures) (s .if1 .taken) _ _,
     )
 
@@ -56,11 +55,7 @@ settle-requires : tie.Need-settle-requires
 settle-requires c κs = search needs
 
 answer-requires-2 : tie.Need-answer-requires-2
-answer-requires-2 c κs =
-    let a = c .before .before .before .before .before .before .before .before .before .before .before .before .before .args in (
-      rw (call c .fault) (small-inverse-call (a .width) (a .table .now) (a .a .now) (a .result .now)),
-      λ e. let n = ap isNone (sym (call c .fault)) ∙ e in (rw (count c n) (inverse-small (a .width) (a .table .now) (a .a .now) (a .result .now) n), omega arith),
-    )
+answer-requires-2 c κs = packs-same (call c .fault) (λ e. (count c e, refl)) (inverse-packs _ _ _ _)
 
 same-length : tie.Need-same-length
 same-length c = search needs
