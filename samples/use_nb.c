@@ -1,5 +1,5 @@
-/* Takes in a table from its card, checks it, multiplies and inverts under it, and writes its gate list. Build and run, from the
- * project's root:
+/* Takes in a table from its card, checks it, multiplies and inverts under it, writes its gate list and its card. Build and run, from
+ * the project's root:
  *
  *     rt staticlib nb
  *     cc -std=c99 -Wall -Wextra -Iinclude samples/use_nb.c target/staticlib/libnb.a -o target/use_nb
@@ -13,12 +13,14 @@
  *     inverse of 03 = 16, 2 products
  *     03 * 16 = 1f
  *     reduced list: 25 AND, 30 XOR, 172 words
+ *     card: 16 bytes, as it was read
  *     a damaged table: fault 5, rows 1 and 4 differ
  */
 #include "nb.h"
 
 #include <stdio.h>
 #include <stdlib.h>
+#include <string.h>
 
 /* The card of document 01's table of width 5, 02 09 18 06 14: form, width, and for each row its number of ones and their places. */
 static const uint8_t card[] = {1, 5, 1, 1, 2, 0, 2, 2, 3, 0, 2, 1, 0, 2, 2, 1};
@@ -70,6 +72,13 @@ int main(void)
         return 1;
     printf("reduced list: %u AND, %u XOR, %zu words\n", NB_FIRST(answer), NB_SECOND(answer), words);
     free(list);
+
+    static uint8_t written[NB_CARD_BYTES(NB_MAX_WIDTH)];
+    answer = nb_card_write(m, table, size, written, sizeof written);
+    if (refused("nb_card_write", answer))
+        return 1;
+    int same = NB_FIRST(answer) == sizeof card && memcmp(written, card, sizeof card) == 0;
+    printf("card: %u bytes, %s\n", NB_FIRST(answer), same ? "as it was read" : "another");
 
     table[1] ^= 1;
     answer = nb_check(m, table, size);

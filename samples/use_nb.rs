@@ -1,5 +1,5 @@
-// Takes in a table from its card, checks it, multiplies and inverts under it, and writes its gate list. Build and run, from the
-// project's root:
+// Takes in a table from its card, checks it, multiplies and inverts under it, writes its gate list and its card. Build and run, from
+// the project's root:
 //
 //     rt staticlib nb
 //     rustc --edition 2021 samples/use_nb.rs -L target/staticlib -l static=nb -o target/use_nb_rs
@@ -35,6 +35,7 @@ mod c {
         ) -> u64;
         pub fn nb_counts_reduced(width: u64, table: *const u8, table_len: usize) -> u64;
         pub fn nb_list_reduced(width: u64, table: *const u8, table_len: usize, out: *mut u32, out_len: usize) -> u64;
+        pub fn nb_card_write(width: u64, table: *const u8, table_len: usize, out: *mut u8, out_len: usize) -> u64;
     }
 }
 
@@ -47,6 +48,10 @@ const fn operand_bytes(m: usize) -> usize {
 
 const fn table_bytes(m: usize) -> usize {
     m * operand_bytes(m)
+}
+
+const fn card_bytes(m: usize) -> usize {
+    3 + m * (m + 2)
 }
 
 const fn list_words(m: usize, ands: usize, xors: usize) -> usize {
@@ -116,6 +121,10 @@ fn list_reduced(width: u64, table: &[u8], out: &mut [u32]) -> Answer {
     unpacked(unsafe { c::nb_list_reduced(width, table.as_ptr(), table.len(), out.as_mut_ptr(), out.len()) })
 }
 
+fn card_write(width: u64, table: &[u8], out: &mut [u8]) -> Answer {
+    unpacked(unsafe { c::nb_card_write(width, table.as_ptr(), table.len(), out.as_mut_ptr(), out.len()) })
+}
+
 // The card of document 01's table of width 5, 02 09 18 06 14: form, width, and for each row its number of ones and their places.
 const CARD: [u8; 16] = [1, 5, 1, 1, 2, 0, 2, 2, 3, 0, 2, 1, 0, 2, 2, 1];
 
@@ -142,6 +151,11 @@ fn run() -> Result<(), (u64, u64, u64)> {
     let mut list = vec![0; list_words(m as usize, ands as usize, xors as usize)];
     list_reduced(m, table, &mut list)?;
     println!("reduced list: {} AND, {} XOR, {} words", ands, xors, list.len());
+
+    let mut written = vec![0; card_bytes(m as usize)];
+    let (length, _) = card_write(m, table, &mut written)?;
+    let same = written[..length as usize] == CARD;
+    println!("card: {} bytes, {}", length, if same { "as it was read" } else { "another" });
 
     table[1] ^= 1;
     if let Err((5, d, _)) = check(m, table) {

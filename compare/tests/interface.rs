@@ -325,6 +325,31 @@ fn every_width() {
     }
 }
 
+/// The sizes that include/nb.h states: the longest card, and a list's words by its counts.
+#[test]
+fn sizes() {
+    for m in [2, 5, 127, 128, 163, 255] {
+        let (ones, longest) = (bits::pack(&vec![true; m]).repeat(m), 3 + m * (m + 2));
+        let length = proved::card_write(m, &ones, &mut vec![0; longest]).unwrap().0;
+        assert!(length == longest || m < 128, "width {m}: {length} bytes");
+    }
+    let mut source = Source::new(5);
+    for m in [2, 3, 8, 33] {
+        let t = symmetric(&mut source, m);
+        for (counts, list) in [
+            (proved::counts_plain as fn(usize, &[u8]) -> Answer<Pair>, proved::list_plain as fn(usize, &[u8], &mut [u32]) -> Answer<Pair>),
+            (proved::counts_reduced, proved::list_reduced),
+            (proved::counts_common, proved::list_common),
+        ] {
+            let (ands, xors) = counts(m, &t).unwrap();
+            let words = 2 + 3 * (ands + xors) + m;
+            assert!(words <= 2 + 3 * m * m * m + m);
+            assert_eq!(list(m, &t, &mut vec![0; words]), Ok((ands, xors)), "width {m}");
+            assert_eq!(list(m, &t, &mut vec![0; words - 1]).unwrap_err().number, 11, "width {m}");
+        }
+    }
+}
+
 /// The greatest widths, with drawn and dense tables: products, inverse, lists and their run, cards with two-group numbers.
 #[test]
 fn wide() {

@@ -113,6 +113,10 @@ fn measure(case: &Case) -> Vec<(&'static str, f64, f64)> {
     row!("reduced product", proved::product_reduced(m, table, a, b, &mut result), same::tables::nb_product_reduced(width, table, a, b, &mut result2));
     row!("check", proved::check(m, table), same::tables::nb_check(width, table));
     row!("inverse", proved::inverse(m, table, a, &mut result), same::tables::nb_inverse(width, table, a, &mut result2));
+    #[cfg(constants)]
+    row!("zero", proved::zero(m, &mut result), same::operands::nb_zero(width, &mut result2));
+    #[cfg(constants)]
+    row!("one", proved::one(m, &mut result), same::operands::nb_one(width, &mut result2));
     row!("turn", proved::turn(m, a, m / 3, &mut result), same::operands::nb_turn(width, a, width / 3, &mut result2));
     row!("sum", proved::sum(m, a, b, &mut result), same::operands::nb_sum(width, a, b, &mut result2));
     row!("trace", proved::trace(m, a), same::operands::nb_trace(width, a));
