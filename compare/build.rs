@@ -61,6 +61,11 @@ fn main() {
     assert!(archive.exists(), "no {}: run `rt staticlib nb` first", archive.display());
     println!("cargo:rustc-link-search=native={}", archive.parent().unwrap().display());
     println!("cargo:rustc-link-lib=static=nb");
+    // An earlier library, which compare/before-after links, may have no nb_zero and nb_one: the benchmark then leaves them out.
+    println!("cargo:rustc-check-cfg=cfg(constants)");
+    if fs::read(&archive).unwrap().windows(7).any(|name| name == b"nb_zero") {
+        println!("cargo:rustc-cfg=constants");
+    }
 
     let mut same = String::new();
     for name in CRATES {

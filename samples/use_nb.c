@@ -1,4 +1,5 @@
-/* Takes in a table from its card, checks it, multiplies and inverts under it. Build and run, from the project's root:
+/* Takes in a table from its card, checks it, multiplies and inverts under it, writes its gate list and its card. Build and run, from
+ * the project's root:
  *
  *     rt staticlib nb
  *     cc -std=c99 -Wall -Wextra -Iinclude samples/use_nb.c target/staticlib/libnb.a -o target/use_nb
@@ -11,11 +12,15 @@
  *     03 * 1d = 0e
  *     inverse of 03 = 16, 2 products
  *     03 * 16 = 1f
+ *     reduced list: 25 AND, 30 XOR, 172 words
+ *     card: 16 bytes, as it was read
  *     a damaged table: fault 5, rows 1 and 4 differ
  */
 #include "nb.h"
 
 #include <stdio.h>
+#include <stdlib.h>
+#include <string.h>
 
 /* The card of document 01's table of width 5, 02 09 18 06 14: form, width, and for each row its number of ones and their places. */
 static const uint8_t card[] = {1, 5, 1, 1, 2, 0, 2, 2, 3, 0, 2, 1, 0, 2, 2, 1};
@@ -29,12 +34,12 @@ static int refused(const char *call, uint64_t answer)
 
 int main(void)
 {
-    uint8_t table[255 * 32];
+    uint8_t table[NB_TABLE_BYTES(NB_MAX_WIDTH)];
     uint64_t answer = nb_card_read(card, sizeof card, table, sizeof table);
     if (refused("nb_card_read", answer))
         return 1;
     uint64_t m = NB_FIRST(answer);
-    size_t w = (m + 7) / 8, size = m * w;
+    size_t w = NB_OPERAND_BYTES(m), size = NB_TABLE_BYTES(m);
 
     answer = nb_ones(m, table, size);
     printf("width %u, ones %u\n", (unsigned)m, NB_FIRST(answer));
@@ -43,7 +48,8 @@ int main(void)
         return 1;
     printf("accepted\n");
 
-    uint8_t a[1] = {0x03}, b[1] = {0x1d}, c[1], inverse[1];
+    uint8_t a[NB_OPERAND_BYTES(NB_MAX_WIDTH)] = {0x03}, b[NB_OPERAND_BYTES(NB_MAX_WIDTH)] = {0x1d};
+    uint8_t c[NB_OPERAND_BYTES(NB_MAX_WIDTH)], inverse[NB_OPERAND_BYTES(NB_MAX_WIDTH)];
     if (refused("nb_product", nb_product(m, table, size, a, w, b, w, c, w)))
         return 1;
     printf("%02x * %02x = %02x\n", a[0], b[0], c[0]);
@@ -56,6 +62,23 @@ int main(void)
     if (refused("nb_product", nb_product(m, table, size, a, w, inverse, w, c, w)))
         return 1;
     printf("%02x * %02x = %02x\n", a[0], inverse[0], c[0]);
+
+    answer = nb_counts_reduced(m, table, size);
+    if (refused("nb_counts_reduced", answer))
+        return 1;
+    size_t words = NB_LIST_WORDS(m, NB_FIRST(answer), NB_SECOND(answer));
+    uint32_t *list = malloc(words * sizeof *list);
+    if (list == NULL || refused("nb_list_reduced", nb_list_reduced(m, table, size, list, words)))
+        return 1;
+    printf("reduced list: %u AND, %u XOR, %zu words\n", NB_FIRST(answer), NB_SECOND(answer), words);
+    free(list);
+
+    static uint8_t written[NB_CARD_BYTES(NB_MAX_WIDTH)];
+    answer = nb_card_write(m, table, size, written, sizeof written);
+    if (refused("nb_card_write", answer))
+        return 1;
+    int same = NB_FIRST(answer) == sizeof card && memcmp(written, card, sizeof card) == 0;
+    printf("card: %u bytes, %s\n", NB_FIRST(answer), same ? "as it was read" : "another");
 
     table[1] ^= 1;
     answer = nb_check(m, table, size);

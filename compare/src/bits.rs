@@ -72,6 +72,21 @@ pub fn added(a: &[bool], b: &[bool]) -> Bits {
     a.iter().zip(b).map(|(x, y)| x ^ y).collect()
 }
 
+/// The operand all of whose coordinates are `bit`, on W bytes.
+fn constant(m: usize, bit: bool, result: &mut [u8]) -> Answer<()> {
+    judge_operands(m, &[], &[result.len()])?;
+    result.copy_from_slice(&pack(&vec![bit; m]));
+    Ok(())
+}
+
+pub fn zero(m: usize, result: &mut [u8]) -> Answer<()> {
+    constant(m, false, result)
+}
+
+pub fn one(m: usize, result: &mut [u8]) -> Answer<()> {
+    constant(m, true, result)
+}
+
 /// The turn by k, on W bytes.
 pub fn turn(m: usize, a: &[u8], k: usize, result: &mut [u8]) -> Answer<()> {
     judge_operands(m, &[a], &[result.len()])?;

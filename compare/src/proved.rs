@@ -17,6 +17,8 @@ mod raw {
         pub fn nb_inverse(
             width: u64, table: *const u8, table_len: usize, a: *const u8, a_len: usize, result: *mut u8, result_len: usize,
         ) -> u64;
+        pub fn nb_zero(width: u64, result: *mut u8, result_len: usize) -> u64;
+        pub fn nb_one(width: u64, result: *mut u8, result_len: usize) -> u64;
         pub fn nb_turn(width: u64, a: *const u8, a_len: usize, k: u64, result: *mut u8, result_len: usize) -> u64;
         pub fn nb_sum(
             width: u64, a: *const u8, a_len: usize, b: *const u8, b_len: usize, result: *mut u8, result_len: usize,
@@ -85,6 +87,8 @@ calls! {
     product = nb_product(width: num, table: bytes, a: bytes, b: bytes, result: out);
     product_reduced = nb_product_reduced(width: num, table: bytes, a: bytes, b: bytes, result: out);
     inverse = nb_inverse(width: num, table: bytes, a: bytes, result: out);
+    zero = nb_zero(width: num, result: out);
+    one = nb_one(width: num, result: out);
     turn = nb_turn(width: num, a: bytes, k: num, result: out);
     sum = nb_sum(width: num, a: bytes, b: bytes, result: out);
     trace = nb_trace(width: num, a: bytes);

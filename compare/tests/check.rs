@@ -1,10 +1,8 @@
-//! The check beside the independent version where its quick way and its search meet: every small table that passes 4 and 5, tables
-//! whose first difference comes late, and the stack that the call takes.
+//! The check beside the independent version where its quick way and its search meet: every small table that passes 4 and 5, and
+//! tables whose first difference comes late.
 
 use compare::inputs::{all_symmetric, changed_pair, drawn_at, symmetric, Source};
-use compare::stack::taken;
 use compare::{field, proved, Answer, Fault};
-use std::hint::black_box;
 
 /// The check of both, which must agree; 6 comes with i = 0.
 fn checked(m: usize, table: &[u8]) -> Answer<()> {
@@ -40,21 +38,6 @@ fn changed_tables() {
         }
         for _ in 0..4 {
             checked(m, &symmetric(&mut source, m)).ok();
-        }
-    }
-}
-
-/// The check takes less than 4 KiB of stack, whatever it answers.
-#[test]
-fn stack_of_the_check() {
-    let mut source = Source::new(15);
-    for m in [2, 163, 233, 255] {
-        let drawn = drawn_at(m);
-        for table in [changed_pair(m, &drawn, 1, 0), symmetric(&mut source, m), drawn] {
-            let bytes = taken(|| {
-                black_box(proved::packed::check(m, &table));
-            });
-            assert!(0 < bytes && bytes < 4096, "width {m}: {bytes} bytes");
         }
     }
 }

@@ -15,12 +15,14 @@ type Pair = (usize, usize);
 
 /// The numbers each call can give beside 0. The check can't give 7: rules 4, 5 and 6 imply rule 7, by theorem C of
 /// crates/gf2/specs/Statements.antt.
-const NUMBERS: [(&str, &[u32]); 20] = [
+const NUMBERS: [(&str, &[u32]); 22] = [
     ("check", &[1, 2, 3, 4, 5, 6]),
     ("ones", &[1, 2, 3]),
     ("product", &[1, 2, 3]),
     ("product_reduced", &[1, 2, 3, 4, 5]),
     ("inverse", &[1, 2, 3, 9]),
+    ("zero", &[1, 2]),
+    ("one", &[1, 2]),
     ("turn", &[1, 2, 3, 8]),
     ("sum", &[1, 2, 3]),
     ("trace", &[1, 2, 3]),
@@ -144,6 +146,12 @@ impl Run {
     fn operands(&mut self, m: usize) {
         let (a, b, mut x) = (self.operand(m), self.operand(m), self.result(m));
         let mut y = x.clone();
+        let ours = proved::zero(m, &mut x);
+        let theirs = nothing(bits::zero(m, &mut y));
+        self.log.same("zero", (ours, &x), (theirs, &y), m);
+        let ours = proved::one(m, &mut x);
+        let theirs = nothing(bits::one(m, &mut y));
+        self.log.same("one", (ours, &x), (theirs, &y), m);
         let n = self.near(m);
         let k = match self.source.below(8) {
             0 => n - 1,
@@ -313,6 +321,31 @@ fn every_width() {
         if m <= 48 || EDGES.contains(&m) {
             assert_eq!(nothing(field::check(m, &t)), Ok((0, 0)), "width {m}");
             assert_eq!(nothing(field::check(m, &damaged)), ours, "width {m}");
+        }
+    }
+}
+
+/// The sizes that include/nb.h states: the longest card, and a list's words by its counts.
+#[test]
+fn sizes() {
+    for m in [2, 5, 127, 128, 163, 255] {
+        let (ones, longest) = (bits::pack(&vec![true; m]).repeat(m), 3 + m * (m + 2));
+        let length = proved::card_write(m, &ones, &mut vec![0; longest]).unwrap().0;
+        assert!(length == longest || m < 128, "width {m}: {length} bytes");
+    }
+    let mut source = Source::new(5);
+    for m in [2, 3, 8, 33] {
+        let t = symmetric(&mut source, m);
+        for (counts, list) in [
+            (proved::counts_plain as fn(usize, &[u8]) -> Answer<Pair>, proved::list_plain as fn(usize, &[u8], &mut [u32]) -> Answer<Pair>),
+            (proved::counts_reduced, proved::list_reduced),
+            (proved::counts_common, proved::list_common),
+        ] {
+            let (ands, xors) = counts(m, &t).unwrap();
+            let words = 2 + 3 * (ands + xors) + m;
+            assert!(words <= 2 + 3 * m * m * m + m);
+            assert_eq!(list(m, &t, &mut vec![0; words]), Ok((ands, xors)), "width {m}");
+            assert_eq!(list(m, &t, &mut vec![0; words - 1]).unwrap_err().number, 11, "width {m}");
         }
     }
 }

@@ -2,9 +2,9 @@
 //!
 //!     rt staticlib nb && cargo run --release --offline --manifest-path compare/Cargo.toml --bin bench
 //!
-//! Prints a table in Markdown, the ratio proved / Rust last. With the argument `growth` it prints how each cost grows from
-//! width 64 to 255 instead, with `calls` the times at 233, type 2, and those of the check over more tables, which
-//! compare/before-after reads. Every time is of a whole call, with every judgement in it; lent buffers are not cleared before a call.
+//! Prints the lines of docs/benchmark.csv, in nanoseconds, the ratio proved / Rust last, and on standard error how long the product
+//! takes by definition. With the argument `growth` it prints how each cost grows from width 65 to 255 instead, with `calls` the times at
+//! 233, type 2, and those of the check over more tables, which compare/before-after reads. Every time is of a whole call, with every judgement in it; lent buffers are not cleared before a call.
 
 use compare::inputs::{changed_pair, dense, Source};
 use compare::proved::packed as proved;
@@ -113,6 +113,10 @@ fn measure(case: &Case) -> Vec<(&'static str, f64, f64)> {
     row!("reduced product", proved::product_reduced(m, table, a, b, &mut result), same::tables::nb_product_reduced(width, table, a, b, &mut result2));
     row!("check", proved::check(m, table), same::tables::nb_check(width, table));
     row!("inverse", proved::inverse(m, table, a, &mut result), same::tables::nb_inverse(width, table, a, &mut result2));
+    #[cfg(constants)]
+    row!("zero", proved::zero(m, &mut result), same::operands::nb_zero(width, &mut result2));
+    #[cfg(constants)]
+    row!("one", proved::one(m, &mut result), same::operands::nb_one(width, &mut result2));
     row!("turn", proved::turn(m, a, m / 3, &mut result), same::operands::nb_turn(width, a, width / 3, &mut result2));
     row!("sum", proved::sum(m, a, b, &mut result), same::operands::nb_sum(width, a, b, &mut result2));
     row!("trace", proved::trace(m, a), same::operands::nb_trace(width, a));
@@ -142,20 +146,18 @@ fn least(cases: &[Case]) -> Vec<Vec<(&'static str, f64, f64)>> {
 }
 
 fn compared(cases: &[Case]) {
-    println!("| call | width, table | proved | Rust, same source | proved / Rust |");
-    println!("|---|---|---|---|---|");
+    println!("call,width,table,proved ns,Rust ns,proved / Rust");
     let all = least(cases);
     for (case, rows) in cases.iter().zip(&all) {
         for (name, ours, theirs) in rows {
-            println!("| {name} | {} | {} | {} | {:.2} |", case.label, shown(*ours), shown(*theirs), ours / theirs);
+            println!("{name},{},{ours:.1},{theirs:.1},{:.2}", case.label.replace(", ", ","), ours / theirs);
         }
     }
     let (case, ours) = (&cases[1], all[1][0].1);
     let mut result = vec![0; bits::bytes_for(case.m)];
     let mut by_definition = || { field::product(case.m, &case.table, &case.a, &case.b, &mut result).ok(); };
     let theirs = (0..TRIES * PASSES).map(|_| time(1, &mut by_definition)).fold(f64::INFINITY, f64::min);
-    println!();
-    println!("By definition (compare/src/field.rs), product at {}: {}; the proved call is {:.0} times as quick.", case.label, shown(theirs), theirs / ours);
+    eprintln!("By definition (compare/src/field.rs), product at {}: {}; the proved call is {:.0} times as quick.", case.label, shown(theirs), theirs / ours);
 }
 
 /// Of the tables that differ from an accepted one in coordinate 0 of one row, and in the row that rule 5 ties to it, the one whose

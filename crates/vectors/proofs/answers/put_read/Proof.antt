@@ -36,7 +36,7 @@ returns c =
     let d = c .before .before .before .before .before .before .before .before .before .before .before .before .before .before .before .before .before .before .read .ensures in (
       stored-as
           (stored-both (c .before .before .before .before .before .before .before .before .before .before .put .ensures) (stored-both (c .before .before .before .before .before .before .put2 .ensures) (c .before .before .put3 .ensures)))
-          (rw (c .before .before .before .before .before .before .before .before .before .before .before .number .ensures, c .before .before .before .before .before .before .before .before .before .before .before .before .before .bit .ensures, c .before .before .before .before .before .before .before .before .before .before .before .before .before .before .same .ensures, d .0, d .1)),
+          (cc (c .before .before .before .before .before .before .before .before .before .before .before .number .ensures, c .before .before .before .before .before .before .before .before .before .before .before .before .before .bit .ensures, c .before .before .before .before .before .before .before .before .before .before .before .before .before .before .same .ensures, d .0, d .1)),
       d .1,
     )
 
