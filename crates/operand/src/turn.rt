@@ -114,8 +114,6 @@ pub(crate) fn turned(x: [u8; Operand::BYTES], m: usize, k: usize) -> [u8; Operan
 {
     let all = words::to_words(x);
     let back = m - k;
-    let up = raise(all, k);
-    let round = lower(all, back);
-    let both = words::xored_words(up, round);
+    let both = words::xored_words(raise(all, k), lower(all, back));
     words::to_bytes(words::low_words(both, m))
 }
