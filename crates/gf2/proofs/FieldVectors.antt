@@ -1,6 +1,6 @@
 -- The field of the operands of width m = p + 1 under a table, and that of the vectors under its rows.
 -- laws, accepted: the rules that a table is accepted by, as rules on vectors and back.
--- from-field, from-squares: what holds of vectors holds of operands; to-field, to-squares: and back.
+-- from-unit, from-field, from-squares: what holds of vectors holds of operands; to-field, to-squares: and back.
 use mathlib.Core.Path.{_≡_, sym, _∙_, ap}
 use mathlib.Core.List.{List}
 use Prim.Native.Nat.{ℕ, suc, _*_, _<_, _≤_}
@@ -8,7 +8,7 @@ use Rattle.gf2.specs.Operands.{bytesFor}
 use Rattle.gf2.specs.Tables.{IsTable}
 use Rattle.gf2.specs.Products.{product}
 use Rattle.gf2.specs.Check.{Rule6, Symmetric, Accepted}
-use Rattle.gf2.specs.Field.{Op, Field, Squares}
+use Rattle.gf2.specs.Field.{Op, IsUnit, Field, Squares}
 use Rattle.gf2.proofs.Index.{Ix, at, at-num}
 use Rattle.gf2.proofs.Vector.{Vec}
 use Rattle.gf2.proofs.VectorField.{Laws, Check, Field as Fieldᵛ, Squares as Squaresᵛ}
@@ -52,6 +52,14 @@ module _ (p : ℕ) (t : List ℕ) (is : IsTable (suc p) t) where
   pub to-squares : Squares (suc p) t → Squaresᵛ T
   to-squares s v = let h = fits in bytes-inj p W fits _ _ (simp (product-bytes, turned-bytes) at (s .square _ (op v)))
 
+  pub from-unit : (f : Fieldᵛ T) → IsUnit (suc p) t (bytes p W (f .unit))
+  from-unit f = record {
+    operand = op (f .unit);
+    neutral = λ a ha. let h = fits in rw (operand-vec p ha) (simp product-bytes (ap (bytes p W) (f .neutral (vec p a))));
+    inverse = λ a ha n. let i = f .inverse (vec p a) (λ z. n (operand-vec p ha ∙ ap (bytes p W) z ∙ sym (zeroes-vec p W))) in
+        (bytes p W (i .0), op (i .0), ap (λ x. x ∗ bytes p W (i .0)) (operand-vec p ha) ∙ product-bytes p t is W fits _ _ ∙ ap (bytes p W) (i .1));
+  }
+
   pub from-field : Fieldᵛ T → Field (suc p) t
   from-field f = record {
     commutative = λ a b ha hb. let h = fits in rw (operand-vec p ha, operand-vec p hb) (simp product-bytes (ap (bytes p W) (f .comm (vec p a) (vec p b))));
@@ -60,15 +68,7 @@ module _ (p : ℕ) (t : List ℕ) (is : IsTable (suc p) t) where
     distributive = λ a b c ha hb hc. let h = fits in
         rw (operand-vec p ha, operand-vec p hb, operand-vec p hc)
         (simp (product-bytes, added-bytes) (ap (bytes p W) (f .distrib (vec p a) (vec p b) (vec p c))));
-    unit = (
-      bytes p W (f .unit),
-      record {
-        operand = op (f .unit);
-        neutral = λ a ha. let h = fits in rw (operand-vec p ha) (simp product-bytes (ap (bytes p W) (f .neutral (vec p a))));
-        inverse = λ a ha n. let i = f .inverse (vec p a) (λ z. n (operand-vec p ha ∙ ap (bytes p W) z ∙ sym (zeroes-vec p W))) in
-            (bytes p W (i .0), op (i .0), ap (λ x. x ∗ bytes p W (i .0)) (operand-vec p ha) ∙ product-bytes p t is W fits _ _ ∙ ap (bytes p W) (i .1));
-      },
-    );
+    unit = (bytes p W (f .unit), from-unit f);
   }
 
   pub to-field : Field (suc p) t → Fieldᵛ T

@@ -1,5 +1,5 @@
 -- The proofs of Statements, each by the theorem of that name over vectors.
--- theoremA, theoremB, theoremC, theoremF, theoremD, theoremE, theoremG.
+-- theoremA, theoremH, theoremB, theoremC, theoremF, theoremD, theoremE, theoremG.
 use mathlib.Core.Path.{_≡_, sym, _∙_, ap, ap₂}
 use mathlib.Core.Bool.{true}
 use mathlib.Core.List.{List}
@@ -7,23 +7,23 @@ use Prim.Native.Nat.{ℕ, zero, suc, _-_, _*_, _^_, _<_, _≤_}
 use native.Mathlib.Omega.{arith}
 use Rattle.gf2.specs.Sums.{sum}
 use Rattle.gf2.specs.Coordinates.{coord}
-use Rattle.gf2.specs.Operands.{IsOperand}
+use Rattle.gf2.specs.Operands.{bytesFor, IsOperand}
 use Rattle.gf2.specs.Tables.{IsTable, row, pairProduct, onesIn}
 use Rattle.gf2.specs.Products.{product}
 use Rattle.gf2.specs.Check.{Accepted}
 use Rattle.gf2.specs.Inverse.{inverse}
-use Rattle.gf2.specs.Statements.{TheoremA, TheoremB, GivesInverse, TheoremC, TheoremD, TheoremE, CountsPairs, TheoremF, TheoremG, pairsWith, pairsBelow, pairsAbove}
+use Rattle.gf2.specs.Statements.{TheoremA, TheoremH, TheoremB, GivesInverse, TheoremC, TheoremD, TheoremE, CountsPairs, TheoremF, TheoremG, pairsWith, pairsBelow, pairsAbove}
 use Rattle.gf2.proofs.Monoid.{nats, big, big-ext, sum-big}
 use Rattle.gf2.proofs.Parity.{bit, bit-inj}
 use Rattle.gf2.proofs.Index.{Ix, ix-path, at, at-num, num-at, num-minus}
 use Rattle.gf2.proofs.IndexSums.{Σ-ext, sum-Σ}
 use Rattle.gf2.proofs.Vector.{Vec, turn}
 use Rattle.gf2.proofs.VectorProduct.{pair}
-use Rattle.gf2.proofs.VectorField.{Laws, field, rule7 as rule7ᵛ, check-field, rule6-first, rows-differ, t, t-inverse, t-turn-pow, t-unique}
+use Rattle.gf2.proofs.VectorField.{Laws, field, field-unit, rule7 as rule7ᵛ, check-field, rule6-first, rows-differ, t, t-inverse, t-turn-pow, t-unique}
 use Rattle.gf2.proofs.VectorCounts.{onesOf, halfPairs, count-pairs, diagonal-pair, count-swap, count-half, count-least}
 use Rattle.gf2.proofs.OperandVectors.{bit-coord, bytes-fit, vec, bytes, operand-vec, zeroes-vec, ones-vec, bytes-inj}
 use Rattle.gf2.proofs.TableVectors.{rows, row-vec, pair-odd, product-vec, product-bytes, reduced-vec, distance-vec, symmetric, rule6, rule7}
-use Rattle.gf2.proofs.FieldVectors.{laws, accepted, from-field, from-squares, to-field, to-squares}
+use Rattle.gf2.proofs.FieldVectors.{laws, accepted, from-unit, from-field, from-squares, to-field, to-squares}
 use Rattle.gf2.proofs.Chain.{log2-bounds, products-made, inverse-vec, power-vec}
 
 pub theoremA : TheoremA
@@ -33,6 +33,12 @@ theoremA (suc p) table two is = (
       (from-field p table is (h .0), from-squares p table is (h .1)),
   λ h. accepted p table is two (check-field (rows p table) .1 (to-field p table is (h .0), to-squares p table is (h .1))),
 )
+
+pub theoremH : TheoremH
+theoremH zero table two is k = absurd (omega arith)
+theoremH (suc p) table two is k =
+    let c = laws p table is two (k .symmetric) (k .rule6) in
+    rw (ones-vec p (bytesFor (suc p)), ← field-unit (rows p table) c) (from-unit p table is (field (rows p table) c))
 
 module _ (n p : ℕ) (table : List ℕ) (two : 1 < suc p) (fits : suc p ≤ 8 * n) (is : IsTable (suc p) table) (c : Laws (rows p table)) where
   -- of the operand with the vector v

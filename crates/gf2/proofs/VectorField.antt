@@ -190,6 +190,10 @@ module _ {p : ℕ} (T : Ix p → Vec p) where
       inverse = λ a n. (turn (at 1) (t p a), t-inverse a n);
     }
 
+    pub field-unit : field .unit ≡ ones
+    unfolding field
+    field-unit = refl
+
     -- only that vector has product one with a
     pub t-unique : (a b : Vec p) → a · b ≡ ones → b ≡ turn (at 1) (t p a)
     unfolding field

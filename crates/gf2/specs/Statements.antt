@@ -1,5 +1,6 @@
 -- What is proved of tables, products and inverses: the statements alone, over lists of bytes and the definitions of specs/.
--- A: the check accepts a table just when its operands form a field whose square is the turn by one.
+-- A: the check accepts a table exactly when its operands form a field whose square is the turn by one.
+-- H: the operand that leaves every operand of that field unchanged is one.
 -- B: the chain gives the inverse, with a known number of products.
 -- C: rule 7 follows from rules 4, 5 and 6.
 -- F: under rules 4 and 5, rule 6 follows from rule 6 for i = 0.
@@ -17,12 +18,17 @@ use Rattle.gf2.specs.Operands.{bytesFor, minus, IsOperand, zeroes, ones}
 use Rattle.gf2.specs.Tables.{IsTable, row, pairProduct, onesIn}
 use Rattle.gf2.specs.Products.{product, reduced, byDistance}
 use Rattle.gf2.specs.Check.{Rule6, Rule7, Symmetric, Accepted}
-use Rattle.gf2.specs.Field.{Field, Squares}
+use Rattle.gf2.specs.Field.{IsUnit, Field, Squares}
 use Rattle.gf2.specs.Inverse.{log2, binaryOnes, inverse, productsMade}
 
--- A table is accepted just when the operands of its width form a field under it whose square is the turn by one.
+-- A table is accepted exactly when the operands of its width form a field under it whose square is the turn by one.
 abbrev pub TheoremA : Type 0
 TheoremA = (m : ℕ) (table : List ℕ) → 2 ≤ m → IsTable m table → Accepted m table ↔ (Field m table × Squares m table)
+
+-- Under an accepted table one is the operand that "leaves every a unchanged as a factor; and every a but zero has some b for which a·b is
+-- that operand".
+abbrev pub TheoremH : Type 0
+TheoremH = (m : ℕ) (table : List ℕ) → 2 ≤ m → IsTable m table → Accepted m table → IsUnit m table (ones (bytesFor m) m)
 
 -- a^k by repeated product; a^0 is one
 unfoldable pub power : ℕ → List ℕ → ℕ → List ℕ → List ℕ
