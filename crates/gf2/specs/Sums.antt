@@ -1,5 +1,5 @@
 -- Sums of numbers, and a test of every number below a bound.
-use mathlib.Core.Bool.{Bool, true, false, _&&_}
+use mathlib.Core.Bool.{Bool, true, _&&_}
 use Prim.Native.Nat.{ℕ, zero, suc, _+_}
 
 -- f 0 + f 1 + .. + f (n - 1)

@@ -1,12 +1,12 @@
 -- The value of each call, from what its kernels give: zero, one, sum, trace, solution, read and written bytes.
 use mathlib.Core.Path.{_≡_, refl, sym, ap, _∙_}
 use mathlib.Core.Bool.{Bool, true, false, not}
-use mathlib.Core.List.{List, [], _∷_}
+use mathlib.Core.List.{List}
 use Prim.Native.Nat.{ℕ, zero, suc, _+_, _-_, _*_, _/_, _%_, _^_, _<_, _≤_}
 use native.Mathlib.Nat.{mod-eq-of-lt, mod-mod, add-zero}
 use native.Mathlib.Decide.{decLt}
 use native.Mathlib.Omega.{arith}
-use lib.ListN.{length, getD, replicate, length-replicate, getD-replicate}
+use lib.ListN.{length, replicate, getD-replicate}
 use lib.Dec.{eqb}
 use borrow.Author.Tests.{eqb-true}
 use Rattle.gf2.specs.Sums.{sum, every}
@@ -14,8 +14,8 @@ use Rattle.gf2.specs.Coordinates.{coord, value, tabulate, pack}
 use Rattle.gf2.specs.Operands.{maxWidth, bytesFor, carriedBytes, isClear, below, fromCoords, zeroes, ones, added}
 use Rattle.gf2.specs.Quadratic.{trace, rootCoord, root}
 use Rattle.gf2.proofs.Parity.{bool-ext}
-use Rattle.gf2.proofs.Sums.{sum-ext, sum-split, every-at}
-use Rattle.gf2.proofs.Coordinates.{coord-lt, coord-past, coord-pack, pack-ext, coord-none, length-pack}
+use Rattle.gf2.proofs.Sums.{sum-split, every-at}
+use Rattle.gf2.proofs.Coordinates.{coord-lt, coord-past, coord-pack, pack-ext, length-pack}
 use Rattle.gf2.proofs.Operands.{from-ext, clear-at, clear-of, below-in, below-out}
 use Rattle.operand.specs.declared.Operand.{Operand}
 use Rattle.operand.specs.declared.fault.Fault.the-variants.{HighBit, TraceOne}

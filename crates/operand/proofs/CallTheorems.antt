@@ -1,8 +1,8 @@
 -- The proofs of `CallLaws` in specs/Statements.antt: when 10 is given, and the way to W bytes and back.
-use mathlib.Core.Path.{_≡_, refl, sym, ap, ap₂, _∙_}
-use mathlib.Core.Bool.{Bool, true, false}
-use mathlib.Core.List.{List, [], _∷_}
-use Prim.Native.Nat.{ℕ, _+_, _*_, _%_, _<_, _≤_}
+use mathlib.Core.Path.{_≡_, sym, ap, _∙_}
+use mathlib.Core.Bool.{true}
+use mathlib.Core.List.{List}
+use Prim.Native.Nat.{ℕ, _%_, _<_}
 use native.Mathlib.Decide.{ℕ-discrete}
 use native.Mathlib.Nat.{mod-eq-of-lt}
 use native.Mathlib.Omega.{arith}
@@ -10,16 +10,15 @@ use lib.ListN.{length, getD}
 use Rattle.gf2.specs.Coordinates.{coord, pack}
 use Rattle.gf2.specs.Operands.{bytesFor, carriedBytes, IsOperand}
 use Rattle.gf2.specs.Quadratic.{trace, root}
-use Rattle.gf2.proofs.Coordinates.{pack-eq, pack-byte, length-pack, coord-pack, coord-lt, coord-past, pack-coord}
+use Rattle.gf2.proofs.Coordinates.{pack-eq, pack-byte, length-pack, coord-lt, coord-past}
 use Rattle.gf2.proofs.Operands.{from-operand, clear-at}
 use Rattle.operand.specs.declared.Operand.{Operand}
-use Rattle.operand.specs.declared.fault.Fault.{Fault}
 use Rattle.operand.specs.declared.fault.Fault.the-variants.{None, TraceOne}
 use Rattle.operand.specs.Faults.{isNone, firstOf, orElse}
-use Rattle.operand.specs.Judgements.{widthFault, lengthFault, highFault, traceFault, operandFault, bytesFault, roomFault}
+use Rattle.operand.specs.Judgements.{traceFault, bytesFault, roomFault}
 use Rattle.operand.specs.Calls.{answer, solveCall, readCall, writeCall}
 use Rattle.operand.specs.Statements.{quadratic, QuadraticLaws, IsCarried, CallLaws}
-use Rattle.operand.proofs.FaultLaws.{two-second, trace-one, trace-none, bytes-fine, none-is}
+use Rattle.operand.proofs.FaultLaws.{two-second, trace-one, trace-none, bytes-fine}
 use Rattle.operand.proofs.FaultFree.{IsWidth, carry, done, operand-none, width-none, length-none, high-none}
 use Rattle.operand.proofs.CallLaws.{coord-repacked}
 use Rattle.operand.proofs.Theorems.{operand-laws}

@@ -19,7 +19,7 @@ use Rattle.gf2.proofs.Sums.{sum-ext, sum-split, sum-swap, sum-digits, sum-mod}
 use Rattle.gf2.proofs.Coordinates.{value-ext, value-lt, value-bit, value-eq, value-xor, pack-ext, xor-bit, shl-bit, shl-bit-out}
 use Rattle.gf2.proofs.Loops.{Filled, filled-none, filled-more, filled-all}
 use Rattle.operand.specs.Words.{wordCoord, packWords}
-use Rattle.operand.proofs.WordCoords.{word-lt, word-digit}
+use Rattle.operand.proofs.WordCoords.{word-digit}
 
 -- the sum of the first n bits of a number
 abbrev pub bits : ℕ → ℕ → ℕ

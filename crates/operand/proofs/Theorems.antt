@@ -1,19 +1,17 @@
 -- The proofs of the statements in specs/Statements.antt.
 -- Turns and sums by the vectors of operands; the quadratic by its coordinates; the transfer by the coordinates of bytes.
-use mathlib.Core.Path.{_≡_, refl, sym, subst, ap, ap₂, fun-ext, _∙_}
+use mathlib.Core.Path.{_≡_, refl, sym, subst, ap, fun-ext, _∙_}
 use mathlib.Core.Bool.{Bool, true, false}
 use mathlib.Core.List.{List}
 use Prim.Native.Nat.{ℕ, zero, suc, _+_, _-_, _*_, _%_, _<_, _≤_}
 use native.Mathlib.Nat.{mod-lt}
 use native.Mathlib.Omega.{arith}
-use lib.ListN.{length, getD}
-use Rattle.gf2.specs.Sums.{sum}
 use Rattle.gf2.specs.Coordinates.{coord}
 use Rattle.gf2.specs.Operands.{minus, IsOperand, zeroes, added, turned, squared}
 use Rattle.gf2.specs.Quadratic.{trace, rootCoord, root}
 use Rattle.gf2.proofs.Coordinates.{coord-lt}
 use Rattle.gf2.proofs.Parity.{odd, bits, _⊕_, xor-self, xor-cancel, xor-comm, xor-assoc, odd-eq, odd-mod, odd-zero}
-use Rattle.gf2.proofs.Index.{Ix, at, _⊹_, _⊖_, o, num-at, add-sub, at-add}
+use Rattle.gf2.proofs.Index.{at, _⊖_, o, num-at, add-sub, at-add}
 use Rattle.gf2.proofs.IndexSums.{Σ, Σ-plus, Σ-shift, odd-Σ}
 use Rattle.gf2.proofs.Vector.{Vec, turn, add, zeros, add-comm, add-assoc, add-zeros, add-self, turn-turn, turn-z, turn-suc, turn-all, turn-add, fixed}
 use Rattle.gf2.proofs.Operands.{coord-from, from-operand, operand-ext, minus-below, minus-round, turned-operand, added-operand, coord-turned, coord-added}

@@ -1,5 +1,5 @@
 -- The faults of a width, a length, an operand, a turn count and a trace, each by its cause in document 01's table.
-use mathlib.Core.Bool.{Bool, not, _&&_}
+use mathlib.Core.Bool.{not, _&&_}
 use mathlib.Core.List.{List, [], _∷_}
 use Prim.Native.Nat.{ℕ}
 use lib.Dec.{leb, eqb}

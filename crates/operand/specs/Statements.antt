@@ -1,7 +1,7 @@
 -- What is proved of the calls on operands beside their contracts: the statements alone, over the definitions that the contracts cite.
 -- Turns: two turns are one; none and a whole round change nothing; the square is the turn by one.
 -- Sums: associative, commutative, each operand its own inverse.
--- Quadratic: the solution's coordinate 0 is 0, it solves, it is the only one, and 10 is given just when there is none.
+-- Quadratic: the solution's coordinate 0 is 0, it solves, it is the only one, and 10 is given exactly when there is none.
 -- Transfer: an operand written and read comes back, and so do bytes read and written.
 use mathlib.Core.Path.{_≡_}
 use mathlib.Core.Logic.{_↔_}
@@ -12,7 +12,6 @@ use Rattle.gf2.specs.Coordinates.{coord}
 use Rattle.gf2.specs.Operands.{maxWidth, bytesFor, carriedBytes, IsOperand, zeroes, added, turned, squared}
 use Rattle.gf2.specs.Quadratic.{trace, root}
 use Rattle.operand.specs.declared.Operand.{Operand}
-use Rattle.operand.specs.declared.OperandAnswer.{OperandAnswer}
 use Rattle.operand.specs.declared.fault.Fault.the-variants.{None, TraceOne}
 use Rattle.operand.specs.Calls.{solveCall, readCall, writeCall}
 
@@ -56,7 +55,7 @@ pub record IsCarried (a : Operand) : Type 0 where
   pub operand : IsOperand carriedBytes (a .width) (a .bytes)
 
 pub record CallLaws : Type 0 where
-  -- 10 is given just when no z solves the equation
+  -- 10 is given exactly when no z solves the equation
   pub unsolvable : (c : Operand) → IsCarried c →
       (solveCall c .fault ≡ TraceOne) ↔ ((z : List ℕ) → IsOperand carriedBytes (c .width) z → ¬ (quadratic (c .width) z ≡ c .bytes))
   -- writing an operand and reading it gives it back

@@ -3,7 +3,6 @@
 ghost use mathlib.Core.Path.{_≡_};
 ghost use mathlib.Core.List.{[], _∷_};
 ghost use Prim.Native.Nat.{_*_};
-ghost use lib.ListN.{length};
 ghost use Rattle.gf2.specs.Coordinates.{coord, pack};
 ghost use Rattle.gf2.specs.Operands.{bytesFor, carriedBytes};
 ghost use Rattle.operand.specs.Faults.{firstOf};

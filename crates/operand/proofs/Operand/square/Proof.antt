@@ -1,5 +1,5 @@
 -- `operand::Operand::square` meets its contract.
-use mathlib.Core.Path.{_≡_, ap, _∙_}
+use mathlib.Core.Path.{ap, _∙_}
 use Rattle.gf2.specs.Operands.{turned, squared}
 use Rattle.operand.specs.Calls.{answer}
 use Rattle.operand.proofs.FaultLaws.{square-fault}

@@ -1,5 +1,5 @@
 -- `operand::quadratic::root_words` meets its contract.
-use Prim.Native.Nat.{ℕ, _-_}
+use Prim.Native.Nat.{_-_}
 use native.Mathlib.Omega.{arith}
 use Rattle.operand.specs.Words.{carriedWords}
 use Rattle.operand.proofs.QuadraticWords.{Rooted, rooted-none, rooted-carry, rooted-more, rooted-all}

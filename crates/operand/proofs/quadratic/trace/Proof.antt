@@ -1,6 +1,6 @@
 -- `operand::quadratic::trace` meets its contract.
 use mathlib.Core.Path.{_≡_, ap, _∙_}
-use Prim.Native.Nat.{ℕ, _*_, _%_}
+use Prim.Native.Nat.{_*_, _%_}
 use lib.ListN.{length}
 use Rattle.gf2.specs.Sums.{sum}
 use Rattle.gf2.specs.Operands.{carriedBytes}

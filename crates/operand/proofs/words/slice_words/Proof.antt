@@ -1,5 +1,5 @@
 -- `operand::words::slice_words` meets its contract.
-use Prim.Native.Nat.{ℕ, _+_, _-_, _*_}
+use Prim.Native.Nat.{_+_, _-_, _*_}
 use native.Mathlib.Omega.{arith}
 use Rattle.gf2.specs.Coordinates.{coord, value}
 use Rattle.gf2.proofs.Loops.{Filled, filled-none, filled-more, filled-all}

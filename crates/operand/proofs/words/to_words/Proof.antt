@@ -1,6 +1,6 @@
 -- `operand::words::to_words` meets its contract.
 use mathlib.Core.Path.{refl, _∙_}
-use Prim.Native.Nat.{ℕ, _+_, _-_, _*_}
+use Prim.Native.Nat.{_+_, _-_, _*_}
 use native.Mathlib.Omega.{arith}
 use Rattle.gf2.specs.Coordinates.{coord, value}
 use Rattle.gf2.proofs.Loops.{Filled, filled-none, filled-more, filled-all}
