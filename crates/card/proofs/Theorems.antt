@@ -15,7 +15,7 @@ use Rattle.operand.specs.declared.fault.Fault.the-variants.{None}
 use Rattle.operand.specs.Faults.{isNone, orElse, firstOf}
 use Rattle.table.specs.Rows.{Shaped}
 use Rattle.table.specs.Judgements.{shapeFault}
-use Rattle.table.proofs.Shapes.{shape-fine}
+use Rattle.table.proofs.Shapes.{shape-none}
 use Rattle.card.specs.Numbers.{number, Read, refused, got}
 use Rattle.card.specs.Rows.{places, steps, rowCard, rowsCard}
 use Rattle.card.specs.Cards.{card, Table, readCard}
@@ -59,7 +59,7 @@ module _ (m : ℕ) (table out : List ℕ) (shape : shapeFault m table ≡ None) 
 card-trip : (s old : List ℕ) (t : Table) → CardRead (length old) s t → CardTrip s (t .width) (t .bytes)
 card-trip s old t r =
     let shaped : Shaped (t .width) (t .bytes) = record { least = r .lent .least; greatest = r .lent .greatest; isTable = r .isTable } in
-    let none = shape-fine (t .width) (t .bytes) (r .small) .1 shaped in
+    let none = shape-none shaped in
     record {
       least = r .lent .least;
       greatest = r .lent .greatest;

@@ -105,12 +105,6 @@ rows-written m table start (suc count) s rest small e =
 pub record RowsTable (m count : ℕ) (t : List ℕ) : Type 0 where
   pub size : length t ≡ count * bytesFor m
   pub rows : (d : ℕ) → d < count → IsOperand (bytesFor m) m (row m t d)
-  pub bytes : Bytes t
-
-bytes-append : (x t : List ℕ) → Bytes x → Bytes t → Bytes (x ++ t)
-bytes-append [] t hx ht b = ht b
-bytes-append (a ∷ x) t hx ht zero = hx 0
-bytes-append (a ∷ x) t hx ht (suc b) = bytes-append x t (λ c. hx (suc c)) ht b
 
 row-first : (m : ℕ) (x t : List ℕ) → length x ≡ bytesFor m → row m (x ++ t) 0 ≡ x
 unfolding row
@@ -126,7 +120,7 @@ pub rows-table : (m count : ℕ) (s t rest : List ℕ) → readRows m count s �
 unfolding readRows
 rows-table m zero s t rest e =
     let et : [] ≡ t = cc in
-    rw (← et) (record { size = rw zero-mul; rows = λ d l. absurd (omega arith); bytes = λ b. omega arith })
+    rw (← et) (record { size = rw zero-mul; rows = λ d l. absurd (omega arith) })
 rows-table m (suc count) s t rest e =
     let (ps, q, e1, e2) = parts (readRow m s) (λ ps r. after (rowOf m ps) (readRows m count r)) e in
     let (w, e3, e4) = after-got (rowOf m ps) (readRows m count q) e2 in
@@ -135,7 +129,6 @@ rows-table m (suc count) s t rest e =
     rw e4 (record {
       size = rw (length-append, size, more .size, suc-mul) (omega arith);
       rows = λ d l. each ps w size more d l;
-      bytes = bytes-append (rowOf m ps) w (from-operand (bytesFor m) m (isPlace ps) .byte) (more .bytes);
     })
   where
     each : (ps w : List ℕ) → length (rowOf m ps) ≡ bytesFor m → RowsTable m count w → (d : ℕ) → d < suc count → IsOperand (bytesFor m) m (row m (rowOf m ps ++ w) d)
@@ -220,7 +213,6 @@ pub record CardRead (room : ℕ) (s : List ℕ) (t : Table) : Type 0 where
   pub lent : Lent room (t .width)
   pub isCard : s ≡ card (t .width) (t .bytes)
   pub isTable : IsTable (t .width) (t .bytes)
-  pub small : Bytes (t .bytes)
 
 ended-got : (m : ℕ) (x : Read (List ℕ)) {t : Table} {rest : List ℕ} → ended m x ≡ got t rest → (x ≡ got (t .bytes) []) × (m ≡ t .width)
 ended-got m (refused f) e = no-value e
@@ -243,5 +235,4 @@ card-written room s t rest small e =
       lent = h .lent;
       isCard = n1 .isNumber ∙ rw (n2 .isNumber, are .areRows, append-nil);
       isTable = record { size = shape .size; rows = shape .rows };
-      small = shape .bytes;
     }

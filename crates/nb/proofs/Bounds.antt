@@ -65,9 +65,9 @@ module _ (m : ℕ) (t : List ℕ) {r : OnesAnswer} (e : r ≡ onesCall m t) wher
   ones-packs = subst (λ (r : OnesAnswer). Packs (r .fault) (r .ones) 0) (sym e) (small-shape m t, λ n. (rw n (ones-small m t (shape-greatest m t n)), omega arith))
 
 -- the gates of a list by kind, each from the numbers of ones and of all-ones rows of a table that keeps rules 4 and 5
-module _ (m : ℕ) (t : List ℕ) (small : Bytes t) (n : isNone (symmetryFault m t) ≡ true) where
+module _ (m : ℕ) (t : List ℕ) (n : isNone (symmetryFault m t) ≡ true) where
   shaped : Shaped m t
-  shaped = table-fine m t small n .0
+  shaped = table-fine m t n .0
 
   ands-small : m * m < valueLimit
   ands-small = omega (arith, width-times m m maxWidth (shaped .greatest) (shaped .greatest))
@@ -86,7 +86,7 @@ module _ (m : ℕ) (t : List ℕ) (small : Bytes t) (n : isNone (symmetryFault m
   reduced-small = omega (arith, times-small (onesIn m t + m - 2) (omega (arith, ones-few, shaped .greatest)))
 
   common-small : commonXors m (onesIn m t) (fullRows m t) < valueLimit
-  common-small = go (fullRows m t) (shared-ones m t (shaped .least) (shaped .isTable) (table-fine m t small n .1))
+  common-small = go (fullRows m t) (shared-ones m t (shaped .least) (shaped .isTable) (table-fine m t n .1))
     where
       go : (q : ℕ) → m * q ≤ onesIn m t → commonXors m (onesIn m t) q < valueLimit
       go zero h = plain-small
@@ -112,15 +112,15 @@ module _ (m : ℕ) (t : List ℕ) (list : Netlist) (old : List ℕ) where
   unfolding listFault firstOf
   judged-list n = or-both _ _ n .0
 
-module _ (m : ℕ) (t : List ℕ) (small : Bytes t) {r : CountsAnswer} where
+module _ (m : ℕ) (t : List ℕ) {r : CountsAnswer} where
   pub plain-packs : r ≡ countsPlainCall m t → PacksCounts r
-  plain-packs e = packs _ _ e (small-symmetry m t) (λ n. (ands-small m t small n, plain-small m t small n))
+  plain-packs e = packs _ _ e (small-symmetry m t) (λ n. (ands-small m t n, plain-small m t n))
 
   pub reduced-packs : r ≡ countsReducedCall m t → PacksCounts r
-  reduced-packs e = packs _ _ e (small-symmetry m t) (λ n. (ands-small m t small n, reduced-small m t small n))
+  reduced-packs e = packs _ _ e (small-symmetry m t) (λ n. (ands-small m t n, reduced-small m t n))
 
   pub common-packs : r ≡ countsCommonCall m t → PacksCounts r
-  common-packs e = packs _ _ e (small-symmetry m t) (λ n. (ands-small m t small n, common-small m t small n))
+  common-packs e = packs _ _ e (small-symmetry m t) (λ n. (ands-small m t n, common-small m t n))
 
   module _ (old : List ℕ) where
     -- a written list's gates, which are those that are counted
@@ -128,17 +128,17 @@ module _ (m : ℕ) (t : List ℕ) (small : Bytes t) {r : CountsAnswer} where
         r ≡ listCall m t list old → PacksCounts r
     list-packs list x g h e = packs _ _ e (small-list m t list old) (λ n.
         let k = judged-list m t list old n in
-        let f = table-fine m t small k in
-        (rw (g (f .0) (f .1) .ands) (ands-small m t small k), rw (g (f .0) (f .1) .xors) (h k)))
+        let f = table-fine m t k in
+        (rw (g (f .0) (f .1) .ands) (ands-small m t k), rw (g (f .0) (f .1) .xors) (h k)))
 
     pub plain-list-packs : r ≡ listCall m t (plain m t) old → PacksCounts r
-    plain-list-packs = list-packs (plain m t) _ (λ s y. plain-gates m t (s .least) (s .isTable) y) (plain-small m t small)
+    plain-list-packs = list-packs (plain m t) _ (λ s y. plain-gates m t (s .least) (s .isTable) y) (plain-small m t)
 
     pub reduced-list-packs : r ≡ listCall m t (reduced m t) old → PacksCounts r
-    reduced-list-packs = list-packs (reduced m t) _ (λ s y. reduced-gates m t (s .least) (s .isTable) y) (reduced-small m t small)
+    reduced-list-packs = list-packs (reduced m t) _ (λ s y. reduced-gates m t (s .least) (s .isTable) y) (reduced-small m t)
 
     pub common-list-packs : r ≡ listCall m t (common m t) old → PacksCounts r
-    common-list-packs = list-packs (common m t) _ (λ s y. common-gates m t (s .least) (s .isTable) y) (common-small m t small)
+    common-list-packs = list-packs (common m t) _ (λ s y. common-gates m t (s .least) (s .isTable) y) (common-small m t)
 
 -- types
 type-packs : (f : Fault) (m : ℕ) → Small f → (isNone f ≡ true → isNone (widthFault m) ≡ true) → {r : TypeAnswer} → r ≡ typed f m →

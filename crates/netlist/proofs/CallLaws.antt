@@ -14,16 +14,16 @@ use Rattle.gf2.specs.Tables.{IsTable, row, onesIn}
 use Rattle.gf2.specs.Check.{Symmetric}
 use Rattle.gf2.proofs.Coordinates.{coord-lt}
 use Rattle.operand.specs.declared.fault.Fault.{Fault}
-use Rattle.operand.specs.declared.fault.Fault.the-variants.{None, OutputShort}
+use Rattle.operand.specs.declared.fault.Fault.the-variants.{OutputShort}
 use Rattle.operand.specs.Faults.{isNone, when}
 use Rattle.operand.specs.Calls.{chooseBytes}
 use Rattle.operand.proofs.FaultLaws.{none-is, two-first, two-second}
 use Rattle.table.specs.Rows.{Shaped}
 use Rattle.table.specs.declared.OnesAnswer.{OnesAnswer}
-use Rattle.table.specs.Judgements.{shapeFault, symmetryFault}
+use Rattle.table.specs.Judgements.{symmetryFault}
 use Rattle.table.specs.Calls.{onesCall}
-use Rattle.table.specs.Statements.{Bytes}
-use Rattle.table.proofs.Theorems.{shape, symmetry}
+use Rattle.table.proofs.Shapes.{shape-none}
+use Rattle.table.proofs.Theorems.{symmetry}
 use Rattle.netlist.specs.declared.CountsAnswer.{CountsAnswer}
 use Rattle.netlist.specs.declared.counts.Method.{Method}
 use Rattle.netlist.specs.declared.counts.Method.the-variants.{Plain as ByPlain, Reduced as ByReduced, Common as ByCommon}
@@ -53,8 +53,8 @@ ones-most m table = sum-most m m _ (λ d. row-ones (row m table d))
     row-ones bytes = omega (arith, sum-most m 1 (coord bytes) (λ s. omega (arith, coord-lt bytes s)), mul-one m)
 
 -- a table that has passed
-pub table-fine : (m : ℕ) (table : List ℕ) → Bytes table → isNone (symmetryFault m table) ≡ true → Shaped m table × Symmetric m table
-table-fine m table b e = symmetry m table b .0 (none-is _ e)
+pub table-fine : (m : ℕ) (table : List ℕ) → isNone (symmetryFault m table) ≡ true → Shaped m table × Symmetric m table
+table-fine m table e = symmetry m table .0 (none-is _ e)
 
 -- answers
 pub answer-fault : {f : Fault} (a x : ℕ) {c : CountsAnswer} → c ≡ answer f a x → c .fault ≡ f
@@ -151,14 +151,11 @@ pub common-some : (m ones q : ℕ) → (q ≡ 0 → ⊥) → m * (ones - m * q) 
 common-some m ones q h = if-some q (m * (ones - 1)) (m * (ones - m * q) + m * q - 1) h
 
 -- the number of ones that the crate table gives
-pub ones-given : (m : ℕ) (table : List ℕ) (r : OnesAnswer) → Bytes table → Shaped m table → r ≡ onesCall m table → (r .ones ≡ onesIn m table) × (r .ones ≤ m * m)
-ones-given m table r b s e = (same, rw same (ones-most m table))
+pub ones-given : (m : ℕ) (table : List ℕ) (r : OnesAnswer) → Shaped m table → r ≡ onesCall m table → (r .ones ≡ onesIn m table) × (r .ones ≤ m * m)
+ones-given m table r s e = (same, rw same (ones-most m table))
   where
-    none : shapeFault m table ≡ None
-    none = shape m table b .1 s
-
     same : r .ones ≡ onesIn m table
-    same = ap (λ (r : OnesAnswer). r .ones) e ∙ (unfold onesCall isNone in rw none)
+    same = ap (λ (r : OnesAnswer). r .ones) e ∙ (unfold onesCall isNone in rw (shape-none s))
 
 -- the answer of a call that has delivered the list l
 pub list-answer : (m : ℕ) (table : List ℕ) (list l : Netlist) (old : List ℕ) (x : ℕ) {c r : CountsAnswer} {out : List ℕ} → Gates list (m * m) x → isNone (symmetryFault m table) ≡ true →

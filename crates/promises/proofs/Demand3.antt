@@ -28,7 +28,7 @@ module _ (m : ℕ) (table : List ℕ) (two : 2 ≤ m) (w : m ≤ maxWidth) (byte
   shaped = record { least = two; greatest = w; isTable = is }
 
   check : (checkFault m table ≡ None) ↔ (Field m table × Squares m table)
-  check = (λ e. let h = fields m table bytes .0 e in (h .1, h .2), λ h. fields m table bytes .1 (shaped, h .0, h .1))
+  check = (λ e. let h = fields m table .0 e in (h .1, h .2), λ h. fields m table .1 (shaped, h .0, h .1))
 
   -- the runner's definitions on a list's words
   runs : (list : Netlist) (xors : ℕ) → ListHolds m table list xors → RunsToProduct m table list
@@ -42,7 +42,7 @@ module _ (m : ℕ) (table : List ℕ) (two : 2 ≤ m) (w : m ≤ maxWidth) (byte
 
   module _ (e : checkFault m table ≡ None) where
     accepted : Accepted m table
-    accepted = acceptance m table bytes .0 e .1
+    accepted = acceptance m table .0 e .1
 
     lists : ListsHold m table
     lists = theoremLists m table two is (accepted .symmetric)
@@ -53,7 +53,7 @@ module _ (m : ℕ) (table : List ℕ) (two : 2 ≤ m) (w : m ≤ maxWidth) (byte
     -- the counts are reported without a fault
     reported : (ands xors : ℕ) → answer (symmetryFault m table) ands xors ≡ counted ands xors
     unfolding answer isNone
-    reported ands xors = rw (symmetry m table bytes .1 (shaped, accepted .symmetric))
+    reported ands xors = rw (symmetry m table .1 (shaped, accepted .symmetric))
 
     -- the gates of the common list as it holds them and as they are reported
     common-gates : (xors : ℕ) → Counted (common m table) (m * m) xors → HasGates (common m table) (countsCommonCall m table) (m * m) xors

@@ -59,7 +59,7 @@ unfolding countsLine answer
 counts-length word f a x h k = line-two word _ _ (choose-small (isNone f) a h) (choose-small (isNone f) x k)
 
 -- the numbers of a table that is accepted
-module _ (m : ℕ) (table : List ℕ) (small : Bytes table) (shaped : Shaped m table) where
+module _ (m : ℕ) (table : List ℕ) (shaped : Shaped m table) where
   square : m * m ≤ 65025
   square = mul-le-mul {n₁ = m} {m₁ = m} {n₂ = maxWidth} {m₂ = maxWidth} (shaped .greatest) (shaped .greatest)
 
@@ -70,7 +70,7 @@ module _ (m : ℕ) (table : List ℕ) (small : Bytes table) (shaped : Shaped m t
   reduced-small = omega (arith, width-times m (onesIn m table + m - 2) 65300 (shaped .greatest) (omega (arith, ones-most m table, square, shaped .greatest)))
 
   common-small : checkFault m table ≡ None → commonXors m (onesIn m table) (fullRows m table) < great
-  common-small e = go (fullRows m table) (shared-ones m table (shaped .least) (shaped .isTable) (accepted-table m table small .0 e .1 .symmetric))
+  common-small e = go (fullRows m table) (shared-ones m table (shaped .least) (shaped .isTable) (accepted-table m table .0 e .1 .symmetric))
     where
       go : (q : ℕ) → m * q ≤ onesIn m table → commonXors m (onesIn m table) q < great
       go zero h = plain-small
@@ -111,7 +111,7 @@ read-length : (s : List ℕ) → Bytes s → (x : Read Table) → readCard lent 
 read-length s small (refused f) q = omega (arith, refusal-length f)
 read-length s small (got t rest) q =
     let r = card-written lent s t rest small q in
-    table-length (t .width) (t .bytes) (r .small) (record { least = r .lent .least; greatest = r .lent .greatest; isTable = r .isTable })
+    table-length (t .width) (t .bytes) (record { least = r .lent .least; greatest = r .lent .greatest; isTable = r .isTable })
 
 pub report-length : (s : List ℕ) → Bytes s → length (report s) ≤ room
 unfolding report

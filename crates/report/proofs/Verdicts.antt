@@ -18,7 +18,8 @@ use Rattle.table.specs.Rows.{Shaped, mirrors, associates}
 use Rattle.table.specs.Judgements.{same, shapeFault, rowZeroFault, rowPairFault, tripleFault, symmetryFault, checkFault}
 use Rattle.table.proofs.Searches.{three-first, three-second, three-third}
 use Rattle.table.proofs.Rules.{mirrorFault, mirror-search, pairFault, rowFault, triple-search}
-use Rattle.table.proofs.Theorems.{shape, row-sums}
+use Rattle.table.proofs.Shapes.{shape-none}
+use Rattle.table.proofs.Theorems.{row-sums}
 use Rattle.card.specs.Numbers.{pick, Read, refused, got}
 use Rattle.card.specs.Cards.{Table, lentFault, readCard}
 use Rattle.card.specs.Statements.{Bytes}
@@ -66,7 +67,7 @@ from-apart : (start count : ℕ) (f : ℕ → Fault) → ((i : ℕ) → barred (
 from-apart start count f p = from-keeps Apart none-apart start count f (λ d l h. p d)
 
 -- the check of a table that was read
-module _ (m : ℕ) (t : List ℕ) (small : Bytes t) (shaped : Shaped m t) where
+module _ (m : ℕ) (t : List ℕ) (shaped : Shaped m t) where
   row-zero-apart : barred (rowZeroFault m t) ≡ false
   unfolding rowZeroFault
   row-zero-apart = when-apart (not (same (row m t 0) (basis m 1))) RowZero zero-four
@@ -82,7 +83,7 @@ module _ (m : ℕ) (t : List ℕ) (small : Bytes t) (shaped : Shaped m t) where
   symmetry-apart : barred (symmetryFault m t) ≡ false
   unfolding symmetryFault firstOf
   symmetry-apart =
-      or-apart (shapeFault m t) _ (ap barred (shape m t small .1 shaped) ∙ none-apart)
+      or-apart (shapeFault m t) _ (ap barred (shape-none shaped) ∙ none-apart)
       (or-apart (rowZeroFault m t) _ row-zero-apart (or-apart (rowPairFault m t) None row-pair-apart none-apart))
 
   check-apart : barred (checkFault m t) ≡ false
@@ -92,7 +93,7 @@ module _ (m : ℕ) (t : List ℕ) (small : Bytes t) (shaped : Shaped m t) where
       go : (a b : Bool) → isNone (symmetryFault m t) ≡ a → isNone (tripleFault m t) ≡ b → barred (checkFault m t) ≡ false
       go false b p q = ap barred (three-first _ _ _ p) ∙ symmetry-apart
       go true false p q = ap barred (three-second _ _ _ p q) ∙ triple-apart
-      go true true p q = ap barred (three-third _ _ _ p q ∙ row-sums m t small (none-is _ p) (none-is _ q)) ∙ none-apart
+      go true true p q = ap barred (three-third _ _ _ p q ∙ row-sums m t (none-is _ p) (none-is _ q)) ∙ none-apart
 
 width-apart : (m : ℕ) → barred (widthFault m) ≡ false
 unfolding widthFault
@@ -115,7 +116,7 @@ read-apart s small (refused f) q =
     card-refusals barred lent (record { ends = refl; number = refl; form = refl; place = refl; tail = refl; lent = lent-apart }) s f q
 read-apart s small (got t rest) q =
     let r = card-written lent s t rest small q in
-    check-apart (t .width) (t .bytes) (r .small) (record { least = r .lent .least; greatest = r .lent .greatest; isTable = r .isTable })
+    check-apart (t .width) (t .bytes) (record { least = r .lent .least; greatest = r .lent .greatest; isTable = r .isTable })
 
 verdict-apart : (s : List ℕ) → Bytes s → barred (verdict s) ≡ false
 unfolding verdict

@@ -1,4 +1,5 @@
 -- Rules 5 and 6 of the check: the fault that is given where the test of one row or of one pair fails.
+-- symmetric-rows: rules 4 and 5 say what each row is made of, so that no element of a row is above 255.
 -- mirror-back, half-search: rule 5 for row d is that for row m-d, so that half of the rows are enough.
 use mathlib.Core.Path.{_≡_, refl, sym, ap, _∙_}
 use mathlib.Core.Bool.{true, not}
@@ -7,15 +8,19 @@ use Prim.Native.Nat.{ℕ, zero, suc, _+_, _-_, _*_, _<_, _≤_}
 use native.Mathlib.Omega.{arith}
 use Rattle.gf2.specs.Operands.{bytesFor, IsOperand, turned}
 use Rattle.gf2.specs.Tables.{row}
+use Rattle.gf2.specs.Check.{Symmetric}
 use Rattle.gf2.proofs.Index.{at, at-add, at-all}
 use Rattle.gf2.proofs.Vector.{turn, turn-turn, turn-z}
 use Rattle.gf2.proofs.OperandVectors.{bytes-fit, vec, bytes, operand-vec, turned-bytes}
+use Rattle.gf2.proofs.Operands.{turned-operand}
 use Rattle.operand.specs.declared.fault.Fault.{Fault}
 use Rattle.operand.specs.declared.fault.Fault.the-variants.{None, RowPair, Triple}
 use Rattle.operand.specs.Faults.{when, firstFrom}
+use Rattle.operand.proofs.ByteLists.{Bytes}
 use Rattle.table.specs.Judgements.{rowPairFault, tripleFault}
 use Rattle.table.specs.Rows.{Shaped, mirrors, leftProduct, rightProduct, associates}
 use Rattle.table.proofs.Searches.{same-correct, when-passes, first-none}
+use Rattle.table.proofs.Carrying.{basis-operand}
 
 module _ (m : ℕ) (t : List ℕ) where
   -- 5 for row d
@@ -36,6 +41,10 @@ module _ (m : ℕ) (t : List ℕ) where
   pub triple-search : tripleFault m t ≡ firstFrom 0 m rowFault
   unfolding tripleFault associates leftProduct rightProduct
   triple-search = refl
+
+pub symmetric-rows : {m : ℕ} {t : List ℕ} → Symmetric m t → (d : ℕ) → d < m → Bytes (row m t d)
+symmetric-rows {m} s zero l = rw (s .rule4) (basis-operand m 1 .byte)
+symmetric-rows {m} {t} s (suc d) l = rw (s .rule5 (suc d) (omega arith) l) (turned-operand {m = m} (row m t (m - suc d)) refl (suc d) .byte)
 
 -- a turn and the rest of the way round
 turn-home : (p n : ℕ) → suc p ≤ 8 * n → (d : ℕ) → d ≤ suc p → {x : List ℕ} → IsOperand n (suc p) x → turned (suc p) d (turned (suc p) (suc p - d) x) ≡ x

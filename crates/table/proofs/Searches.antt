@@ -1,7 +1,7 @@
 -- What `same` and `firstFrom` decide, and the steps of a loop that searches.
 -- same-correct: the same bytes are equal lists. same-words: they are compared as words.
--- three-none: no fault of three is given just where there is none.
--- first-none, first-at, first-is: no fault is found just where there is none; else it is that of the least number.
+-- three-none: no fault of three is given exactly where there is none.
+-- first-none, first-at, first-is: no fault is found exactly where there is none; else it is that of the least number.
 use mathlib.Core.Path.{_≡_, refl, sym, ap, ap₂, _∙_}
 use mathlib.Core.Logic.{_↔_}
 use mathlib.Core.Bool.{Bool, true, false, not, true≢false}
@@ -105,7 +105,7 @@ module _ (f g h : Fault) where
   pub three-third : isNone f ≡ true → isNone g ≡ true → firstOf (f ∷ g ∷ h ∷ []) ≡ h
   three-third e q = first-three ∙ or-second _ _ e ∙ or-second _ _ q
 
-  -- none of three is given just where none of the causes holds
+  -- none of three is given exactly where none of the causes holds
   pub three-none : (firstOf (f ∷ g ∷ h ∷ []) ≡ None) ↔ ((f ≡ None) × (g ≡ None) × (h ≡ None))
   three-none = (
     λ e. let a = or-both f (orElse g h) (none-true (sym first-three ∙ e)) in

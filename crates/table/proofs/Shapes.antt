@@ -1,19 +1,21 @@
 -- Tables without fault of shape: their rows, as they lie in the table and carried.
+-- shape-none, shape-rows, shape-fine: no fault of shape is given exactly where a table whose rows are bytes is shaped.
+-- row-bytes, table-bytes: the rows of a list of bytes are bytes, and a table whose rows are bytes is a list of bytes.
 use mathlib.Core.Path.{_≡_, refl, sym, ap, _∙_}
 use mathlib.Core.Logic.{_↔_}
 use mathlib.Core.Bool.{Bool, true, false, true≢false}
 use mathlib.Core.List.{List, [], _∷_}
-use Prim.Native.Nat.{ℕ, _+_, _-_, _*_, _/_, _%_, _^_, _<_, _≤_}
-use native.Mathlib.Nat.{suc-mul, mul-le-mul-right, mul-le-mul, lt-of-le-of-lt, lt-of-lt-of-le, div-eq-of-lt, zero-div}
+use Prim.Native.Nat.{ℕ, zero, suc, _+_, _-_, _*_, _/_, _%_, _^_, _<_, _≤_}
+use native.Mathlib.Nat.{suc-mul, mul-le-mul-right, mul-le-mul, mod-lt, div-add-mod', div-lt-iff-lt-mul, min-le-left, le-trans, lt-of-le-of-lt, lt-of-lt-of-le, div-eq-of-lt, zero-div}
 use native.Mathlib.Decide.{decLt}
 use native.Mathlib.Omega.{arith}
-use lib.ListN.{length, getD, drop, length-drop, List·getD-eq-default}
+use lib.ListN.{length, getD, drop, length-drop, length-take, List·getD-eq-default}
 use lib.Pow.{shr-shr, shr-le, pow-mono}
 use lib.Seq.{length-take-le, getD-take, getD-drop}
 use Rattle.gf2.specs.Sums.{sum, every}
 use Rattle.gf2.specs.Coordinates.{coord, value}
 use Rattle.gf2.specs.Operands.{maxWidth, bytesFor, carriedBytes, IsOperand, isClear}
-use Rattle.gf2.specs.Tables.{row}
+use Rattle.gf2.specs.Tables.{row, IsTable}
 use Rattle.gf2.proofs.Parity.{bool-ext}
 use Rattle.gf2.proofs.Sums.{every-at, every-of}
 use Rattle.gf2.proofs.Coordinates.{length-pack, pack-byte, coord-past, coord-digit, value-eq}
@@ -77,12 +79,29 @@ module _ (m d : ℕ) (t : List ℕ) (h : length t ≡ m * bytesFor m) (l : d < m
   unfolding row
   row-getD b q = rw (getD-take {A = ℕ} (bytesFor m) (drop (d * bytesFor m) t) b 0 q, getD-drop)
 
-  pub row-byte : Bytes t → Bytes (row m t d)
-  unfolding row
-  row-byte small b = elim (decLt b (bytesFor m)) [
-    | yes q ↦ rw (getD-take {A = ℕ} (bytesFor m) (drop (d * bytesFor m) t) b 0 q, getD-drop) (small _)
-    | no q ↦ rw (List·getD-eq-default (row m t d) 0 {n = b} (omega (arith, row-length))) (omega arith)
-  ]
+past-end : (l : List ℕ) (b : ℕ) → length l ≤ b → getD l b 0 < 256
+past-end l b h = rw (List·getD-eq-default l 0 {n = b} h) (omega arith)
+
+pub row-bytes : (m d : ℕ) (t : List ℕ) → Bytes t → Bytes (row m t d)
+unfolding row
+row-bytes m d t small b = elim (decLt b (bytesFor m)) [
+  | yes q ↦ rw (getD-take {A = ℕ} (bytesFor m) (drop (d * bytesFor m) t) b 0 q, getD-drop) (small _)
+  | no q ↦ past-end (row m t d) b (rw length-take (le-trans (min-le-left _ _) (omega arith)))
+]
+
+-- byte b of a table is byte b % W of row b / W
+pub table-bytes : (m : ℕ) (t : List ℕ) → IsTable m t → Bytes t
+table-bytes zero t is b = past-end t b (rw (is .size) (omega arith))
+table-bytes (suc p) t is b = elim (decLt b (length t)) [
+  | yes h ↦ let some : 0 < W = omega arith in
+      let l : b / W < suc p = div-lt-iff-lt-mul some .1 (rw (is .size) at h) in
+      let byte = row-getD (suc p) (b / W) t (is .size) l (b % W) (mod-lt b some) ∙ ap (λ k. getD t k 0) (div-add-mod' b W) in
+      rw byte at (is .rows (b / W) l .byte (b % W))
+  | no h ↦ past-end t b (omega arith)
+]
+  where
+    W : ℕ
+    W = bytesFor (suc p)
 
 pub row-short : (m d : ℕ) (t : List ℕ) → Sized m (length t) → d < m → length (row m t d) ≤ carriedBytes
 row-short m d t s l = let g = s .greatest in omega (arith, row-length m d t (s .exact) l)
@@ -158,31 +177,29 @@ module _ (m : ℕ) (t : List ℕ) (size : length t ≡ m * bytesFor m) (part : m
     where
       each : every m (clearRow m t) ≡ true → ored m (lastByte m t) / 2 ^ (m % 8) ≡ 0
       each e = ored-shr m (lastByte m t) (m % 8) ∙ ored-of m _ (λ d l.
-          sym (last-row d l) ∙ clear-last m (row m t d) (row-length m d t size l) (row-byte m d t size l small) (every-at m (clearRow m t) e d l))
+          sym (last-row d l) ∙ clear-last m (row m t d) (row-length m d t size l) (row-bytes m d t small) (every-at m (clearRow m t) e d l))
 
--- a table of bytes has no fault of shape just where it is shaped
+module _ {m : ℕ} {t : List ℕ} where
+  pub shape-none : Shaped m t → shapeFault m t ≡ None
+  unfolding shapeFault
+  shape-none s = three-none _ _ _ .1
+      (width-none m (width-of (sized s)), length-none _ _ (s .isTable .size), rows-done m t (every-of m _ (λ d l. clear-of m _ (s .isTable .rows d l .clear))))
+
+  pub shape-rows : ((d : ℕ) → d < m → Bytes (row m t d)) → shapeFault m t ≡ None → Shaped m t
+  unfolding shapeFault rowsFault
+  shape-rows small e =
+      let q = three-none _ _ _ .0 e in
+      let w = width-fine m (none-true (q .0)) in
+      let size = length-fine _ _ (none-true (q .1)) in
+      let clear = when-none (every m (clearRow m t)) HighBit high-some (q .2) in
+      record {
+        least = w .0;
+        greatest = w .1;
+        isTable = record {
+          size = size;
+          rows = λ d l. record { size = row-length m d t size l; byte = small d l; clear = clear-at m _ (every-at m (clearRow m t) clear d l) };
+        };
+      }
+
 pub shape-fine : (m : ℕ) (t : List ℕ) → Bytes t → (shapeFault m t ≡ None) ↔ Shaped m t
-unfolding shapeFault rowsFault
-shape-fine m t small = (to, from)
-  where
-    to : shapeFault m t ≡ None → Shaped m t
-    to e =
-        let q = three-none _ _ _ .0 e in
-        let w = width-fine m (none-true (q .0)) in
-        let size = length-fine _ _ (none-true (q .1)) in
-        let clear = when-none (every m (clearRow m t)) HighBit high-some (q .2) in
-        record {
-          least = w .0;
-          greatest = w .1;
-          isTable = record {
-            size = size;
-            rows = λ d l. record {
-              size = row-length m d t size l;
-              byte = row-byte m d t size l small;
-              clear = clear-at m _ (every-at m (clearRow m t) clear d l);
-            };
-          };
-        }
-
-    from : Shaped m t → shapeFault m t ≡ None
-    from s = three-none _ _ _ .1 (width-none m (width-of (sized s)), length-none _ _ (s .isTable .size), rows-done m t (every-of m _ (λ d l. clear-of m _ (s .isTable .rows d l .clear))))
+shape-fine m t small = (shape-rows (λ d l. row-bytes m d t small), shape-none)

@@ -6,10 +6,8 @@ use mathlib.Core.Bool.{Bool, true, false, not, _&&_}
 use mathlib.Core.List.{List, []}
 use Prim.Native.Nat.{ℕ, _-_, _*_, _<_, _≤_}
 use native.Mathlib.Omega.{arith}
-use native.Mathlib.Decide.{decLt}
-use lib.ListN.{length, getD, List·getD-eq-default}
-use lib.Dec.{leb, ltb, eqb, lit≤}
-use borrow.Author.Tests.{ltb-true}
+use lib.ListN.{length}
+use lib.Dec.{leb, eqb, lit≤}
 use Rattle.gf2.specs.Sums.{every}
 use Rattle.gf2.specs.Operands.{maxWidth, bytesFor, isClear}
 use Rattle.gf2.specs.Tables.{IsTable, row, basis}
@@ -25,10 +23,10 @@ use Rattle.operand.proofs.FaultLaws.{none-is, when-keeps, first-keeps, from-kee
 use Rattle.table.specs.Carried.{carried2, carried3, carried4, carried5}
 use Rattle.table.specs.Rows.{Shaped, mirrors, leftProduct, rightProduct, associates}
 use Rattle.table.specs.Judgements.{same, rowsFault, shapeFault, rowZeroFault, rowPairFault, tripleFault, rowSumFault, symmetryFault, checkFault}
-use Rattle.table.specs.Statements.{Bytes, Shape, Symmetry, Acceptance, Fields, RowSums, FirstTriples, CarriedPass}
+use Rattle.table.specs.Statements.{Shape, Symmetry, Acceptance, Fields, RowSums, FirstTriples, CarriedPass}
 use Rattle.table.proofs.Searches.{same-correct, when-passes, when-none, three-none, first-none, first-start, first-hit}
-use Rattle.table.proofs.Shapes.{shape-fine}
-use Rattle.table.proofs.Rules.{mirrorFault, mirror-search, pairFault, rowFault, triple-search}
+use Rattle.table.proofs.Shapes.{shape-none, shape-rows, shape-fine}
+use Rattle.table.proofs.Rules.{symmetric-rows, mirrorFault, mirror-search, pairFault, rowFault, triple-search}
 
 pub shape : Shape
 shape = shape-fine
@@ -64,32 +62,33 @@ module _ (m : ℕ) (t : List ℕ) where
 
 pub symmetry : Symmetry
 unfolding symmetryFault
-symmetry m t small = (
+symmetry m t = (
   λ e. let q = three-none _ _ _ .0 e in
-      (shape m t small .0 (q .0), record { rule4 = rule4 m t .0 (q .1); rule5 = rule5 m t .0 (q .2) }),
-  λ h. three-none _ _ _ .1 (shape m t small .1 (h .0), rule4 m t .1 (h .1 .rule4), rule5 m t .1 (h .1 .rule5)),
+      let s : Symmetric m t = record { rule4 = rule4 m t .0 (q .1); rule5 = rule5 m t .0 (q .2) } in
+      (shape-rows (symmetric-rows s) (q .0), s),
+  λ h. three-none _ _ _ .1 (shape-none (h .0), rule4 m t .1 (h .1 .rule4), rule5 m t .1 (h .1 .rule5)),
 )
 
 pub acceptance : Acceptance
 unfolding checkFault
-acceptance m t small = (
+acceptance m t = (
   λ e. let q = three-none _ _ _ .0 e in
-      let s = symmetry m t small .0 (q .0) in
+      let s = symmetry m t .0 (q .0) in
       (s .0, record { symmetric = s .1; rule6 = rule6 m t .0 (q .1); rule7 = rule7 m t .0 (q .2) }),
-  λ h. three-none _ _ _ .1 (symmetry m t small .1 (h .0, h .1 .symmetric), rule6 m t .1 (h .1 .rule6), rule7 m t .1 (h .1 .rule7)),
+  λ h. three-none _ _ _ .1 (symmetry m t .1 (h .0, h .1 .symmetric), rule6 m t .1 (h .1 .rule6), rule7 m t .1 (h .1 .rule7)),
 )
 
 pub fields : Fields
-fields m t small = (
-  λ e. let h = acceptance m t small .0 e in
+fields m t = (
+  λ e. let h = acceptance m t .0 e in
       let f = theoremA m t (h .0 .least) (h .0 .isTable) .0 (h .1) in
       (h .0, f .0, f .1),
-  λ h. acceptance m t small .1 (h .0, theoremA m t (h .0 .least) (h .0 .isTable) .1 (h .1, h .2)),
+  λ h. acceptance m t .1 (h .0, theoremA m t (h .0 .least) (h .0 .isTable) .1 (h .1, h .2)),
 )
 
 pub row-sums : RowSums
-row-sums m t small e six =
-    let s = symmetry m t small .0 e in
+row-sums m t e six =
+    let s = symmetry m t .0 e in
     rule7 m t .1 (theoremC m t (s .0 .least) (s .0 .isTable) (s .1) (rule6 m t .0 six))
 
 -- rule 6 for i = 0 is enough
@@ -148,25 +147,18 @@ module _ (m : ℕ) (t : List ℕ) where
 
 pub first-triples : FirstTriples
 unfolding checkFault rowSumFault
-first-triples m t small = first-keeps First _ (symmetry-first m t) (λ e.
-    let s = symmetry m t small .0 (none-is _ e) in
+first-triples m t = first-keeps First _ (symmetry-first m t) (λ e.
+    let s = symmetry m t .0 (none-is _ e) in
     first-keeps First _ (triple-first m t (s .0) (s .1)) (λ q.
     first-keeps First _ (other-when (not (same (rowSum m t) (basis m 0))) RowSum (λ e. omega arith)) (λ q. none-first)))
 
-bytes-of : (l : List ℕ) → every (length l) (λ b. ltb (getD l b 0) 256) ≡ true → Bytes l
-bytes-of l e b = elim (decLt b (length l)) [
-  | yes h ↦ ltb-true _ _ (every-at (length l) (λ b. ltb (getD l b 0) 256) e b h)
-  | no h ↦ rw (List·getD-eq-default l 0 {n = b} (omega arith)) (omega arith)
-]
-
 pub carried-pass : CarriedPass
-unfolding every
 carried-pass = record {
-  width2 = pass 2 carried2 (lit≤ tt) (lit≤ tt) (bytes-of carried2 refl) (carried .width2);
-  width3 = pass 3 carried3 (lit≤ tt) (lit≤ tt) (bytes-of carried3 refl) (carried .width3);
-  width4 = pass 4 carried4 (lit≤ tt) (lit≤ tt) (bytes-of carried4 refl) (carried .width4);
-  width5 = pass 5 carried5 (lit≤ tt) (lit≤ tt) (bytes-of carried5 refl) (carried .width5);
+  width2 = pass 2 carried2 (lit≤ tt) (lit≤ tt) (carried .width2);
+  width3 = pass 3 carried3 (lit≤ tt) (lit≤ tt) (carried .width3);
+  width4 = pass 4 carried4 (lit≤ tt) (lit≤ tt) (carried .width4);
+  width5 = pass 5 carried5 (lit≤ tt) (lit≤ tt) (carried .width5);
 }
   where
-    pass : (m : ℕ) (t : List ℕ) → 2 ≤ m → m ≤ maxWidth → Bytes t → IsTable m t × Accepted m t → checkFault m t ≡ None
-    pass m t least greatest small h = acceptance m t small .1 (record { least = least; greatest = greatest; isTable = h .0 }, h .1)
+    pass : (m : ℕ) (t : List ℕ) → 2 ≤ m → m ≤ maxWidth → IsTable m t × Accepted m t → checkFault m t ≡ None
+    pass m t least greatest h = acceptance m t .1 (record { least = least; greatest = greatest; isTable = h .0 }, h .1)

@@ -1,6 +1,7 @@
--- What is proved of the faults of a table: the statements alone. A table is any list of bytes.
--- Shape, Symmetry, Acceptance: 1 to 3, 1 to 5 and 1 to 7 give no fault just where the rules hold.
--- Fields: the check gives no fault just where the operands form a field whose square is the turn by one.
+-- What is proved of the faults of a table: the statements alone. A table is any list of numbers; that they are bytes is asked for the
+-- shape alone, since rules 4 and 5 imply it.
+-- Shape, Symmetry, Acceptance: 1 to 3, 1 to 5 and 1 to 7 give no fault exactly where the rules hold.
+-- Fields: the check gives no fault exactly where the operands form a field whose square is the turn by one.
 -- RowSums: 7 is never given. FirstTriples: 6 is given with i = 0 alone.
 -- CarriedPass: the four carried tables are accepted.
 use mathlib.Core.Path.{_≡_}
@@ -25,23 +26,23 @@ Shape = (m : ℕ) (table : List ℕ) → Bytes table → (shapeFault m table ≡
 
 -- 1 to 5: "row 0 has only coordinate 1; row d equals row m-d turned d places"
 abbrev pub Symmetry : Type 0
-Symmetry = (m : ℕ) (table : List ℕ) → Bytes table → (symmetryFault m table ≡ None) ↔ (Shaped m table × Symmetric m table)
+Symmetry = (m : ℕ) (table : List ℕ) → (symmetryFault m table ≡ None) ↔ (Shaped m table × Symmetric m table)
 
 -- "A table is accepted when the check gives no number for it."
 abbrev pub Acceptance : Type 0
-Acceptance = (m : ℕ) (table : List ℕ) → Bytes table → (checkFault m table ≡ None) ↔ (Shaped m table × Accepted m table)
+Acceptance = (m : ℕ) (table : List ℕ) → (checkFault m table ≡ None) ↔ (Shaped m table × Accepted m table)
 
 -- "Under a table the operands form a field if, for all a, b and c and with its plain product: .."
 abbrev pub Fields : Type 0
-Fields = (m : ℕ) (table : List ℕ) → Bytes table → (checkFault m table ≡ None) ↔ (Shaped m table × Field m table × Squares m table)
+Fields = (m : ℕ) (table : List ℕ) → (checkFault m table ≡ None) ↔ (Shaped m table × Field m table × Squares m table)
 
 -- rules 4 to 6 imply rule 7: where the check gives none of 1 to 6, it doesn't give 7
 abbrev pub RowSums : Type 0
-RowSums = (m : ℕ) (table : List ℕ) → Bytes table → symmetryFault m table ≡ None → tripleFault m table ≡ None → rowSumFault m table ≡ None
+RowSums = (m : ℕ) (table : List ℕ) → symmetryFault m table ≡ None → tripleFault m table ≡ None → rowSumFault m table ≡ None
 
 -- rules 4 and 5 with rule 6 for i = 0 imply rule 6: the first pair that differs has i = 0
 abbrev pub FirstTriples : Type 0
-FirstTriples = (m : ℕ) (table : List ℕ) → Bytes table → (i j : ℕ) → checkFault m table ≡ Triple i j → i ≡ 0
+FirstTriples = (m : ℕ) (table : List ℕ) → (i j : ℕ) → checkFault m table ≡ Triple i j → i ≡ 0
 
 -- "Four tables are carried in the program itself"
 pub record CarriedPass : Type 0 where

@@ -10,7 +10,7 @@ counts-common-requires : tie.Need-counts-common-requires
 counts-common-requires c κs = search needs
 
 both-requires : tie.Need-both-requires
-both-requires c κs = common-packs _ _ (λ b. c .before .shared-slice-known .given b .fits) (c .counts-common .ensures)
+both-requires c κs = common-packs _ _ (c .counts-common .ensures)
 
 returns : tie.Need-returns
 returns c = c .both .ensures ∙ ap countsAnswer (c .before .counts-common .ensures)

@@ -10,7 +10,7 @@ counts-plain-requires : tie.Need-counts-plain-requires
 counts-plain-requires c κs = search needs
 
 both-requires : tie.Need-both-requires
-both-requires c κs = plain-packs _ _ (λ b. c .before .shared-slice-known .given b .fits) (c .counts-plain .ensures)
+both-requires c κs = plain-packs _ _ (c .counts-plain .ensures)
 
 returns : tie.Need-returns
 returns c = c .both .ensures ∙ ap countsAnswer (c .before .counts-plain .ensures)

@@ -10,7 +10,7 @@ counts-reduced-requires : tie.Need-counts-reduced-requires
 counts-reduced-requires c κs = search needs
 
 both-requires : tie.Need-both-requires
-both-requires c κs = reduced-packs _ _ (λ b. c .before .shared-slice-known .given b .fits) (c .counts-reduced .ensures)
+both-requires c κs = reduced-packs _ _ (c .counts-reduced .ensures)
 
 returns : tie.Need-returns
 returns c = c .both .ensures ∙ ap countsAnswer (c .before .counts-reduced .ensures)

@@ -10,7 +10,7 @@ list-common-requires : tie.Need-list-common-requires
 list-common-requires c κs = search needs
 
 both-requires : tie.Need-both-requires
-both-requires c κs = common-list-packs _ _ (λ b. c .before .before .before .before .before .shared-slice-known .given b .fits) _ (c .before .before .list-common .ensures .0)
+both-requires c κs = common-list-packs _ _ _ (c .before .before .list-common .ensures .0)
 
 same-length : tie.Need-same-length
 same-length c = search needs

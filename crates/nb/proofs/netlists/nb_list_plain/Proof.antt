@@ -10,7 +10,7 @@ list-plain-requires : tie.Need-list-plain-requires
 list-plain-requires c κs = search needs
 
 both-requires : tie.Need-both-requires
-both-requires c κs = plain-list-packs _ _ (λ b. c .before .before .before .before .before .shared-slice-known .given b .fits) _ (c .before .before .list-plain .ensures .0)
+both-requires c κs = plain-list-packs _ _ _ (c .before .before .list-plain .ensures .0)
 
 same-length : tie.Need-same-length
 same-length c = search needs

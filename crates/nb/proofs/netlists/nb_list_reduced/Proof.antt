@@ -10,7 +10,7 @@ list-reduced-requires : tie.Need-list-reduced-requires
 list-reduced-requires c κs = search needs
 
 both-requires : tie.Need-both-requires
-both-requires c κs = reduced-list-packs _ _ (λ b. c .before .before .before .before .before .shared-slice-known .given b .fits) _ (c .before .before .list-reduced .ensures .0)
+both-requires c κs = reduced-list-packs _ _ _ (c .before .before .list-reduced .ensures .0)
 
 same-length : tie.Need-same-length
 same-length c = search needs

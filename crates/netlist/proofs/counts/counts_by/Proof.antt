@@ -28,13 +28,13 @@ returns c =
 mul-counted : tie.Need-mul-counted
 mul-counted c =
     let s = c .before .before .before .before in
-    let f = table-fine (s .args .width) (s .args .table .now) (λ b. c .before .before .before .shared-slice-known .given b .fits) (judged (c .before .before .judge-symmetry .ensures) (c .before .is-none .ensures) (not-false _ (c .if1 .left))) in
+    let f = table-fine (s .args .width) (s .args .table .now) (judged (c .before .before .judge-symmetry .ensures) (c .before .is-none .ensures) (not-false _ (c .if1 .left))) in
     omega (arith, width-square (s .args .width) (s .args .width) (f .0 .greatest) (f .0 .greatest))
 
 xors-by-requires : tie.Need-xors-by-requires
 xors-by-requires c κs =
     let s = c .before .before .before .before in
-    table-fine (s .args .width) (s .args .table .now) (λ b. c .before .before .before .shared-slice-known .given b .fits) (judged (c .before .before .judge-symmetry .ensures) (c .before .is-none .ensures) (not-false _ (c .if1 .left)))
+    table-fine (s .args .width) (s .args .table .now) (judged (c .before .before .judge-symmetry .ensures) (c .before .is-none .ensures) (not-false _ (c .if1 .left)))
 
 counted-requires : tie.Need-counted-requires
 counted-requires c κs = search needs

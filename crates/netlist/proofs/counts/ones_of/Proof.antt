@@ -10,7 +10,7 @@ ones-requires c κs = search needs
 returns : tie.Need-returns
 returns c =
     let s = c .before .before in
-    ones-given (s .args .width) (s .args .table .now) (c .ones .result) (λ b. c .before .shared-slice-known .given b .fits) (s .pre) (c .ones .ensures)
+    ones-given (s .args .width) (s .args .table .now) (c .ones .result) (s .pre) (c .ones .ensures)
 
 pub ones-of-spec : {M : Type 1} → statement M
 ones-of-spec = tie.close (tie.spec ones-requires returns)

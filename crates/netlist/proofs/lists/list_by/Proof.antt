@@ -23,15 +23,15 @@ returns c =
     (judged (answer-fault _ _ (c .before .before .counts-by .ensures)) (c .before .is-none .ensures) (not-true _ (c .if1 .taken)))
 
 terms-by-requires : tie.Need-terms-by-requires
-terms-by-requires c κs = let a = c .before .before .before .before .before .args in table-fine (a .width) (a .table .now) (λ b. c .before .before .before .before .shared-slice-known .given b .fits) (judged (answer-fault _ _ (c .before .before .counts-by .ensures)) (c .before .is-none .ensures) (not-false _ (c .if1 .left))) .0
+terms-by-requires c κs = let a = c .before .before .before .before .before .args in table-fine (a .width) (a .table .now) (judged (answer-fault _ _ (c .before .before .counts-by .ensures)) (c .before .is-none .ensures) (not-false _ (c .if1 .left))) .0
 
 gates-by-requires : tie.Need-gates-by-requires
-gates-by-requires c κs = let a = c .before .before .before .before .before .before .args in table-fine (a .width) (a .table .now) (λ b. c .before .before .before .before .before .shared-slice-known .given b .fits) (judged (answer-fault _ _ (c .before .before .before .counts-by .ensures)) (c .before .before .is-none .ensures) (not-false _ (c .before .if1 .left)))
+gates-by-requires c κs = let a = c .before .before .before .before .before .before .args in table-fine (a .width) (a .table .now) (judged (answer-fault _ _ (c .before .before .before .counts-by .ensures)) (c .before .before .is-none .ensures) (not-false _ (c .before .if1 .left)))
 
 deliver-requires : tie.Need-deliver-requires
 deliver-requires c κs =
     let a = c .before .before .before .before .before .before .before .before .args in
-    let f = table-fine (a .width) (a .table .now) (λ b. c .before .before .before .before .before .before .before .shared-slice-known .given b .fits) (judged (answer-fault _ _ (c .before .before .before .before .before .counts-by .ensures)) (c .before .before .before .before .is-none .ensures) (not-false _ (c .before .before .before .if1 .left))) in
+    let f = table-fine (a .width) (a .table .now) (judged (answer-fault _ _ (c .before .before .before .before .before .counts-by .ensures)) (c .before .before .before .before .is-none .ensures) (not-false _ (c .before .before .before .if1 .left))) in
     (f .0, c .before .gates-by .ensures .0 ∙ ap (λ z. length (listOf z (a .width) (a .table .now) .gates)) (sym (c .before .before .terms-by .ensures)), c .before .gates-by .ensures .1)
 
 same-length : tie.Need-same-length
@@ -43,7 +43,7 @@ returns-2 c =
     let m = a .width in
     let t = a .table .now in
     let n = judged (answer-fault _ _ (c .before .before .before .before .before .before .before .before .counts-by .ensures)) (c .before .before .before .before .before .before .before .is-none .ensures) (not-false _ (c .before .before .before .before .before .before .if1 .left)) in
-    let f = table-fine m t (λ b. c .before .before .before .before .before .before .before .before .before .before .shared-slice-known .given b .fits) n in
+    let f = table-fine m t n in
     list-answer m t (listBy (a .method) m t) _ (a .out .now) (xorsBy (a .method) m t) (gates-by m t (f .0 .least) (f .0 .isTable) (f .1) (a .method)) n (c .before .before .before .before .before .before .before .before .counts-by .ensures)
     (ap (λ z. listOf z m t) (c .before .before .before .before .before .terms-by .ensures) ∙ list-by m t (a .method)) (c .before .before .deliver .ensures)
 

@@ -45,7 +45,7 @@ returns : tie.Need-returns
 returns c =
     let start = c .before .before .before .before .before .before .before .before .before .before .before in
     let a = start .args in
-    let ones = ones-given (a .width) (a .table .now) _ (λ b. c .before .before .before .before .before .before .before .before .before .before .shared-slice-known .given b .fits) (start .pre) (c .before .before .before .before .before .before .before .before .before .ones .ensures) .0 in
+    let ones = ones-given (a .width) (a .table .now) _ (start .pre) (c .before .before .before .before .before .before .before .before .before .ones .ensures) .0 in
     let width = c .before .before .before .before .before .before .append-line .ensures ∙ ap (λ t. appended t (line (ascii "width") (a .width ∷ []))) (c .before .before .before .before .before .before .before .before .empty .ensures) in
     let head = c .before .before .before .before .append-line2 .ensures ∙ ap₂ (λ t n. appended t (line (ascii "ones") (n ∷ []))) width ones in
     let check = c .before .before .before .check .ensures in
@@ -55,7 +55,7 @@ returns-2 : tie.Need-returns-2
 returns-2 c =
     let start = c .before .before .before .before .before .before .before .before .before .before .before in
     let a = start .args in
-    let ones = ones-given (a .width) (a .table .now) _ (λ b. c .before .before .before .before .before .before .before .before .before .before .shared-slice-known .given b .fits) (start .pre) (c .before .before .before .before .before .before .before .before .before .ones .ensures) .0 in
+    let ones = ones-given (a .width) (a .table .now) _ (start .pre) (c .before .before .before .before .before .before .before .before .before .ones .ensures) .0 in
     let width = c .before .before .before .before .before .before .append-line .ensures ∙ ap (λ t. appended t (line (ascii "width") (a .width ∷ []))) (c .before .before .before .before .before .before .before .before .empty .ensures) in
     let head = c .before .before .before .before .append-line2 .ensures ∙ ap₂ (λ t n. appended t (line (ascii "ones") (n ∷ []))) width ones in
     let check = c .before .before .before .check .ensures in

@@ -24,7 +24,7 @@ none : (c : tie.Else1) → isNone (symmetryFault (c .before .before .before .bef
 none c = judged (c .before .before .judge-symmetry .ensures) (c .before .is-none .ensures) (not-false _ (c .if1 .left))
 
 symmetric : (c : tie.Else1) → let a = c .before .before .before .before .args in Shaped (a .width) (a .table .now) × Symmetric (a .width) (a .table .now)
-symmetric c = symmetry _ _ (λ k. c .before .before .before .shared-slice-known .given k .fits) .0 (none-is _ (none c))
+symmetric c = symmetry _ _ .0 (none-is _ (none c))
 
 returns : tie.Need-returns
 unfolding checkFault
