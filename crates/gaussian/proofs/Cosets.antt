@@ -1,4 +1,4 @@
--- At a type t of the width m, with p = t m + 1 and g = 2^t: x lies in 2^s K just when x^t is g^s modulo p, and the powers
+-- At a type t of the width m, with p = t m + 1 and g = 2^t: x lies in 2^s K exactly when x^t is g^s modulo p, and the powers
 -- g^s are distinct for s below m.
 use mathlib.Core.Path.{_≡_, refl, sym, ap, _∙_, subst}
 use mathlib.Core.Logic.{_≢_}
