@@ -14,7 +14,7 @@ use Rattle.product.specs.Judgements.{productFault, reducedFault, zeroFault, inv
 use Rattle.netlist.specs.Judgements.{widthsFault, lengthsFault, bitsFault, runFault}
 use Rattle.promises.specs.Causes.{Cause, turnTooFar, isZero, traceOne}
 use Rattle.promises.specs.CallCauses.{ruleCauses}
-use Rattle.promises.specs.CarriedCalls.{carriedCauses, pairCauses, factorCauses, invertedCauses, ranCauses, Gives, Counts, CarriedCalls}
+use Rattle.promises.specs.CarriedCalls.{carriedCauses, pairCauses, factorCauses, invertedCauses, ranCauses, Gives, GivesNumber, CarriedCalls}
 use Rattle.promises.proofs.CauseLaws.{Decided, then, last, exact}
 use Rattle.promises.proofs.CauseTests.{by-width, by-length, by-high, by-rows, by-turn, by-trace, by-zero-of, by-row-zero, by-row-pairs, by-words, by-gates}
 use Rattle.promises.proofs.AnswerLaws.{none-true, some-false, chosen, lent}
@@ -24,8 +24,8 @@ gives : {causes : List Cause} {f : Fault} → Decided causes f → (m : ℕ) (by
 unfolding answer
 gives {causes} {f} d m bytes = record { exact = exact d; refused = λ n. rw (some-false f n); answered = λ e. rw (none-true e) }
 
-counts : {causes : List Cause} {f : Fault} → Decided causes f → (n : ℕ) → Counts causes f (choose (isNone f) n 0) n
-counts {causes} {f} d n = record { exact = exact d; refused = λ e. rw (some-false f e); answered = chosen f n }
+gives-number : {causes : List Cause} {f : Fault} → Decided causes f → (n : ℕ) → GivesNumber causes f (choose (isNone f) n 0) n
+gives-number {causes} {f} d n = record { exact = exact d; refused = λ e. rw (some-false f e); answered = chosen f n }
 
 module _ (a : Operand) where
   one-decided : Decided (carriedCauses a) (operandFault a)
@@ -77,12 +77,12 @@ carried-calls = record {
   turn = λ a k. gives (turn-decided a k) (a .width) _;
   square = λ a. gives (one-decided a) (a .width) _;
   sum = λ a b. gives (pair-decided a b) (a .width) _;
-  trace = λ a. counts (one-decided a) _;
+  trace = λ a. gives-number (one-decided a) _;
   solve = λ c. gives (solve-decided c) (c .width) _;
   product = λ m t a b. gives (product-decided a b m t) m _;
   reduced = λ m t a b. gives (reduced-decided a b m t) m _;
   inverse = λ m t a. gives (inverse-decided a m t) m _;
-  products = λ m t a. counts (inverse-decided a m t) _;
+  products = λ m t a. gives-number (inverse-decided a m t) _;
   run = λ m list a b result wires. record {
     exact = exact (run-decided a b m list (length result) (length wires));
     results = lent _ result _;

@@ -24,13 +24,13 @@ use Rattle.table.proofs.Theorems.{acceptance, fields, symmetry}
 use Rattle.netlist.specs.Gates.{Netlist, words}
 use Rattle.netlist.specs.Lists.{plain, reduced, common}
 use Rattle.netlist.specs.Running.{readList, wires, result}
-use Rattle.netlist.specs.Calls.{answer, countsCall, listBuffer}
+use Rattle.netlist.specs.Calls.{answer, countedAs, countsCall}
 use Rattle.netlist.specs.Statements.{ListsHold, Holds as ListHolds, Counted, CommonCounts}
 use Rattle.netlist.proofs.Theorems.{theoremLists, theoremCommon}
 use Rattle.nb.specs.Judgements.{runBytesFault}
 use Rattle.nb.specs.Calls.{productResult, inverseResult, runResult, runWires}
 use Rattle.nb.proofs.CarryLaws.{HasBytes, inverse-is}
-use Rattle.promises.specs.Demand3.{counted, wordsWritten, Multiplies, Reduces, Runs, RunsToProduct, Inverts, HasGates, UnderAccepted, Demand3}
+use Rattle.promises.specs.Demand3.{wordsWritten, Multiplies, Reduces, Runs, RunsToProduct, Inverts, HasGates, UnderAccepted, Demand3}
 use Rattle.promises.proofs.AnswerLaws.{none-true}
 use Rattle.promises.proofs.NoFaults.{Passed, product-none, reduced-none, inverse-none, run-none, list-none}
 
@@ -130,7 +130,7 @@ module _ (m : ℕ) (table : List ℕ) (e : checkFault m table ≡ None) where
   gates list h = record {
     holdsAnds = h .andCount;
     holdsXors = h .xorCount;
-    reports = rw symmetric (ap₂ counted (h .andCount) (h .xorCount));
+    reports = rw symmetric (ap₂ countedAs (h .andCount) (h .xorCount));
   }
 
   -- the XORs of the reduced list are a whole number: C is odd, and so is one of m and m-1 even

@@ -95,7 +95,7 @@ pub record Gives (causes : List Cause) (r : OperandAnswer) (m : ℕ) (bytes : Li
   pub answered : r .fault ≡ None → r .value ≡ (record { bytes = bytes; width = m })
 
 -- a call that answers a number, 0 beside a fault
-pub record Counts (causes : List Cause) (fault : Fault) (given number : ℕ) : Type 0 where
+pub record GivesNumber (causes : List Cause) (fault : Fault) (given number : ℕ) : Type 0 where
   pub exact : Exact causes fault
   pub refused : ¬ (fault ≡ None) → given ≡ 0
   pub answered : fault ≡ None → given ≡ number
@@ -113,7 +113,7 @@ pub record CarriedCalls : Type 0 where
       Gives (carriedCauses a ++ (turnTooFar (a .width) k ∷ [])) (turnCall a k) (a .width) (turned (a .width) k (a .bytes))
   pub square : (a : Operand) → Gives (carriedCauses a) (squareCall a) (a .width) (squared (a .width) (a .bytes))
   pub sum : (a b : Operand) → Gives (pairCauses a b) (sumCall a b) (a .width) (added (a .width) (a .bytes) (b .bytes))
-  pub trace : (a : Operand) → Counts (carriedCauses a) (traceCall a .fault) (traceCall a .trace) (trace (a .width) (a .bytes))
+  pub trace : (a : Operand) → GivesNumber (carriedCauses a) (traceCall a .fault) (traceCall a .trace) (trace (a .width) (a .bytes))
   pub solve : (c : Operand) →
       Gives (carriedCauses c ++ (traceOne (c .width) (c .bytes) ∷ [])) (solveCall c) (c .width) (root (c .width) (c .bytes))
   pub product : (m : ℕ) (table : List ℕ) (a b : Operand) →
@@ -124,6 +124,6 @@ pub record CarriedCalls : Type 0 where
       Gives (invertedCauses m table a) (record { fault = inverseCall m table a .fault; value = inverseCall m table a .value })
       m (inverse m table (a .bytes))
   pub products : (m : ℕ) (table : List ℕ) (a : Operand) →
-      Counts (invertedCauses m table a) (inverseCall m table a .fault) (inverseCall m table a .count) (productsMade m table (a .bytes))
+      GivesNumber (invertedCauses m table a) (inverseCall m table a .fault) (inverseCall m table a .count) (productsMade m table (a .bytes))
   pub run : (m : ℕ) (list : List ℕ) (a b : Operand) (result wires : List ℕ) →
       Runs m list a b result wires (runFault m list a b (length result) (length wires))

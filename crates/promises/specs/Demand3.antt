@@ -19,13 +19,9 @@ use Rattle.netlist.specs.declared.CountsAnswer.{CountsAnswer}
 use Rattle.netlist.specs.Gates.{Netlist, words, andGates, xorGates}
 use Rattle.netlist.specs.Lists.{plain, reduced as reducedList, common}
 use Rattle.netlist.specs.Running.{wires}
-use Rattle.netlist.specs.Calls.{countsPlainCall, countsReducedCall, countsCommonCall, listFault, listBuffer}
+use Rattle.netlist.specs.Calls.{countedAs, countsPlainCall, countsReducedCall, countsCommonCall, listFault, listBuffer}
 use Rattle.nb.specs.Judgements.{productBytesFault, reducedBytesFault, inverseBytesFault, runBytesFault}
 use Rattle.nb.specs.Calls.{productResult, reducedResult, inverseResult, runResult, runWires}
-
--- no fault, and these counts of gates
-abbrev pub counted : ℕ → ℕ → CountsAnswer
-counted ands xors = record { fault = None; ands = record { 0 = ands }; xors = record { 0 = xors } }
 
 -- nb_product of two operands into a result of W bytes: no fault, and the plain product
 pub record Multiplies (m : ℕ) (table a b old : List ℕ) : Type 0 where
@@ -65,7 +61,7 @@ pub record Inverts (m : ℕ) (table a old : List ℕ) : Type 0 where
 pub record HasGates (list : Netlist) (reported : CountsAnswer) (ands xors : ℕ) : Type 0 where
   pub holdsAnds : andGates (list .gates) ≡ ands
   pub holdsXors : xorGates (list .gates) ≡ xors
-  pub reports : reported ≡ counted ands xors
+  pub reports : reported ≡ countedAs ands xors
 
 -- a row is all ones
 abbrev pub FullRow : ℕ → List ℕ → ℕ → Type 0
