@@ -1,21 +1,21 @@
 -- Reading a card decides the causes of its faults, part by part: a number, a place, a row, rows, the head, the card.
 -- Each part both ways: what is refused has its cause, and what has the cause is refused.
-use mathlib.Core.Path.{_≡_, refl, sym, ap, _∙_, subst}
-use mathlib.Core.Logic.{_↔_, _⊎_, inl, inr, ⊎-elim}
+use mathlib.Core.Path.{_≡_, refl, sym, ap, _∙_}
+use mathlib.Core.Logic.{_⊎_, inl, inr, ⊎-elim}
 use mathlib.Core.Bool.{Bool, true, false, true≢false}
-use mathlib.Core.List.{List, [], _∷_, _++_, append-assoc, append-nil}
+use mathlib.Core.List.{List, [], _∷_, _++_, append-assoc}
 use Prim.Native.Nat.{ℕ, zero, suc, _+_, _-_, _*_, _<_, _≤_}
 use native.Mathlib.Omega.{arith}
 use lib.Dec.{ltb, leb, eqb}
 use lib.ListN.{length}
 use borrow.Author.Tests.{ltb-true, ltb-false, lt-ltb, le-ltb, leb-true, leb-false, le-leb, lt-leb, eqb-true, eqb-false, eq-eqb, ne-eqb}
 use Rattle.operand.specs.declared.fault.Fault.{Fault}
-use Rattle.operand.specs.declared.fault.Fault.the-variants.{None, Width, OutputShort, CardEnds, CardNumber, CardForm, CardPlace, CardTail}
+use Rattle.operand.specs.declared.fault.Fault.the-variants.{None, Width, OutputShort, CardNumber, CardForm, CardPlace, CardTail}
 use Rattle.gf2.specs.Operands.{maxWidth, bytesFor}
 use Rattle.gf2.proofs.Operands.{from-operand}
 use Rattle.operand.specs.Faults.{isNone}
 use Rattle.netlist.specs.Judgements.{outputFault}
-use Rattle.card.specs.Numbers.{pick, number, numberLimit, Read, refused, got, andThen, secondGroup, readNumber}
+use Rattle.card.specs.Numbers.{pick, Read, refused, got, andThen, secondGroup, readNumber}
 use Rattle.card.specs.Rows.{steps, onesOf, after, readPlaces, readRow, isPlace, rowOf, readRows}
 use Rattle.card.specs.Cards.{lentFault, readWidth, readHead, Table, ended, readCard}
 use Rattle.card.specs.Statements.{Bytes}

@@ -1,15 +1,13 @@
 -- The calls on carried operands: each by the judgements that decide its causes.
-use mathlib.Core.Path.{_≡_, refl}
 use mathlib.Core.List.{List, [], _∷_, _++_}
-use Prim.Native.Nat.{ℕ, _+_, _*_}
-use lib.ListN.{length, getD}
+use Prim.Native.Nat.{ℕ, _*_}
+use lib.ListN.{length}
 use Rattle.gf2.specs.Operands.{carriedBytes, bytesFor, choose}
 use Rattle.operand.specs.declared.Operand.{Operand}
 use Rattle.operand.specs.declared.fault.Fault.{Fault}
 use Rattle.operand.specs.Faults.{isNone, firstOf}
 use Rattle.operand.specs.Judgements.{turnFault, traceFault, operandFault, pairFault}
 use Rattle.operand.specs.Calls.{answer}
-use Rattle.table.specs.Judgements.{same, rowZeroFault, rowPairFault}
 use Rattle.product.specs.Judgements.{productFault, reducedFault, zeroFault, inverseFault}
 use Rattle.netlist.specs.Judgements.{widthsFault, lengthsFault, bitsFault, runFault}
 use Rattle.promises.specs.Causes.{Cause, turnTooFar, isZero, traceOne}

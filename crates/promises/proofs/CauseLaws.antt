@@ -1,13 +1,13 @@
 -- Faults that are decided by causes: how the first of several is decided, and what the demand says of it.
 use mathlib.Core.Path.{_≡_, refl, sym, ap, _∙_, subst}
-use mathlib.Core.Logic.{_↔_, _⊎_, inl, inr}
+use mathlib.Core.Logic.{_⊎_, inl, inr}
 use mathlib.Core.Bool.{Bool, true, false, true≢false}
 use mathlib.Core.List.{List, [], _∷_, _++_}
 use Prim.Native.Nat.{ℕ, zero, suc, _+_}
 use Rattle.operand.specs.declared.fault.Fault.{Fault}
 use Rattle.operand.specs.declared.fault.Fault.the-variants.{None}
 use Rattle.operand.specs.Faults.{isNone, when, orElse, firstOf, firstFrom}
-use Rattle.operand.proofs.FaultLaws.{none-is, or-first, or-second, or-none}
+use Rattle.operand.proofs.FaultLaws.{or-first, or-second, or-none}
 use Rattle.promises.specs.Causes.{Cause, badWidth, badLength, fewWords, highBit, highBitInRow, rowZeroWrong, rowsDiffer, tripleDiffers, rowSumWrong, turnTooFar, isZero, traceOne, tooShort, typeZero, badGates, Holds, faultOf, from, First, NoCause, Exact}
 
 -- a cause gives some fault

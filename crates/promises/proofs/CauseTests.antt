@@ -1,28 +1,26 @@
 -- Each judgement of a call decides its causes.
 -- Operands: width, length, high bit, turn count, trace, zero. Tables: shape and rules 4 to 7. Lists, buffers, types.
-use mathlib.Core.Path.{_≡_, refl, sym, ap, _∙_}
-use mathlib.Core.Logic.{_↔_, _⊎_, inl, inr}
+use mathlib.Core.Path.{_≡_, refl, sym, _∙_}
+use mathlib.Core.Logic.{_⊎_, inl, inr}
 use mathlib.Core.Bool.{Bool, true, false, not, _&&_, _||_, true≢false}
-use mathlib.Core.List.{List, [], _∷_, _++_}
+use mathlib.Core.List.{List, [], _∷_}
 use Prim.Native.Nat.{ℕ, zero, suc, _+_, _-_, _*_, _<_, _≤_}
 use native.Mathlib.Omega.{arith}
 use native.Mathlib.Decide.{decLt, ℕ-discrete}
 use lib.Dec.{leb, ltb, eqb}
 use lib.ListN.{length, getD}
-use borrow.Author.Tests.{ltb-true, ltb-false, lt-ltb, le-ltb, leb-true, leb-false, le-leb, lt-leb, eqb-true, eqb-false, eq-eqb}
+use borrow.Author.Tests.{ltb-true, ltb-false, leb-true, leb-false, le-leb, eqb-true, eqb-false}
 use Rattle.gf2.specs.Sums.{every}
 use Rattle.gf2.specs.Coordinates.{coord}
-use Rattle.gf2.specs.Operands.{maxWidth, bytesFor, isClear, zeroes, turned}
+use Rattle.gf2.specs.Operands.{maxWidth, bytesFor, isClear, zeroes}
 use Rattle.gf2.specs.Quadratic.{trace}
-use Rattle.gf2.specs.Tables.{row, basis}
-use Rattle.gf2.specs.Check.{rowSum}
-use Rattle.gf2.specs.Products.{product}
+use Rattle.gf2.specs.Tables.{row}
 use Rattle.gf2.proofs.Sums.{every-at}
 use Rattle.gf2.proofs.Coordinates.{coord-lt}
-use Rattle.gf2.proofs.Operands.{clear-at, clear-of}
+use Rattle.gf2.proofs.Operands.{clear-at}
 use Rattle.gf2.proofs.Parity.{and-both}
 use Rattle.operand.specs.declared.fault.Fault.the-variants.{Length, InverseOfZero}
-use Rattle.operand.specs.Faults.{when, firstOf, firstFrom}
+use Rattle.operand.specs.Faults.{when}
 use Rattle.operand.specs.Judgements.{widthFault, lengthFault, highFault, turnFault, traceFault}
 use Rattle.table.specs.Judgements.{same, rowsFault, shapeFault, rowZeroFault, rowPairFault, tripleFault, rowSumFault, symmetryFault, checkFault}
 use Rattle.table.proofs.Searches.{same-correct}

@@ -1,6 +1,5 @@
 -- Demand 1: each call by the judgements that decide its causes, and by the room that its values have in its answer.
 use mathlib.Core.Path.{_≡_, refl, ap, subst}
-use mathlib.Core.Bool.{Bool, true, false}
 use mathlib.Core.List.{List, [], _∷_, _++_}
 use Prim.Native.Nat.{ℕ, _+_, _*_}
 use lib.ListN.{length}
@@ -8,7 +7,7 @@ use Rattle.gf2.specs.Operands.{bytesFor}
 use Rattle.gf2.specs.Tables.{onesIn}
 use Rattle.operand.specs.declared.fault.Fault.{Fault}
 use Rattle.operand.specs.declared.fault.Fault.the-variants.{None}
-use Rattle.operand.specs.Faults.{isNone, firstOf, when}
+use Rattle.operand.specs.Faults.{isNone}
 use Rattle.operand.specs.Judgements.{lengthFault, bytesFault}
 use Rattle.table.specs.Judgements.{symmetryFault, shapeFault}
 use Rattle.table.specs.Calls.{onesCall}
@@ -28,10 +27,10 @@ use Rattle.nb.specs.Judgements.{constantBytesFault, turnBytesFault, sumBytesFau
 use Rattle.nb.specs.Calls.{countsAnswer, cardAnswer}
 use Rattle.nb.proofs.PackLaws.{packs, small-check, small-constant-call, small-turn-call, small-sum-call, small-solve-call, small-product-call, small-reduced-call, small-run-call}
 use Rattle.nb.proofs.Bounds.{PacksCounts, inverse-packs, trace-packs, ones-packs, plain-packs, reduced-packs, common-packs, plain-list-packs, reduced-list-packs, common-list-packs, type-answer-packs, draw-packs, write-packs, read-packs}
-use Rattle.promises.specs.Causes.{Cause, badWidth, badLength, turnTooFar, traceOne, typeZero, tooShort}
+use Rattle.promises.specs.Causes.{badWidth, badLength, turnTooFar, traceOne, typeZero, tooShort}
 use Rattle.promises.specs.CardCauses.{GoodCard}
 use Rattle.promises.specs.CallCauses.{productCauses, ruleCauses, inverseCauses, unaryCauses, sumCauses, runCauses, symmetryCauses, shapeCauses, operandCauses}
-use Rattle.promises.specs.Answers.{Numbered, Lent, Asks}
+use Rattle.promises.specs.Answers.{Lent, Asks}
 use Rattle.promises.specs.Demand1.{Lists, Reads, Demand1}
 use Rattle.promises.proofs.CauseLaws.{Decided, then, last, exact}
 use Rattle.promises.proofs.CauseTests.{by-width, by-length, by-high, by-rows, by-turn, by-trace, by-zero, by-row-zero, by-row-pairs, by-shape, by-symmetry, by-check, by-room, by-type, by-words, by-gates}

@@ -1,25 +1,21 @@
 -- Demand 2: each field by a law of the crate that proves it.
-use mathlib.Core.Path.{_≡_, refl, sym, ap, _∙_}
-use mathlib.Core.List.{List, [], _∷_}
-use Prim.Native.Nat.{ℕ, _*_, _%_, _<_, _≤_}
+use mathlib.Core.Path.{_≡_}
+use mathlib.Core.List.{List}
+use Prim.Native.Nat.{ℕ, _%_}
 use native.Mathlib.Omega.{arith}
 use lib.ListN.{length}
-use Rattle.gf2.specs.Operands.{maxWidth, bytesFor, fromCoords}
-use Rattle.gf2.specs.Tables.{IsTable, row}
+use Rattle.gf2.specs.Operands.{bytesFor, fromCoords}
 use Rattle.gf2.specs.Products.{product, reduced}
 use Rattle.gf2.proofs.Operands.{coord-from, from-operand}
-use Rattle.operand.specs.declared.fault.Fault.{Fault}
 use Rattle.operand.specs.declared.fault.Fault.the-variants.{None}
-use Rattle.operand.specs.Calls.{chooseBytes}
-use Rattle.gaussian.specs.Types.{modulus, typeOf}
-use Rattle.gaussian.specs.Table.{rowCoord, drawn}
+use Rattle.gaussian.specs.Types.{typeOf}
+use Rattle.gaussian.specs.Table.{drawn}
 use Rattle.gaussian.specs.Calls.{drawFault, drawnInto}
 use Rattle.gaussian.proofs.Theorems.{type-list, drawn-table}
 use Rattle.card.proofs.Theorems.{card-laws}
 use Rattle.nb.specs.Judgements.{productBytesFault, reducedBytesFault}
 use Rattle.nb.specs.Calls.{productResult, reducedResult}
 use Rattle.promises.specs.Causes.{Holds}
-use Rattle.promises.specs.Answers.{Fills}
 use Rattle.promises.specs.Demand2.{bilinear, halved, HasCoords, DrawnBy, Demand2}
 use Rattle.promises.proofs.CauseTests.{wide, long}
 use Rattle.promises.proofs.Demand1.{demand1}

@@ -1,15 +1,14 @@
 -- Demand 3: each field by a law of the crate that proves it.
 use mathlib.Core.Path.{_≡_, refl, sym, ap, ap₂, _∙_}
-use mathlib.Core.Logic.{_↔_}
 use mathlib.Core.List.{List}
-use Prim.Native.Nat.{ℕ, zero, suc, _+_, _-_, _*_, _/_, _<_, _≤_}
+use Prim.Native.Nat.{ℕ, zero, suc, _+_, _-_, _*_, _/_, _≤_}
 use native.Mathlib.Omega.{arith}
 use native.Mathlib.Nat.{mul-add, mul-comm}
-use lib.ListN.{length, take}
+use lib.ListN.{length}
 use lib.Seq.{take-at}
 use Rattle.gf2.specs.Operands.{bytesFor, zeroes, ones}
 use Rattle.gf2.specs.Tables.{onesIn}
-use Rattle.gf2.specs.Products.{product, reduced as reducedOf}
+use Rattle.gf2.specs.Products.{product}
 use Rattle.gf2.specs.Check.{Accepted}
 use Rattle.gf2.specs.Field.{Op, Field}
 use Rattle.gf2.specs.Inverse.{inverse}
@@ -23,13 +22,13 @@ use Rattle.table.specs.Judgements.{checkFault, symmetryFault}
 use Rattle.table.proofs.Theorems.{acceptance, fields, symmetry}
 use Rattle.netlist.specs.Gates.{Netlist, words}
 use Rattle.netlist.specs.Lists.{plain, reduced, common}
-use Rattle.netlist.specs.Running.{readList, wires, result}
+use Rattle.netlist.specs.Running.{wires, result}
 use Rattle.netlist.specs.Calls.{answer, countedAs, countsCall}
 use Rattle.netlist.specs.Statements.{ListsHold, Holds as ListHolds, Counted, CommonCounts}
 use Rattle.netlist.proofs.Theorems.{theoremLists, theoremCommon}
 use Rattle.nb.specs.Judgements.{runBytesFault}
-use Rattle.nb.specs.Calls.{productResult, inverseResult, runResult, runWires}
-use Rattle.nb.proofs.CarryLaws.{HasBytes, inverse-is}
+use Rattle.nb.specs.Calls.{inverseResult, runResult, runWires}
+use Rattle.nb.proofs.CarryLaws.{inverse-is}
 use Rattle.promises.specs.Demand3.{wordsWritten, Multiplies, Reduces, Runs, RunsToProduct, Inverts, HasGates, UnderAccepted, Demand3}
 use Rattle.promises.proofs.AnswerLaws.{none-true}
 use Rattle.promises.proofs.NoFaults.{Passed, product-none, reduced-none, inverse-none, run-none, list-none}

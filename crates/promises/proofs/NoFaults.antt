@@ -1,22 +1,20 @@
 -- Calls that give no fault: on operands of W bytes under a table of the right shape, with buffers of the lengths laid down.
-use mathlib.Core.Path.{_≡_, refl, sym, ap, _∙_}
-use mathlib.Core.Bool.{Bool, true, false, true≢false}
+use mathlib.Core.Path.{_≡_, refl, ap, _∙_}
+use mathlib.Core.Bool.{Bool, true, false}
 use mathlib.Core.List.{List, [], _∷_}
-use Prim.Native.Nat.{ℕ, _+_, _*_, _<_, _≤_}
-use native.Mathlib.Omega.{arith}
+use Prim.Native.Nat.{ℕ, _+_, _*_, _≤_}
 use lib.ListN.{length}
-use lib.Dec.{ltb}
 use borrow.Author.Tests.{le-ltb}
-use Rattle.gf2.specs.Operands.{maxWidth, bytesFor, carriedBytes, IsOperand, zeroes}
+use Rattle.gf2.specs.Operands.{bytesFor, carriedBytes, zeroes}
 use Rattle.gf2.specs.Field.{Op}
 use Rattle.gf2.proofs.Operands.{from-operand}
 use Rattle.operand.specs.declared.Operand.{Operand}
 use Rattle.operand.specs.declared.fault.Fault.{Fault}
 use Rattle.operand.specs.declared.fault.Fault.the-variants.{None, InverseOfZero, OutputShort}
-use Rattle.operand.specs.Faults.{isNone, when, firstOf}
-use Rattle.operand.specs.Judgements.{widthFault, lengthFault, highFault}
+use Rattle.operand.specs.Faults.{when, firstOf}
+use Rattle.operand.specs.Judgements.{widthFault, lengthFault}
 use Rattle.operand.proofs.FaultLaws.{none-is, or-both, or-second, length-fine}
-use Rattle.operand.proofs.FaultFree.{IsWidth, carry, width-none, length-none, high-none}
+use Rattle.operand.proofs.FaultFree.{carry, width-none, length-none, high-none}
 use Rattle.table.specs.Rows.{Shaped}
 use Rattle.table.specs.Judgements.{same, rowsFault, rowZeroFault, rowPairFault, shapeFault, symmetryFault}
 use Rattle.table.proofs.Searches.{same-correct}

@@ -1,15 +1,14 @@
 -- The report program: what it prints for each input, by what reading the card and checking its table find.
-use mathlib.Core.Path.{_≡_, refl, sym, ap, ap₂, _∙_}
-use mathlib.Core.Bool.{true, false}
+use mathlib.Core.Path.{_≡_, sym, ap, _∙_}
 use mathlib.Core.List.{List, [], _∷_, _++_, append-assoc}
 use Prim.Native.Nat.{ℕ, _≤_}
 use lib.ListN.{length}
 use Rattle.operand.specs.declared.fault.Fault.{Fault}
 use Rattle.operand.specs.declared.fault.Fault.the-variants.{None}
-use Rattle.operand.specs.Faults.{isNone, firstOf}
+use Rattle.operand.specs.Faults.{firstOf}
 use Rattle.operand.proofs.FaultLaws.{none-is, or-both}
-use Rattle.table.specs.Judgements.{symmetryFault, tripleFault, rowSumFault, checkFault}
-use Rattle.netlist.specs.Gates.{Netlist, andGates, xorGates}
+use Rattle.table.specs.Judgements.{symmetryFault, checkFault}
+use Rattle.netlist.specs.Gates.{Netlist}
 use Rattle.netlist.specs.Lists.{plain, reduced, common}
 use Rattle.netlist.specs.Calls.{answer, countsCall}
 use Rattle.card.specs.Numbers.{Read, refused, got}

@@ -10,7 +10,6 @@ use Rattle.gf2.specs.Quadratic.{trace, root}
 use Rattle.gf2.specs.Tables.{onesIn}
 use Rattle.gf2.specs.Products.{product, reduced}
 use Rattle.gf2.specs.Inverse.{inverse, productsMade}
-use Rattle.operand.specs.declared.fault.Fault.{Fault}
 use Rattle.operand.specs.declared.fault.Fault.the-variants.{None}
 use Rattle.operand.specs.Judgements.{bytesFault}
 use Rattle.table.specs.Judgements.{checkFault, symmetryFault, shapeFault}
@@ -28,7 +27,7 @@ use Rattle.card.specs.Statements.{Bytes}
 use Rattle.nb.specs.Packing.{Unpacks}
 use Rattle.nb.specs.Judgements.{constantBytesFault, turnBytesFault, sumBytesFault, solveBytesFault, productBytesFault, reducedBytesFault, inverseBytesFault, runBytesFault}
 use Rattle.nb.specs.Calls.{checkAnswer, onesAnswer, zeroAnswer, zeroResult, oneAnswer, oneResult, turnAnswer, turnResult, sumAnswer, sumResult, traceAnswer, solveAnswer, solveResult, productAnswer, productResult, reducedAnswer, reducedResult, inverseAnswer, inverseResult, countsAnswer, runAnswer, runResult, runWires, typeAnswer, cardAnswer}
-use Rattle.promises.specs.Causes.{Cause, badWidth, turnTooFar, traceOne, tooShort, typeZero}
+use Rattle.promises.specs.Causes.{badWidth, turnTooFar, traceOne, tooShort, typeZero}
 use Rattle.promises.specs.CardCauses.{GoodCard, ExactCard}
 use Rattle.promises.specs.CallCauses.{notW, notTable, shapeCauses, ruleCauses, symmetryCauses, checkCauses, operandCauses, unaryCauses, sumCauses, productCauses, inverseCauses, runCauses}
 use Rattle.promises.specs.Answers.{Refuses, Lent, Asks, Fills}
