@@ -1,5 +1,5 @@
 -- Laws of answers and of lent buffers, by whether there is a fault.
-use mathlib.Core.Path.{_≡_, refl, ap, subst}
+use mathlib.Core.Path.{_≡_, refl, subst}
 use mathlib.Core.Bool.{Bool, true, false}
 use mathlib.Core.List.{List}
 use Prim.Native.Nat.{ℕ}
@@ -9,15 +9,12 @@ use Rattle.operand.specs.declared.fault.Fault.the-variants.{None}
 use Rattle.operand.specs.Faults.{isNone}
 use Rattle.operand.specs.Calls.{chooseBytes}
 use Rattle.operand.proofs.FaultLaws.{none-is}
+use Rattle.table.proofs.Searches.{none-true}
 use Rattle.nb.specs.Packing.{packedAnswer, Packs, Unpacks}
 use Rattle.nb.proofs.PackLaws.{unpack-refused, unpack-answered}
 use Rattle.promises.specs.Causes.{Cause}
 use Rattle.promises.specs.Answers.{Numbered, Lent, Fills}
 use Rattle.promises.proofs.CauseLaws.{Decided, exact}
-
-pub none-true : {f : Fault} → f ≡ None → isNone f ≡ true
-unfolding isNone
-none-true e = ap isNone e
 
 pub some-false : (f : Fault) → ¬ (f ≡ None) → isNone f ≡ false
 some-false f n = go (isNone f) refl

@@ -8,6 +8,7 @@ use Rattle.operand.specs.declared.fault.Fault.{Fault}
 use Rattle.operand.specs.Faults.{isNone, firstOf}
 use Rattle.operand.specs.Judgements.{turnFault, traceFault, operandFault, pairFault}
 use Rattle.operand.specs.Calls.{answer}
+use Rattle.table.proofs.Searches.{none-true}
 use Rattle.product.specs.Judgements.{productFault, reducedFault, zeroFault, inverseFault}
 use Rattle.netlist.specs.Judgements.{widthsFault, lengthsFault, bitsFault, runFault}
 use Rattle.promises.specs.Causes.{Cause, turnTooFar, isZero, traceOne}
@@ -15,7 +16,7 @@ use Rattle.promises.specs.CallCauses.{ruleCauses}
 use Rattle.promises.specs.CarriedCalls.{carriedCauses, pairCauses, factorCauses, invertedCauses, ranCauses, Gives, GivesNumber, CarriedCalls}
 use Rattle.promises.proofs.CauseLaws.{Decided, then, last, exact}
 use Rattle.promises.proofs.CauseTests.{by-width, by-length, by-high, by-rows, by-turn, by-trace, by-zero-of, by-row-zero, by-row-pairs, by-words, by-gates}
-use Rattle.promises.proofs.AnswerLaws.{none-true, some-false, chosen, lent}
+use Rattle.promises.proofs.AnswerLaws.{some-false, chosen, lent}
 
 -- an operand's answer, and a number's
 gives : {causes : List Cause} {f : Fault} → Decided causes f → (m : ℕ) (bytes : List ℕ) → Gives causes (answer f m bytes) m bytes

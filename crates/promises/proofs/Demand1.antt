@@ -11,6 +11,7 @@ use Rattle.operand.specs.Faults.{isNone}
 use Rattle.operand.specs.Judgements.{lengthFault, bytesFault}
 use Rattle.table.specs.Judgements.{symmetryFault, shapeFault}
 use Rattle.table.specs.Calls.{onesCall}
+use Rattle.table.proofs.Searches.{none-true}
 use Rattle.netlist.specs.Gates.{Netlist, words}
 use Rattle.netlist.specs.Lists.{plain, reduced, common}
 use Rattle.netlist.specs.Running.{gateCount}
@@ -35,7 +36,7 @@ use Rattle.promises.specs.Demand1.{Lists, Reads, Demand1}
 use Rattle.promises.proofs.CauseLaws.{Decided, then, last, exact}
 use Rattle.promises.proofs.CauseTests.{by-width, by-length, by-high, by-rows, by-turn, by-trace, by-zero, by-row-zero, by-row-pairs, by-shape, by-symmetry, by-check, by-room, by-type, by-words, by-gates}
 use Rattle.promises.proofs.CardTests.{good-read, card-exact}
-use Rattle.promises.proofs.AnswerLaws.{none-true, some-false, numbered, plainly, chosen, lent, fills}
+use Rattle.promises.proofs.AnswerLaws.{some-false, numbered, plainly, chosen, lent, fills}
 use Rattle.promises.proofs.CarriedCalls.{carried-calls}
 use Rattle.promises.proofs.Reports.{reports}
 

@@ -20,6 +20,7 @@ use Rattle.operand.specs.Faults.{isNone}
 use Rattle.table.specs.Rows.{Shaped}
 use Rattle.table.specs.Judgements.{checkFault, symmetryFault}
 use Rattle.table.proofs.Theorems.{acceptance, fields, symmetry}
+use Rattle.table.proofs.Searches.{none-true}
 use Rattle.netlist.specs.Gates.{Netlist, words}
 use Rattle.netlist.specs.Lists.{plain, reduced, common}
 use Rattle.netlist.specs.Running.{wires, result}
@@ -30,7 +31,6 @@ use Rattle.nb.specs.Judgements.{runBytesFault}
 use Rattle.nb.specs.Calls.{inverseResult, runResult, runWires}
 use Rattle.nb.proofs.CarryLaws.{inverse-is}
 use Rattle.promises.specs.Demand3.{wordsWritten, Multiplies, Reduces, Runs, RunsToProduct, Inverts, HasGates, UnderAccepted, Demand3}
-use Rattle.promises.proofs.AnswerLaws.{none-true}
 use Rattle.promises.proofs.NoFaults.{Passed, product-none, reduced-none, inverse-none, run-none, list-none}
 
 -- n(n+1) is even

@@ -17,14 +17,13 @@ use Rattle.operand.proofs.FaultLaws.{none-is, or-both, or-second, length-fine}
 use Rattle.operand.proofs.FaultFree.{carry, width-none, length-none, high-none}
 use Rattle.table.specs.Rows.{Shaped}
 use Rattle.table.specs.Judgements.{same, rowsFault, rowZeroFault, rowPairFault, shapeFault, symmetryFault}
-use Rattle.table.proofs.Searches.{same-correct}
+use Rattle.table.proofs.Searches.{same-correct, none-true}
 use Rattle.netlist.specs.Gates.{Netlist, words}
 use Rattle.netlist.specs.Running.{gateCount}
 use Rattle.netlist.specs.Judgements.{widthsFault, wordsFault, lengthsFault, bitsFault, gatesFault, runFault, outputFault}
 use Rattle.netlist.specs.Calls.{listFault}
 use Rattle.netlist.specs.Statements.{Runs}
 use Rattle.nb.specs.Judgements.{productBytesFault, reducedBytesFault, zeroBytesFault, inverseBytesFault, runBytesFault}
-use Rattle.promises.proofs.AnswerLaws.{none-true}
 
 -- each of several faults is none
 abbrev AllNone : List Fault → Type 0

@@ -8,6 +8,7 @@ use Rattle.operand.specs.declared.fault.Fault.the-variants.{None}
 use Rattle.operand.specs.Faults.{firstOf}
 use Rattle.operand.proofs.FaultLaws.{none-is, or-both}
 use Rattle.table.specs.Judgements.{symmetryFault, checkFault}
+use Rattle.table.proofs.Searches.{none-true}
 use Rattle.netlist.specs.Gates.{Netlist}
 use Rattle.netlist.specs.Lists.{plain, reduced, common}
 use Rattle.netlist.specs.Calls.{answer, countsCall}
@@ -25,7 +26,7 @@ use Rattle.promises.specs.Reports.{head, gates, Reports}
 use Rattle.promises.proofs.CauseLaws.{exact, first-is, first-some}
 use Rattle.promises.proofs.CauseTests.{by-check}
 use Rattle.promises.proofs.CardTests.{good-read, card-exact}
-use Rattle.promises.proofs.AnswerLaws.{none-true, some-false}
+use Rattle.promises.proofs.AnswerLaws.{some-false}
 
 module _ (m : ℕ) (table : List ℕ) where
   -- a check fault
