@@ -16,12 +16,6 @@ use Rattle.gaussian.proofs.draw.Tie as tie
 fine : (c : tie.Then1) → let a = c .before .before .before .before .args in isNone (drawFault (a .width) (length (a .table .now))) ≡ true
 fine c = judged (fault-drawn _ _ (c .before .before .judge-draw .ensures)) (c .before .is-none .ensures) (c .if1 .taken)
 
-judge-draw-requires : tie.Need-judge-draw-requires
-judge-draw-requires c κs = search needs
-
-is-none-requires : tie.Need-is-none-requires
-is-none-requires c κs = search needs
-
 fill-requires : tie.Need-fill-requires
 fill-requires c κs =
     let s = c .before .before .before in
@@ -29,9 +23,6 @@ fill-requires c κs =
       rw (type-drawn _ _ (s .judge-draw .ensures) (fine (c .before))) (drawable _ _ d),
       record { greatest = d .greatest; size = d .laidDown; row = omega (arith, d .least) },
     )
-
-same-length : tie.Need-same-length
-same-length c = search needs
 
 returns : tie.Need-returns
 returns c =
@@ -47,4 +38,4 @@ returns-2 c =
 pub draw-spec : {M : Type 1} → statement M
 draw-spec =
     tie.close
-    (tie.spec judge-draw-requires is-none-requires fill-requires same-length returns returns-2)
+    (tie.spec (λ c κs. search needs) (λ c κs. search needs) fill-requires (λ c. search needs) returns returns-2)

@@ -23,38 +23,20 @@ fine c = judged (c .before .before .judge-width .ensures) (c .before .is-none .e
 room : (c : tie.After-judge-length) → let a = c .before .before .before .before .before .args in c .judge-length .result ≡ lengthFault (a .size) (a .width * bytesFor (a .width))
 room c = let a = c .before .before .before .before .before .args in c .judge-length .ensures ∙ ap (λ n. lengthFault (a .size) (a .width * n)) (c .before .bytes-for .ensures)
 
-judge-width-requires : tie.Need-judge-width-requires
-judge-width-requires c κs = search needs
-
-is-none-requires : tie.Need-is-none-requires
-is-none-requires c κs = search needs
-
 returns : tie.Need-returns
 returns c =
     let s = c .before .before in
     draw-width _ _ (s .judge-width .ensures) (judged (s .judge-width .ensures) (c .before .is-none .ensures) (not-true _ (c .if1 .taken)))
-
-bytes-for-requires : tie.Need-bytes-for-requires
-bytes-for-requires c κs = search needs
 
 mul-judge-length : tie.Need-mul-judge-length
 mul-judge-length c =
     let w = width-fine _ (fine (c .before)) in
     rw (c .bytes-for .ensures) (omega (arith, row-small _ _ (w .1) (le-refl _)))
 
-judge-length-requires : tie.Need-judge-length-requires
-judge-length-requires c κs = search needs
-
-is-none-requires-2 : tie.Need-is-none-requires-2
-is-none-requires-2 c κs = search needs
-
 returns-2 : tie.Need-returns-2
 returns-2 c =
     let s = c .before .before in
     draw-room _ _ (fine (s .before .before)) (room s) (judged (room s) (c .before .is-none2 .ensures) (not-true _ (c .if2 .taken)))
-
-type-of-requires : tie.Need-type-of-requires
-type-of-requires c κs = search needs
 
 returns-3 : tie.Need-returns-3
 returns-3 c =
@@ -65,13 +47,13 @@ pub judge-draw-spec : {M : Type 1} → statement M
 judge-draw-spec =
     tie.close
     (tie.spec
-    judge-width-requires
-    is-none-requires
+    (λ c κs. search needs)
+    (λ c κs. search needs)
     returns
-    bytes-for-requires
+    (λ c κs. search needs)
     mul-judge-length
-    judge-length-requires
-    is-none-requires-2
+    (λ c κs. search needs)
+    (λ c κs. search needs)
     returns-2
-    type-of-requires
+    (λ c κs. search needs)
     returns-3)

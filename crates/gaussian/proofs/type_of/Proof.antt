@@ -14,12 +14,6 @@ use Rattle.gaussian.proofs.type_of.Tie as tie
 fine : (c : tie.Else1) → isNone (widthFault (c .before .before .before .args .width)) ≡ true
 fine c = judged (c .before .before .judge-width .ensures) (c .before .is-none .ensures) (not-false _ (c .if1 .left))
 
-judge-width-requires : tie.Need-judge-width-requires
-judge-width-requires c κs = search needs
-
-is-none-requires : tie.Need-is-none-requires
-is-none-requires c κs = search needs
-
 returns : tie.Need-returns
 returns c =
     let s = c .before .before in
@@ -37,4 +31,4 @@ returns-3 c = type-given _ (fine (c .before .before)) (c .before .listed .ensure
 pub type-of-spec : {M : Type 1} → statement M
 type-of-spec =
     tie.close
-    (tie.spec judge-width-requires is-none-requires returns listed-requires returns-2 returns-3)
+    (tie.spec (λ c κs. search needs) (λ c κs. search needs) returns listed-requires returns-2 returns-3)

@@ -11,12 +11,6 @@ use borrow.Author.Needs.{needs}
 use Rattle.product.proofs.inverse.Statement.{statement}
 use Rattle.product.proofs.inverse.Tie as tie
 
-judge-inverse-requires : tie.Need-judge-inverse-requires
-judge-inverse-requires c κs = search needs
-
-is-none-requires : tie.Need-is-none-requires
-is-none-requires c κs = search needs
-
 inverted-requires : tie.Need-inverted-requires
 inverted-requires c κs =
     let a = c .before .before .before .before .args in
@@ -24,9 +18,6 @@ inverted-requires c κs =
     let small : (k : ℕ) → Fits w8 (getD (a .a .bytes) k 0) = λ k. search needs in
     inverse-fine _ _ (λ k. c .before .before .before .shared-slice-known .given k .fits) _ size (λ k. small k .fits)
     (judged (c .before .before .judge-inverse .ensures) (c .before .is-none .ensures) (c .if1 .taken))
-
-refused-requires : tie.Need-refused-requires
-refused-requires c κs = search needs
 
 returns : tie.Need-returns
 returns c =
@@ -41,9 +32,9 @@ pub inverse-spec : {M : Type 1} → statement M
 inverse-spec =
     tie.close
     (tie.spec
-    judge-inverse-requires
-    is-none-requires
+    (λ c κs. search needs)
+    (λ c κs. search needs)
     inverted-requires
-    refused-requires
+    (λ c κs. search needs)
     returns
     returns-2)

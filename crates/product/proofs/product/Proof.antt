@@ -12,12 +12,6 @@ use borrow.Author.Needs.{needs}
 use Rattle.product.proofs.product.Statement.{statement}
 use Rattle.product.proofs.product.Tie as tie
 
-judge-product-requires : tie.Need-judge-product-requires
-judge-product-requires c κs = search needs
-
-is-none-requires : tie.Need-is-none-requires
-is-none-requires c κs = search needs
-
 times-requires : tie.Need-times-requires
 times-requires c κs =
     let a = c .before .before .before .before .args in
@@ -27,9 +21,6 @@ times-requires c κs =
     let smallᵇ : (k : ℕ) → Fits w8 (getD (a .b .bytes) k 0) = λ k. search needs in
     product-fine _ _ (λ k. c .before .before .before .shared-slice-known .given k .fits) _ size (λ k. small k .fits) _ sizeᵇ (λ k. smallᵇ k .fits)
     (judged (c .before .before .judge-product .ensures) (c .before .is-none .ensures) (c .if1 .taken))
-
-refused-requires : tie.Need-refused-requires
-refused-requires c κs = search needs
 
 returns : tie.Need-returns
 returns c =
@@ -45,9 +36,9 @@ pub product-spec : {M : Type 1} → statement M
 product-spec =
     tie.close
     (tie.spec
-    judge-product-requires
-    is-none-requires
+    (λ c κs. search needs)
+    (λ c κs. search needs)
     times-requires
-    refused-requires
+    (λ c κs. search needs)
     returns
     returns-2)

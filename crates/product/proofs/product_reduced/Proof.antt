@@ -12,12 +12,6 @@ use borrow.Author.Needs.{needs}
 use Rattle.product.proofs.product_reduced.Statement.{statement}
 use Rattle.product.proofs.product_reduced.Tie as tie
 
-judge-reduced-requires : tie.Need-judge-reduced-requires
-judge-reduced-requires c κs = search needs
-
-is-none-requires : tie.Need-is-none-requires
-is-none-requires c κs = search needs
-
 times-reduced-requires : tie.Need-times-reduced-requires
 times-reduced-requires c κs =
     let a = c .before .before .before .before .args in
@@ -27,9 +21,6 @@ times-reduced-requires c κs =
     let smallᵇ : (k : ℕ) → Fits w8 (getD (a .b .bytes) k 0) = λ k. search needs in
     reduced-fine _ _ (λ k. c .before .before .before .shared-slice-known .given k .fits) _ size (λ k. small k .fits) _ sizeᵇ (λ k. smallᵇ k .fits)
     (judged (c .before .before .judge-reduced .ensures) (c .before .is-none .ensures) (c .if1 .taken))
-
-refused-requires : tie.Need-refused-requires
-refused-requires c κs = search needs
 
 returns : tie.Need-returns
 returns c =
@@ -45,9 +36,9 @@ pub product-reduced-spec : {M : Type 1} → statement M
 product-reduced-spec =
     tie.close
     (tie.spec
-    judge-reduced-requires
-    is-none-requires
+    (λ c κs. search needs)
+    (λ c κs. search needs)
     times-reduced-requires
-    refused-requires
+    (λ c κs. search needs)
     returns
     returns-2)

@@ -5,14 +5,8 @@ use borrow.Author.Needs.{needs}
 use Rattle.card.proofs.reading.bit_value.Statement.{statement}
 use Rattle.card.proofs.reading.bit_value.Tie as tie
 
-cast-result : tie.Need-cast-result
-cast-result c = search needs
-
-shl-result : tie.Need-shl-result
-shl-result c = search needs
-
 returns : tie.Need-returns
 returns c = omega (arith, power-byte (c .args .j) (omega arith))
 
 pub bit-value-spec : {M : Type 1} → statement M
-bit-value-spec = tie.close (tie.spec cast-result shl-result returns)
+bit-value-spec = tie.close (tie.spec (λ c. search needs) (λ c. search needs) returns)

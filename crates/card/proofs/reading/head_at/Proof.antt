@@ -6,18 +6,6 @@ use borrow.Author.Needs.{needs}
 use Rattle.card.proofs.reading.head_at.Statement.{statement}
 use Rattle.card.proofs.reading.head_at.Tie as tie
 
-number-at-requires : tie.Need-number-at-requires
-number-at-requires c κs = search needs
-
-enum-known-f : tie.Need-enum-known-f
-enum-known-f c = search needs
-
-enum-known-form : tie.Need-enum-known-form
-enum-known-form c = search needs
-
-width-at-requires : tie.Need-width-at-requires
-width-at-requires c κs = search needs
-
 returns : tie.Need-returns
 returns c = head-refused _ _ (sym (c .before .before .before .number-at .ensures) ∙ ap (told _) (c .before .f .given .1))
 
@@ -31,10 +19,10 @@ pub head-at-spec : {M : Type 1} → statement M
 head-at-spec =
     tie.close
     (tie.spec
-    number-at-requires
-    enum-known-f
-    enum-known-form
-    width-at-requires
+    (λ c κs. search needs)
+    (λ c. search needs)
+    (λ c. search needs)
+    (λ c κs. search needs)
     returns
     returns-2
     returns-3)

@@ -8,17 +8,8 @@ use borrow.Author.Needs.{needs}
 use Rattle.card.proofs.reading.judge_lent.Statement.{statement}
 use Rattle.card.proofs.reading.judge_lent.Tie as tie
 
-judge-width-requires : tie.Need-judge-width-requires
-judge-width-requires c κs = search needs
-
-is-none-requires : tie.Need-is-none-requires
-is-none-requires c κs = search needs
-
 returns : tie.Need-returns
 returns c = lent-width _ _ (c .before .before .judge-width .ensures) (judged (c .before .before .judge-width .ensures) (c .before .is-none .ensures) (not-true _ (c .if1 .taken)))
-
-bytes-for-requires : tie.Need-bytes-for-requires
-bytes-for-requires c κs = search needs
 
 mul-if2 : tie.Need-mul-if2
 mul-if2 c =
@@ -35,10 +26,10 @@ pub judge-lent-spec : {M : Type 1} → statement M
 judge-lent-spec =
     tie.close
     (tie.spec
-    judge-width-requires
-    is-none-requires
+    (λ c κs. search needs)
+    (λ c κs. search needs)
     returns
-    bytes-for-requires
+    (λ c κs. search needs)
     mul-if2
     returns-2
     returns-3)

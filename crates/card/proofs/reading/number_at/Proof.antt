@@ -10,14 +10,8 @@ use Rattle.card.proofs.reading.number_at.Tie as tie
 returns : tie.Need-returns
 returns c = sym (number-ends _ _ (c .if1 .taken))
 
-shared-slice-read-low : tie.Need-shared-slice-read-low
-shared-slice-read-low c = search needs
-
 cast-low : tie.Need-cast-low
 cast-low c = omega (arith, c .shared-slice-known .given (c .before .before .args .at))
-
-add-next : tie.Need-add-next
-add-next c = search needs
 
 returns-2 : tie.Need-returns-2
 returns-2 c = sym (number-short _ _ (c .before .before .if1 .left) (c .if2 .taken))
@@ -25,23 +19,14 @@ returns-2 c = sym (number-short _ _ (c .before .before .if1 .left) (c .if2 .take
 returns-3 : tie.Need-returns-3
 returns-3 c = sym (number-long _ _ (c .before .before .before .if1 .left) (c .before .if2 .left) ∙ second-ends _ _ _ (c .if3 .taken))
 
-shared-slice-read-high : tie.Need-shared-slice-read-high
-shared-slice-read-high c = search needs
-
 cast-high : tie.Need-cast-high
 cast-high c = omega (arith, c .shared-slice-known2 .given (c .before .before .before .before .before .args .at + 1))
 
 returns-4 : tie.Need-returns-4
 returns-4 c = sym (number-long _ _ (c .before .before .before .before .before .if1 .left) (c .before .before .before .if2 .left) ∙ second-zero _ _ _ (c .before .before .if3 .left) (c .if4 .taken))
 
-mul-t16 : tie.Need-mul-t16
-mul-t16 c = search needs
-
 add-t17 : tie.Need-add-t17
 add-t17 c = omega (arith, c .before .before .before .before .before .shared-slice-known .given (c .before .before .before .before .before .before .before .args .at))
-
-add-t18 : tie.Need-add-t18
-add-t18 c = search needs
 
 returns-5 : tie.Need-returns-5
 returns-5 c = sym (number-long _ _ (c .before .before .before .before .before .before .if1 .left) (c .before .before .before .before .if2 .left) ∙ second-last _ _ _ (c .before .before .before .if3 .left) (c .before .if4 .left) (c .if5 .taken))
@@ -54,16 +39,16 @@ number-at-spec =
     tie.close
     (tie.spec
     returns
-    shared-slice-read-low
+    (λ c. search needs)
     cast-low
-    add-next
+    (λ c. search needs)
     returns-2
     returns-3
-    shared-slice-read-high
+    (λ c. search needs)
     cast-high
     returns-4
-    mul-t16
+    (λ c. search needs)
     add-t17
-    add-t18
+    (λ c. search needs)
     returns-5
     returns-6)

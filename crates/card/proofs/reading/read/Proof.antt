@@ -7,37 +7,10 @@ use borrow.Author.Needs.{needs}
 use Rattle.card.proofs.reading.read.Statement.{statement}
 use Rattle.card.proofs.reading.read.Tie as tie
 
-head-at-requires : tie.Need-head-at-requires
-head-at-requires c κs = search needs
-
-enum-known-f : tie.Need-enum-known-f
-enum-known-f c = search needs
-
-refused-requires : tie.Need-refused-requires
-refused-requires c κs = search needs
-
-enum-known-width : tie.Need-enum-known-width
-enum-known-width c = search needs
-
-slice-aggregate-rows-at : tie.Need-slice-aggregate-rows-at
-slice-aggregate-rows-at c = search needs
-
 rows-at-requires : tie.Need-rows-at-requires
 rows-at-requires c κs =
     let lent = head-parts _ _ _ _ (sym (c .before .before .before .before .head-at .ensures) ∙ ap (told _) (c .before .before .width .given .1)) .lent in
     (lent .greatest, lent .greatest)
-
-enum-known-f-2 : tie.Need-enum-known-f-2
-enum-known-f-2 c = search needs
-
-refused-requires-2 : tie.Need-refused-requires-2
-refused-requires-2 c κs = search needs
-
-enum-known-end : tie.Need-enum-known-end
-enum-known-end c = search needs
-
-refused-requires-3 : tie.Need-refused-requires-3
-refused-requires-3 c κs = search needs
 
 rows-at-requires-2 : tie.Need-rows-at-requires-2
 rows-at-requires-2 c κs =
@@ -61,9 +34,6 @@ returns-3 c =
     let x = card-tail _ _ head (sym (ap (told _) (c .before .before .before .end .given .1)) ∙ c .before .before .before .before .before .before .rows-at .ensures .ends) (c .before .if1 .taken) in
     (c .refused3 .ensures ∙ x .answers, x .leaves)
 
-same-length : tie.Need-same-length
-same-length c = search needs
-
 returns-4 : tie.Need-returns-4
 returns-4 c =
     let head = sym (c .before .before .before .before .before .before .before .before .before .before .before .before .before .before .head-at .ensures) ∙ ap (told _) (c .before .before .before .before .before .before .before .before .before .before .before .before .width .given .1) in
@@ -74,19 +44,19 @@ pub read-spec : {M : Type 1} → statement M
 read-spec =
     tie.close
     (tie.spec
-    head-at-requires
-    enum-known-f
-    refused-requires
-    enum-known-width
-    slice-aggregate-rows-at
+    (λ c κs. search needs)
+    (λ c. search needs)
+    (λ c κs. search needs)
+    (λ c. search needs)
+    (λ c. search needs)
     rows-at-requires
-    enum-known-f-2
-    refused-requires-2
-    enum-known-end
-    refused-requires-3
+    (λ c. search needs)
+    (λ c κs. search needs)
+    (λ c. search needs)
+    (λ c κs. search needs)
     rows-at-requires-2
     returns
     returns-2
     returns-3
-    same-length
+    (λ c. search needs)
     returns-4)

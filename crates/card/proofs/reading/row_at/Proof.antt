@@ -7,18 +7,6 @@ use borrow.Author.Needs.{needs}
 use Rattle.card.proofs.reading.row_at.Statement.{statement}
 use Rattle.card.proofs.reading.row_at.Tie as tie
 
-number-at-requires : tie.Need-number-at-requires
-number-at-requires c κs = search needs
-
-enum-known-f : tie.Need-enum-known-f
-enum-known-f c = search needs
-
-enum-known-count : tie.Need-enum-known-count
-enum-known-count c = search needs
-
-places-at-requires : tie.Need-places-at-requires
-places-at-requires c κs = search needs
-
 returns : tie.Need-returns
 returns c = row-refused _ _ (sym (c .before .before .before .number-at .ensures) ∙ ap (told _) (c .before .f .given .1))
 
@@ -32,10 +20,10 @@ pub row-at-spec : {M : Type 1} → statement M
 row-at-spec =
     tie.close
     (tie.spec
-    number-at-requires
-    enum-known-f
-    enum-known-count
-    places-at-requires
+    (λ c κs. search needs)
+    (λ c. search needs)
+    (λ c. search needs)
+    (λ c κs. search needs)
     returns
     returns-2
     returns-3)

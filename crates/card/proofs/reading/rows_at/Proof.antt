@@ -15,38 +15,14 @@ Inv-loop card at width count table₀ size next₀ from₀ d₀ table next from 
 abbrev μ-loop : tie.MeasureT-loop
 μ-loop card at width count table₀ size next₀ from₀ d₀ table next from d = count - d
 
-bytes-for-requires : tie.Need-bytes-for-requires Inv-loop μ-loop
-bytes-for-requires c κs = search needs
-
 loop-holds : tie.Need-loop-holds Inv-loop μ-loop
 loop-holds c = rows-none _ _ _ _
-
-row-at-requires : tie.Need-row-at-requires Inv-loop μ-loop
-row-at-requires c κs = search needs
-
-enum-known-end : tie.Need-enum-known-end Inv-loop μ-loop
-enum-known-end c = search needs
 
 same-length : tie.Need-same-length Inv-loop μ-loop
 same-length c = c .before .before .before .before .before .loop .inv .kept
 
 returns : tie.Need-returns Inv-loop μ-loop
 returns c = rows-refused (c .before .before .before .before .before .loop .inv) (c .before .before .before .before .loop-test .taken) (carried-refused _ _ (sym (c .before .before .before .row-at .ensures) ∙ ap (toldBytes _ _) (c .before .end .given .1)))
-
-enum-known-end-2 : tie.Need-enum-known-end-2 Inv-loop μ-loop
-enum-known-end-2 c = search needs
-
-put-bytes-requires : tie.Need-put-bytes-requires Inv-loop μ-loop
-put-bytes-requires c κs = search needs
-
-add-from : tie.Need-add-from Inv-loop μ-loop
-add-from c = search needs
-
-add-d : tie.Need-add-d Inv-loop μ-loop
-add-d c = search needs
-
-loop-less : tie.Need-loop-less Inv-loop μ-loop
-loop-less c = search needs
 
 loop-again : tie.Need-loop-again Inv-loop μ-loop
 loop-again c =
@@ -68,17 +44,17 @@ rows-at-spec =
     (tie.spec
     Inv-loop
     μ-loop
-    bytes-for-requires
+    (λ c κs. search needs)
     loop-holds
-    row-at-requires
-    enum-known-end
+    (λ c κs. search needs)
+    (λ c. search needs)
     same-length
     returns
-    enum-known-end-2
-    put-bytes-requires
-    add-from
-    add-d
-    loop-less
+    (λ c. search needs)
+    (λ c κs. search needs)
+    (λ c. search needs)
+    (λ c. search needs)
+    (λ c. search needs)
     loop-again
     same-length-2
     returns-2)

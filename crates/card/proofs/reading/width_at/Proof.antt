@@ -8,21 +8,6 @@ use borrow.Author.Needs.{needs}
 use Rattle.card.proofs.reading.width_at.Statement.{statement}
 use Rattle.card.proofs.reading.width_at.Tie as tie
 
-number-at-requires : tie.Need-number-at-requires
-number-at-requires c κs = search needs
-
-enum-known-f : tie.Need-enum-known-f
-enum-known-f c = search needs
-
-enum-known-width : tie.Need-enum-known-width
-enum-known-width c = search needs
-
-judge-lent-requires : tie.Need-judge-lent-requires
-judge-lent-requires c κs = search needs
-
-is-none-requires : tie.Need-is-none-requires
-is-none-requires c κs = search needs
-
 returns : tie.Need-returns
 returns c = width-refused _ _ (sym (c .before .before .before .number-at .ensures) ∙ ap (told _) (c .before .f .given .1))
 
@@ -36,11 +21,11 @@ pub width-at-spec : {M : Type 1} → statement M
 width-at-spec =
     tie.close
     (tie.spec
-    number-at-requires
-    enum-known-f
-    enum-known-width
-    judge-lent-requires
-    is-none-requires
+    (λ c κs. search needs)
+    (λ c. search needs)
+    (λ c. search needs)
+    (λ c κs. search needs)
+    (λ c κs. search needs)
     returns
     returns-2
     returns-3)

@@ -40,9 +40,6 @@ returns c =
     let l = c .before .before .before .loop in
     begins-from (l .inv .0) (l .inv .1) (begins-here (s .args .row .now) (l .i) (λ k. c .before .shared-slice-known .given k .fits) (c .if1 .taken) (s .args .width))
 
-add-i : tie.Need-add-i Inv-loop μ-loop
-add-i c = search needs
-
 mul-i : tie.Need-mul-i Inv-loop μ-loop
 mul-i c = omega (arith, c .before .before .before .before .pre .1)
 
@@ -71,7 +68,7 @@ next-place-spec =
     cast-result
     add-result
     returns
-    add-i
+    (λ c. search needs)
     mul-i
     loop-less
     loop-again

@@ -22,9 +22,6 @@ loop-holds c = ones-none (c .next-place .ensures)
 add-n : tie.Need-add-n Inv-loop μ-loop
 add-n c = omega (arith, c .before .loop .inv .few, c .before .before .before .before .pre .0)
 
-add-next-place : tie.Need-add-next-place Inv-loop μ-loop
-add-next-place c = search needs
-
 next-place-requires-2 : tie.Need-next-place-requires-2 Inv-loop μ-loop
 next-place-requires-2 c κs = let s = c .before .before .before .before in (omega (arith, c .loop-test .taken), s .pre .0, s .pre .1)
 
@@ -38,4 +35,4 @@ returns : tie.Need-returns Inv-loop μ-loop
 returns c = ones-done (c .before .loop .inv) (c .loop-test .left)
 
 pub ones-spec : {M : Type 1} → statement M
-ones-spec = tie.close (tie.spec Inv-loop μ-loop next-place-requires loop-holds add-n add-next-place next-place-requires-2 loop-less loop-again returns)
+ones-spec = tie.close (tie.spec Inv-loop μ-loop next-place-requires loop-holds add-n (λ c. search needs) next-place-requires-2 loop-less loop-again returns)

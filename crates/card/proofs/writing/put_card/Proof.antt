@@ -6,9 +6,6 @@ use borrow.Author.Needs.{needs}
 use Rattle.card.proofs.writing.put_card.Statement.{statement}
 use Rattle.card.proofs.writing.put_card.Tie as tie
 
-put-number-requires : tie.Need-put-number-requires
-put-number-requires c κs = search needs
-
 put-number-requires-2 : tie.Need-put-number-requires-2
 put-number-requires-2 c κs = omega (arith, one-length, c .before .before .before .put-number .ensures .0)
 
@@ -18,9 +15,6 @@ put-rows-requires c κs =
     let m = a .args .width in
     let t = a .args .table .now in
     (a .pre .0, a .pre .1, omega arith, omega (arith, one-length, c .before .before .before .before .before .before .before .put-number .ensures .0, c .before .before .before .put-number2 .ensures .0, card-length m t, card-most m t (a .pre .0)))
-
-same-length : tie.Need-same-length
-same-length c = search needs
 
 returns : tie.Need-returns
 returns c =
@@ -33,4 +27,4 @@ returns c =
 pub put-card-spec : {M : Type 1} → statement M
 put-card-spec =
     tie.close
-    (tie.spec put-number-requires put-number-requires-2 put-rows-requires same-length returns)
+    (tie.spec (λ c κs. search needs) put-number-requires-2 put-rows-requires (λ c. search needs) returns)

@@ -27,12 +27,6 @@ put-number-requires c κs =
     let s = c .before .before .before .before .before .before in
     (omega (arith, s .pre .0, c .before .loop-test .taken), omega (arith, s .pre .2, c .before .before .loop .inv .ends))
 
-add-free : tie.Need-add-free Inv-loop μ-loop
-add-free c = search needs
-
-add-next-place : tie.Need-add-next-place Inv-loop μ-loop
-add-next-place c = search needs
-
 next-place-requires-2 : tie.Need-next-place-requires-2 Inv-loop μ-loop
 next-place-requires-2 c κs =
     let s = c .before .before .before .before .before .before .before .before .before in
@@ -62,8 +56,8 @@ put-places-spec =
     loop-holds
     sub-put-number
     put-number-requires
-    add-free
-    add-next-place
+    (λ c. search needs)
+    (λ c. search needs)
     next-place-requires-2
     loop-less
     loop-again

@@ -13,14 +13,8 @@ Inv-loop out₀ at table width start count size next₀ d₀ out next d = RowsPu
 abbrev μ-loop : tie.MeasureT-loop
 μ-loop out₀ at table width start count size next₀ d₀ out next d = start + count - d
 
-bytes-for-requires : tie.Need-bytes-for-requires Inv-loop μ-loop
-bytes-for-requires c κs = search needs
-
 loop-holds : tie.Need-loop-holds Inv-loop μ-loop
 loop-holds c = put-none _ _ _ _ _ _
-
-add-loop : tie.Need-add-loop Inv-loop μ-loop
-add-loop c = search needs
 
 mul-from : tie.Need-mul-from Inv-loop μ-loop
 mul-from c =
@@ -31,12 +25,6 @@ add-put-row : tie.Need-add-put-row Inv-loop μ-loop
 add-put-row c =
     let a = c .before .before .before .before .before .before in
     rw (c .before .before .before .bytes-for .ensures) (omega (arith, row-within (a .args .width) (c .before .before .loop .d) (a .args .table .now) (a .pre .1) (omega arith)))
-
-sub-put-row : tie.Need-sub-put-row Inv-loop μ-loop
-sub-put-row c = search needs
-
-part-put-row-start : tie.Need-part-put-row-start Inv-loop μ-loop
-part-put-row-start c = search needs
 
 part-put-row-end : tie.Need-part-put-row-end Inv-loop μ-loop
 part-put-row-end c =
@@ -50,12 +38,6 @@ put-row-requires c κs =
     let lt : c .before .before .before .loop .d < a .args .width = omega arith in
     rw (lent-row (a .args .width) (c .before .before .before .loop .d) _ (a .args .table .now) (c .before .before .before .before .bytes-for .ensures))
     (omega (arith, row-length (a .args .width) (c .before .before .before .loop .d) (a .args .table .now) (a .pre .1) lt), a .pre .0, omega (arith, put-fits inv (omega (arith, c .before .before .loop-test .taken)), a .pre .3))
-
-add-d : tie.Need-add-d Inv-loop μ-loop
-add-d c = search needs
-
-loop-less : tie.Need-loop-less Inv-loop μ-loop
-loop-less c = search needs
 
 loop-again : tie.Need-loop-again Inv-loop μ-loop
 loop-again c =
@@ -75,17 +57,17 @@ put-rows-spec =
     (tie.spec
     Inv-loop
     μ-loop
-    bytes-for-requires
+    (λ c κs. search needs)
     loop-holds
-    add-loop
+    (λ c. search needs)
     mul-from
     add-put-row
-    sub-put-row
-    part-put-row-start
+    (λ c. search needs)
+    (λ c. search needs)
     part-put-row-end
     put-row-requires
-    add-d
-    loop-less
+    (λ c. search needs)
+    (λ c. search needs)
     loop-again
     same-length
     returns)

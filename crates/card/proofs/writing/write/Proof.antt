@@ -8,28 +8,13 @@ use borrow.Author.Needs.{needs}
 use Rattle.card.proofs.writing.write.Statement.{statement}
 use Rattle.card.proofs.writing.write.Tie as tie
 
-judge-shape-requires : tie.Need-judge-shape-requires
-judge-shape-requires c κs = search needs
-
-is-none-requires : tie.Need-is-none-requires
-is-none-requires c κs = search needs
-
-refused-requires : tie.Need-refused-requires
-refused-requires c κs = search needs
-
 returns : tie.Need-returns
 returns c =
     let x = wrote-shape _ _ _ (c .before .before .before .judge-shape .ensures) (sym (c .before .before .is-none .ensures) ∙ not-true _ (c .before .if1 .taken)) in
     (c .refused .ensures ∙ x .answers, x .leaves)
 
-slice-aggregate-put-card : tie.Need-slice-aggregate-put-card
-slice-aggregate-put-card c = search needs
-
 put-card-requires : tie.Need-put-card-requires
 put-card-requires c κs = shape-size _ _ (judged (c .before .before .before .judge-shape .ensures) (c .before .before .is-none .ensures) (not-false _ (c .before .if1 .left)))
-
-refused-requires-2 : tie.Need-refused-requires-2
-refused-requires-2 c κs = search needs
 
 returns-2 : tie.Need-returns-2
 returns-2 c =
@@ -41,9 +26,6 @@ returns-2 c =
 put-card-requires-2 : tie.Need-put-card-requires-2
 put-card-requires-2 c κs = shape-size _ _ (judged (c .before .before .before .before .before .before .before .judge-shape .ensures) (c .before .before .before .before .before .before .is-none .ensures) (not-false _ (c .before .before .before .before .before .if1 .left)))
 
-same-length : tie.Need-same-length
-same-length c = search needs
-
 returns-3 : tie.Need-returns-3
 returns-3 c =
     let shape = judged (c .before .before .before .before .before .before .before .before .before .before .judge-shape .ensures) (c .before .before .before .before .before .before .before .before .before .is-none .ensures) (not-false _ (c .before .before .before .before .before .before .before .before .if1 .left)) in
@@ -54,14 +36,14 @@ pub write-spec : {M : Type 1} → statement M
 write-spec =
     tie.close
     (tie.spec
-    judge-shape-requires
-    is-none-requires
-    refused-requires
+    (λ c κs. search needs)
+    (λ c κs. search needs)
+    (λ c κs. search needs)
     returns
-    slice-aggregate-put-card
+    (λ c. search needs)
     put-card-requires
-    refused-requires-2
+    (λ c κs. search needs)
     returns-2
     put-card-requires-2
-    same-length
+    (λ c. search needs)
     returns-3)

@@ -5,32 +5,17 @@ use borrow.Author.Needs.{needs}
 use Rattle.gaussian.proofs.drawing.add_image.Statement.{statement}
 use Rattle.gaussian.proofs.drawing.add_image.Tie as tie
 
-flip-row-requires : tie.Need-flip-row-requires
-flip-row-requires c κs = search needs
-
-same-length : tie.Need-same-length
-same-length c = search needs
-
 returns : tie.Need-returns
 returns c = row-same _ _ _ _ (c .before .before .flip-row .ensures) (λ i l. gives-odd _ _ _ i (c .before .before .before .before .before .if1 .taken) (c .before .before .before .before .if2 .taken))
 
 returns-2 : tie.Need-returns-2
 returns-2 c = row-none _ _ _ _ (λ i l. gives-even _ _ _ i (c .before .if1 .taken) (c .if2 .left))
 
-logarithm-requires : tie.Need-logarithm-requires
-logarithm-requires c κs = search needs
-
-sub-flip : tie.Need-sub-flip
-sub-flip c = search needs
-
 flip-requires : tie.Need-flip-requires
 flip-requires c κs =
     let s = c .before .before in
     let p = s .before .before .before .before .pre in
     (p .2, log-less (p .0) (p .1) (p .3) (s .before .if1 .left) (s .logarithm .ensures) (c .before .if3 .taken))
-
-same-length-2 : tie.Need-same-length-2
-same-length-2 c = search needs
 
 returns-3 : tie.Need-returns-3
 returns-3 c =
@@ -48,13 +33,13 @@ pub add-image-spec : {M : Type 1} → statement M
 add-image-spec =
     tie.close
     (tie.spec
-    flip-row-requires
-    same-length
+    (λ c κs. search needs)
+    (λ c. search needs)
     returns
     returns-2
-    logarithm-requires
-    sub-flip
+    (λ c κs. search needs)
+    (λ c. search needs)
     flip-requires
-    same-length-2
+    (λ c. search needs)
     returns-3
     returns-4)

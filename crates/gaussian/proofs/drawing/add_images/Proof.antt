@@ -41,12 +41,6 @@ mul-y c =
 rem-y : tie.Need-rem-y Inv-loop μ-loop
 rem-y c = rw (c .before .before .before .before .before .before .modulus .ensures) (omega arith)
 
-add-d : tie.Need-add-d Inv-loop μ-loop
-add-d c = search needs
-
-loop-less : tie.Need-loop-less Inv-loop μ-loop
-loop-less c = search needs
-
 loop-again : tie.Need-loop-again Inv-loop μ-loop
 loop-again c =
     let s = c .before .before .before .before .before in
@@ -71,8 +65,8 @@ add-images-spec =
     add-image-requires
     mul-y
     rem-y
-    add-d
-    loop-less
+    (λ c. search needs)
+    (λ c. search needs)
     loop-again
     same-length
     returns)

@@ -4,17 +4,8 @@ use borrow.Author.Needs.{needs}
 use Rattle.gaussian.proofs.drawing.add_term.Statement.{statement}
 use Rattle.gaussian.proofs.drawing.add_term.Tie as tie
 
-modulus-requires : tie.Need-modulus-requires
-modulus-requires c κs = search needs
-
 power-requires : tie.Need-power-requires
 power-requires c κs = rw (c .modulus .ensures) (c .before .before .before .pre .3)
-
-add-images-requires : tie.Need-add-images-requires
-add-images-requires c κs = search needs
-
-same-length : tie.Need-same-length
-same-length c = search needs
 
 returns : tie.Need-returns
 returns c =
@@ -27,4 +18,4 @@ returns-2 c = term-out _ _ _ _ _ (rw (c .before .before .modulus .ensures) at (c
 pub add-term-spec : {M : Type 1} → statement M
 add-term-spec =
     tie.close
-    (tie.spec modulus-requires power-requires add-images-requires same-length returns returns-2)
+    (tie.spec (λ c κs. search needs) power-requires (λ c κs. search needs) (λ c. search needs) returns returns-2)

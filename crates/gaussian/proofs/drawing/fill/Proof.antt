@@ -19,9 +19,6 @@ Inv-loop table₀ m t p logs w₀ table w = (table ≡ partial m t w) × (length
 abbrev μ-loop : tie.MeasureT-loop
 μ-loop table₀ m t p logs w₀ table w = p - w
 
-clear-requires : tie.Need-clear-requires Inv-loop μ-loop
-clear-requires c κs = search needs
-
 modulus-requires : tie.Need-modulus-requires Inv-loop μ-loop
 modulus-requires c κs = c .before .before .before .before .before .pre .0
 
@@ -33,9 +30,6 @@ loop-holds c =
     let s = c .before .before .before .before in
     let size = s .before .before .before .pre .1 .size in
     (sum-start _ _ (s .clear .ensures ∙ ap (λ n. tabulate n (λ b. 0)) size), omega (arith, size), omega arith)
-
-slice-aggregate-add-term : tie.Need-slice-aggregate-add-term Inv-loop μ-loop
-slice-aggregate-add-term c = search needs
 
 add-term-requires : tie.Need-add-term-requires Inv-loop μ-loop
 add-term-requires c κs =
@@ -73,11 +67,11 @@ fill-spec =
     (tie.spec
     Inv-loop
     μ-loop
-    clear-requires
+    (λ c κs. search needs)
     modulus-requires
     logarithms-requires
     loop-holds
-    slice-aggregate-add-term
+    (λ c. search needs)
     add-term-requires
     add-w
     loop-less

@@ -9,9 +9,6 @@ use borrow.Author.Needs.{needs}
 use Rattle.gaussian.proofs.drawing.flip.Statement.{statement}
 use Rattle.gaussian.proofs.drawing.flip.Tie as tie
 
-bytes-for-requires : tie.Need-bytes-for-requires
-bytes-for-requires c κs = search needs
-
 mul-at : tie.Need-mul-at
 mul-at c = let r = c .before .before .pre .0 in rw (c .bytes-for .ensures) (omega (arith, row-small _ _ (r .greatest) (le-of-lt (r .row))))
 
@@ -23,19 +20,10 @@ slice-read-table c =
     let p = c .before .before .before .pre in
     rw (c .before .bytes-for .ensures, p .0 .size) (byte-in _ _ _ _ (p .0 .row) (p .1))
 
-cast-table : tie.Need-cast-table
-cast-table c = search needs
-
-shl-table : tie.Need-shl-table
-shl-table c = search needs
-
 slice-write-table : tie.Need-slice-write-table
 slice-write-table c =
     let p = c .before .before .before .pre in
     rw (c .before .bytes-for .ensures, p .0 .size) (byte-in _ _ _ _ (p .0 .row) (p .1))
-
-same-length : tie.Need-same-length
-same-length c = search needs
 
 returns : tie.Need-returns
 returns c =
@@ -46,12 +34,12 @@ pub flip-spec : {M : Type 1} → statement M
 flip-spec =
     tie.close
     (tie.spec
-    bytes-for-requires
+    (λ c κs. search needs)
     mul-at
     add-at
     slice-read-table
-    cast-table
-    shl-table
+    (λ c. search needs)
+    (λ c. search needs)
     slice-write-table
-    same-length
+    (λ c. search needs)
     returns)

@@ -25,12 +25,6 @@ loop-holds c = (row-none _ _ _ _ (λ i l. rw (le-ltb i 0 (omega arith))), refl)
 flip-requires : tie.Need-flip-requires Inv-loop μ-loop
 flip-requires c κs = (has-row (c .before .before .before .before .pre) (c .before .before .loop .inv .1) (c .before .before .before .before .pre .row), c .before .loop-test .taken)
 
-add-s : tie.Need-add-s Inv-loop μ-loop
-add-s c = search needs
-
-loop-less : tie.Need-loop-less Inv-loop μ-loop
-loop-less c = search needs
-
 loop-again : tie.Need-loop-again Inv-loop μ-loop
 loop-again c =
     let s = c .before .before .before .before .before .loop in (
@@ -52,8 +46,8 @@ flip-row-spec =
     μ-loop
     loop-holds
     flip-requires
-    add-s
-    loop-less
+    (λ c. search needs)
+    (λ c. search needs)
     loop-again
     same-length
     returns)

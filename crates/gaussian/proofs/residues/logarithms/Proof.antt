@@ -42,12 +42,6 @@ mul-y c =
 rem-y : tie.Need-rem-y Inv-loop μ-loop
 rem-y c = rw (c .before .before .before .modulus .ensures) (omega arith)
 
-add-s : tie.Need-add-s Inv-loop μ-loop
-add-s c = search needs
-
-loop-less : tie.Need-loop-less Inv-loop μ-loop
-loop-less c = search needs
-
 loop-again : tie.Need-loop-again Inv-loop μ-loop
 loop-again c =
     let s = c .before .before .before in
@@ -71,7 +65,7 @@ logarithms-spec =
     array-write-logs
     mul-y
     rem-y
-    add-s
-    loop-less
+    (λ c. search needs)
+    (λ c. search needs)
     loop-again
     returns)

@@ -11,8 +11,5 @@ mul-result c = omega (arith, modulus-small (c .pre))
 add-result : tie.Need-add-result
 add-result c = omega (arith, modulus-small (c .pre))
 
-returns : tie.Need-returns
-returns c = search needs
-
 pub modulus-spec : {M : Type 1} → statement M
-modulus-spec = tie.close (tie.spec mul-result add-result returns)
+modulus-spec = tie.close (tie.spec mul-result add-result (λ c. search needs))

@@ -23,9 +23,6 @@ mul-square c = omega (arith, product-small (c .before .before .loop .inv .factor
 rem-square : tie.Need-rem-square Inv-loop μ-loop
 rem-square c = omega (arith, c .before .before .loop .inv .done .above)
 
-loop-less : tie.Need-loop-less Inv-loop μ-loop
-loop-less c = search needs
-
 loop-again : tie.Need-loop-again Inv-loop μ-loop
 loop-again c = power-more (c .before .before .loop .inv) (c .digit .ensures)
 
@@ -42,6 +39,6 @@ power-spec =
     digit-requires
     mul-square
     rem-square
-    loop-less
+    (λ c. search needs)
     loop-again
     returns)

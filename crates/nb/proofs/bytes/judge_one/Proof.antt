@@ -7,23 +7,8 @@ use borrow.Author.Needs.{needs}
 use Rattle.nb.proofs.bytes.judge_one.Statement.{statement}
 use Rattle.nb.proofs.bytes.judge_one.Tie as tie
 
-judge-width-requires : tie.Need-judge-width-requires
-judge-width-requires c κs = search needs
-
-is-none-requires : tie.Need-is-none-requires
-is-none-requires c κs = search needs
-
 returns : tie.Need-returns
 returns c = first-ends _ _ _ (c .before .before .judge-width .ensures) (c .before .is-none .ensures) (not-true _ (c .if1 .taken))
-
-bytes-for-requires : tie.Need-bytes-for-requires
-bytes-for-requires c κs = search needs
-
-judge-length-requires : tie.Need-judge-length-requires
-judge-length-requires c κs = search needs
-
-is-none-requires-2 : tie.Need-is-none-requires-2
-is-none-requires-2 c κs = search needs
 
 returns-2 : tie.Need-returns-2
 returns-2 c =
@@ -31,9 +16,6 @@ returns-2 c =
     let w = l .before .before in
     first-goes _ _ _ (w .before .before .judge-width .ensures) (w .before .is-none .ensures) (not-false _ (w .if1 .left))
     (first-ends _ _ _ (l .judge-length .ensures ∙ ap (lengthFault _) (l .before .bytes-for .ensures)) (c .before .is-none2 .ensures) (not-true _ (c .if2 .taken)))
-
-judge-length-requires-2 : tie.Need-judge-length-requires-2
-judge-length-requires-2 c κs = search needs
 
 returns-3 : tie.Need-returns-3
 returns-3 c =
@@ -47,12 +29,12 @@ pub judge-one-spec : {M : Type 1} → statement M
 judge-one-spec =
     tie.close
     (tie.spec
-    judge-width-requires
-    is-none-requires
+    (λ c κs. search needs)
+    (λ c κs. search needs)
     returns
-    bytes-for-requires
-    judge-length-requires
-    is-none-requires-2
+    (λ c κs. search needs)
+    (λ c κs. search needs)
+    (λ c κs. search needs)
     returns-2
-    judge-length-requires-2
+    (λ c κs. search needs)
     returns-3)

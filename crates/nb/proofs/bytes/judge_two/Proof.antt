@@ -10,22 +10,10 @@ use borrow.Author.Needs.{needs}
 use Rattle.nb.proofs.bytes.judge_two.Statement.{statement}
 use Rattle.nb.proofs.bytes.judge_two.Tie as tie
 
-judge-one-requires : tie.Need-judge-one-requires
-judge-one-requires c κs = search needs
-
-is-none-requires : tie.Need-is-none-requires
-is-none-requires c κs = search needs
-
 returns : tie.Need-returns
 returns c =
     let a = c .before .before .before .args in
     append-ends (oneSizes (a .m) (a .a) (a .b)) (lengthFault (a .result) (bytesFor (a .m)) ∷ []) (c .before .before .judge-one .ensures) (c .before .is-none .ensures) (c .if1 .taken)
-
-bytes-for-requires : tie.Need-bytes-for-requires
-bytes-for-requires c κs = search needs
-
-judge-length-requires : tie.Need-judge-length-requires
-judge-length-requires c κs = search needs
 
 returns-2 : tie.Need-returns-2
 returns-2 c =
@@ -38,9 +26,9 @@ pub judge-two-spec : {M : Type 1} → statement M
 judge-two-spec =
     tie.close
     (tie.spec
-    judge-one-requires
-    is-none-requires
+    (λ c κs. search needs)
+    (λ c κs. search needs)
     returns
-    bytes-for-requires
-    judge-length-requires
+    (λ c κs. search needs)
+    (λ c κs. search needs)
     returns-2)

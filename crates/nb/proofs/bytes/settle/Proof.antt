@@ -9,15 +9,6 @@ use Rattle.nb.proofs.bytes.settle.Tie as tie
 tested : (c : tie.After-is-none) → c .is-none .result ≡ isNone (c .before .before .before .before .args .answer .fault)
 tested c = c .is-none .ensures
 
-is-none-requires : tie.Need-is-none-requires
-is-none-requires c κs = search needs
-
-copy-out-requires : tie.Need-copy-out-requires
-copy-out-requires c κs = search needs
-
-same-length : tie.Need-same-length
-same-length c = search needs
-
 returns : tie.Need-returns
 returns c =
     let i = c .before .before .before .before in
@@ -27,4 +18,4 @@ returns-2 : tie.Need-returns-2
 returns-2 c = (refl, rw (sym (tested (c .before)) ∙ c .if1 .left))
 
 pub settle-spec : {M : Type 1} → statement M
-settle-spec = tie.close (tie.spec is-none-requires copy-out-requires same-length returns returns-2)
+settle-spec = tie.close (tie.spec (λ c κs. search needs) (λ c κs. search needs) (λ c. search needs) returns returns-2)

@@ -6,17 +6,11 @@ use borrow.Author.Needs.{needs}
 use Rattle.nb.proofs.cards.nb_card_write.Statement.{statement}
 use Rattle.nb.proofs.cards.nb_card_write.Tie as tie
 
-write-requires : tie.Need-write-requires
-write-requires c κs = search needs
-
 answer-requires : tie.Need-answer-requires
 answer-requires c κs = let a = c .before .before .before .before .before .before .args in write-packs (a .width) (a .table .now) (a .out .now) (c .before .before .write .ensures .0)
-
-same-length : tie.Need-same-length
-same-length c = search needs
 
 returns : tie.Need-returns
 returns c = (c .answer .ensures ∙ ap cardAnswer (c .before .before .before .write .ensures .0), c .before .before .before .write .ensures .1)
 
 pub nb-card-write-spec : {M : Type 1} → statement M
-nb-card-write-spec = tie.close (tie.spec write-requires answer-requires same-length returns)
+nb-card-write-spec = tie.close (tie.spec (λ c κs. search needs) answer-requires (λ c. search needs) returns)

@@ -6,9 +6,6 @@ use borrow.Author.Needs.{needs}
 use Rattle.nb.proofs.drawing.nb_type.Statement.{statement}
 use Rattle.nb.proofs.drawing.nb_type.Tie as tie
 
-type-of-requires : tie.Need-type-of-requires
-type-of-requires c κs = search needs
-
 answer-requires : tie.Need-answer-requires
 answer-requires c κs = type-answer-packs _ (c .type-of .ensures)
 
@@ -16,4 +13,4 @@ returns : tie.Need-returns
 returns c = c .answer .ensures ∙ ap typeAnswer (c .before .type-of .ensures)
 
 pub nb-type-spec : {M : Type 1} → statement M
-nb-type-spec = tie.close (tie.spec type-of-requires answer-requires returns)
+nb-type-spec = tie.close (tie.spec (λ c κs. search needs) answer-requires returns)

@@ -6,9 +6,6 @@ use borrow.Author.Needs.{needs}
 use Rattle.nb.proofs.netlists.nb_counts_common.Statement.{statement}
 use Rattle.nb.proofs.netlists.nb_counts_common.Tie as tie
 
-counts-common-requires : tie.Need-counts-common-requires
-counts-common-requires c κs = search needs
-
 both-requires : tie.Need-both-requires
 both-requires c κs = common-packs _ _ (c .counts-common .ensures)
 
@@ -16,4 +13,4 @@ returns : tie.Need-returns
 returns c = c .both .ensures ∙ ap countsAnswer (c .before .counts-common .ensures)
 
 pub nb-counts-common-spec : {M : Type 1} → statement M
-nb-counts-common-spec = tie.close (tie.spec counts-common-requires both-requires returns)
+nb-counts-common-spec = tie.close (tie.spec (λ c κs. search needs) both-requires returns)

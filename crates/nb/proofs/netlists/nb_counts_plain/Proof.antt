@@ -6,9 +6,6 @@ use borrow.Author.Needs.{needs}
 use Rattle.nb.proofs.netlists.nb_counts_plain.Statement.{statement}
 use Rattle.nb.proofs.netlists.nb_counts_plain.Tie as tie
 
-counts-plain-requires : tie.Need-counts-plain-requires
-counts-plain-requires c κs = search needs
-
 both-requires : tie.Need-both-requires
 both-requires c κs = plain-packs _ _ (c .counts-plain .ensures)
 
@@ -16,4 +13,4 @@ returns : tie.Need-returns
 returns c = c .both .ensures ∙ ap countsAnswer (c .before .counts-plain .ensures)
 
 pub nb-counts-plain-spec : {M : Type 1} → statement M
-nb-counts-plain-spec = tie.close (tie.spec counts-plain-requires both-requires returns)
+nb-counts-plain-spec = tie.close (tie.spec (λ c κs. search needs) both-requires returns)

@@ -6,9 +6,6 @@ use borrow.Author.Needs.{needs}
 use Rattle.nb.proofs.netlists.nb_counts_reduced.Statement.{statement}
 use Rattle.nb.proofs.netlists.nb_counts_reduced.Tie as tie
 
-counts-reduced-requires : tie.Need-counts-reduced-requires
-counts-reduced-requires c κs = search needs
-
 both-requires : tie.Need-both-requires
 both-requires c κs = reduced-packs _ _ (c .counts-reduced .ensures)
 
@@ -16,4 +13,4 @@ returns : tie.Need-returns
 returns c = c .both .ensures ∙ ap countsAnswer (c .before .counts-reduced .ensures)
 
 pub nb-counts-reduced-spec : {M : Type 1} → statement M
-nb-counts-reduced-spec = tie.close (tie.spec counts-reduced-requires both-requires returns)
+nb-counts-reduced-spec = tie.close (tie.spec (λ c κs. search needs) both-requires returns)

@@ -6,17 +6,11 @@ use borrow.Author.Needs.{needs}
 use Rattle.nb.proofs.netlists.nb_list_common.Statement.{statement}
 use Rattle.nb.proofs.netlists.nb_list_common.Tie as tie
 
-list-common-requires : tie.Need-list-common-requires
-list-common-requires c κs = search needs
-
 both-requires : tie.Need-both-requires
 both-requires c κs = common-list-packs _ _ _ (c .before .before .list-common .ensures .0)
-
-same-length : tie.Need-same-length
-same-length c = search needs
 
 returns : tie.Need-returns
 returns c = (c .both .ensures ∙ ap countsAnswer (c .before .before .before .list-common .ensures .0), c .before .before .before .list-common .ensures .1)
 
 pub nb-list-common-spec : {M : Type 1} → statement M
-nb-list-common-spec = tie.close (tie.spec list-common-requires both-requires same-length returns)
+nb-list-common-spec = tie.close (tie.spec (λ c κs. search needs) both-requires (λ c. search needs) returns)

@@ -6,17 +6,11 @@ use borrow.Author.Needs.{needs}
 use Rattle.nb.proofs.netlists.nb_list_plain.Statement.{statement}
 use Rattle.nb.proofs.netlists.nb_list_plain.Tie as tie
 
-list-plain-requires : tie.Need-list-plain-requires
-list-plain-requires c κs = search needs
-
 both-requires : tie.Need-both-requires
 both-requires c κs = plain-list-packs _ _ _ (c .before .before .list-plain .ensures .0)
-
-same-length : tie.Need-same-length
-same-length c = search needs
 
 returns : tie.Need-returns
 returns c = (c .both .ensures ∙ ap countsAnswer (c .before .before .before .list-plain .ensures .0), c .before .before .before .list-plain .ensures .1)
 
 pub nb-list-plain-spec : {M : Type 1} → statement M
-nb-list-plain-spec = tie.close (tie.spec list-plain-requires both-requires same-length returns)
+nb-list-plain-spec = tie.close (tie.spec (λ c κs. search needs) both-requires (λ c. search needs) returns)

@@ -6,17 +6,11 @@ use borrow.Author.Needs.{needs}
 use Rattle.nb.proofs.netlists.nb_list_reduced.Statement.{statement}
 use Rattle.nb.proofs.netlists.nb_list_reduced.Tie as tie
 
-list-reduced-requires : tie.Need-list-reduced-requires
-list-reduced-requires c κs = search needs
-
 both-requires : tie.Need-both-requires
 both-requires c κs = reduced-list-packs _ _ _ (c .before .before .list-reduced .ensures .0)
-
-same-length : tie.Need-same-length
-same-length c = search needs
 
 returns : tie.Need-returns
 returns c = (c .both .ensures ∙ ap countsAnswer (c .before .before .before .list-reduced .ensures .0), c .before .before .before .list-reduced .ensures .1)
 
 pub nb-list-reduced-spec : {M : Type 1} → statement M
-nb-list-reduced-spec = tie.close (tie.spec list-reduced-requires both-requires same-length returns)
+nb-list-reduced-spec = tie.close (tie.spec (λ c κs. search needs) both-requires (λ c. search needs) returns)

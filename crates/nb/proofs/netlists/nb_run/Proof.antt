@@ -15,12 +15,6 @@ judging c =
     let s = c .before .before .before .before .before in
     run-fault _ _ _ _ _ _ (s .before .before .judge-two .ensures) (s .before .is-none .ensures) (s .if1 .left) (c .before .before .before .before .carry .ensures) (c .before .before .before .carry2 .ensures) (c .run .ensures .0)
 
-judge-two-requires : tie.Need-judge-two-requires
-judge-two-requires c κs = search needs
-
-is-none-requires : tie.Need-is-none-requires
-is-none-requires c κs = search needs
-
 answer-requires : tie.Need-answer-requires
 answer-requires c κs =
     let a = c .before .before .before .before .before .before .before .before .args in
@@ -36,23 +30,8 @@ returns c =
       kept call (s .before .before .judge-two .ensures) (s .before .is-none .ensures) (s .if1 .taken) _ _,
     )
 
-carry-requires : tie.Need-carry-requires
-carry-requires c κs = search needs
-
-carry-requires-2 : tie.Need-carry-requires-2
-carry-requires-2 c κs = search needs
-
-run-requires : tie.Need-run-requires
-run-requires c κs = search needs
-
 answer-requires-2 : tie.Need-answer-requires-2
 answer-requires-2 c κs = packs (judging (c .before .before .before .before)) (small-run-call _ _ _ _ _ _)
-
-same-length : tie.Need-same-length
-same-length c = search needs
-
-same-length-2 : tie.Need-same-length-2
-same-length-2 c = search needs
 
 returns-2 : tie.Need-returns-2
 returns-2 c =
@@ -67,14 +46,14 @@ pub nb-run-spec : {M : Type 1} → statement M
 nb-run-spec =
     tie.close
     (tie.spec
-    judge-two-requires
-    is-none-requires
+    (λ c κs. search needs)
+    (λ c κs. search needs)
     answer-requires
     returns
-    carry-requires
-    carry-requires-2
-    run-requires
+    (λ c κs. search needs)
+    (λ c κs. search needs)
+    (λ c κs. search needs)
     answer-requires-2
-    same-length
-    same-length-2
+    (λ c. search needs)
+    (λ c. search needs)
     returns-2)

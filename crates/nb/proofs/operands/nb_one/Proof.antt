@@ -12,20 +12,11 @@ call : (c : tie.After-slice-known2) → let a = c .before .before .before .befor
 unfolding ones
 call c = constant-done _ (λ i. 1) _ (c .before .before .before .before .before .one .ensures) (c .before .before .write .ensures .0) (c .before .before .write .ensures .1)
 
-one-requires : tie.Need-one-requires
-one-requires c κs = search needs
-
-write-requires : tie.Need-write-requires
-write-requires c κs = search needs
-
 answer-requires : tie.Need-answer-requires
 answer-requires c κs = packs (call c .fault) (small-constant-call _ _)
-
-same-length : tie.Need-same-length
-same-length c = search needs
 
 returns : tie.Need-returns
 returns c = answered (call (c .before)) (c .answer .ensures)
 
 pub nb-one-spec : {M : Type 1} → statement M
-nb-one-spec = tie.close (tie.spec one-requires write-requires answer-requires same-length returns)
+nb-one-spec = tie.close (tie.spec (λ c κs. search needs) (λ c κs. search needs) answer-requires (λ c. search needs) returns)

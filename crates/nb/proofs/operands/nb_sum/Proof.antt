@@ -14,12 +14,6 @@ call c =
     let s = c .before .before .before .before .before .before .before in
     sum-done _ _ _ _ (s .before .before .judge-two .ensures) (s .before .is-none .ensures) (s .if1 .left) (c .before .before .before .before .before .before .carry .ensures) (c .before .before .before .before .before .carry2 .ensures) (c .before .before .settle .ensures) (c .before .before .before .before .sum .ensures)
 
-judge-two-requires : tie.Need-judge-two-requires
-judge-two-requires c κs = search needs
-
-is-none-requires : tie.Need-is-none-requires
-is-none-requires c κs = search needs
-
 answer-requires : tie.Need-answer-requires
 answer-requires c κs =
     let a = c .before .before .before .before .before .before .args in
@@ -34,23 +28,8 @@ returns c =
       kept call (s .before .before .judge-two .ensures) (s .before .is-none .ensures) (s .if1 .taken) _ _,
     )
 
-carry-requires : tie.Need-carry-requires
-carry-requires c κs = search needs
-
-carry-requires-2 : tie.Need-carry-requires-2
-carry-requires-2 c κs = search needs
-
-sum-requires : tie.Need-sum-requires
-sum-requires c κs = search needs
-
-settle-requires : tie.Need-settle-requires
-settle-requires c κs = search needs
-
 answer-requires-2 : tie.Need-answer-requires-2
 answer-requires-2 c κs = packs (call c .fault) (small-sum-call _ _ _ _)
-
-same-length : tie.Need-same-length
-same-length c = search needs
 
 returns-2 : tie.Need-returns-2
 returns-2 c = answered (call (c .before)) (c .answer2 .ensures)
@@ -59,14 +38,14 @@ pub nb-sum-spec : {M : Type 1} → statement M
 nb-sum-spec =
     tie.close
     (tie.spec
-    judge-two-requires
-    is-none-requires
+    (λ c κs. search needs)
+    (λ c κs. search needs)
     answer-requires
     returns
-    carry-requires
-    carry-requires-2
-    sum-requires
-    settle-requires
+    (λ c κs. search needs)
+    (λ c κs. search needs)
+    (λ c κs. search needs)
+    (λ c κs. search needs)
     answer-requires-2
-    same-length
+    (λ c. search needs)
     returns-2)

@@ -7,12 +7,6 @@ use borrow.Author.Needs.{needs}
 use Rattle.nb.proofs.operands.nb_trace.Statement.{statement}
 use Rattle.nb.proofs.operands.nb_trace.Tie as tie
 
-read-requires : tie.Need-read-requires
-read-requires c κs = search needs
-
-trace-requires : tie.Need-trace-requires
-trace-requires c κs = search needs
-
 answer-requires : tie.Need-answer-requires
 answer-requires c κs =
     packs-same (trace-fault _ _ (c .before .before .read .ensures) (c .trace .ensures)) (λ e. (trace-works _ _ (c .before .before .read .ensures) (c .trace .ensures) e, refl)) (trace-packs _ _)
@@ -22,4 +16,4 @@ returns c =
     c .answer .ensures ∙ answer-same (trace-fault _ _ (c .before .before .before .read .ensures) (c .before .trace .ensures)) (λ e. (trace-works _ _ (c .before .before .before .read .ensures) (c .before .trace .ensures) e, refl))
 
 pub nb-trace-spec : {M : Type 1} → statement M
-nb-trace-spec = tie.close (tie.spec read-requires trace-requires answer-requires returns)
+nb-trace-spec = tie.close (tie.spec (λ c κs. search needs) (λ c κs. search needs) answer-requires returns)

@@ -12,20 +12,11 @@ call : (c : tie.After-slice-known2) → let a = c .before .before .before .befor
 unfolding zeroes
 call c = constant-done _ (λ i. 0) _ (c .before .before .before .before .before .zero .ensures) (c .before .before .write .ensures .0) (c .before .before .write .ensures .1)
 
-zero-requires : tie.Need-zero-requires
-zero-requires c κs = search needs
-
-write-requires : tie.Need-write-requires
-write-requires c κs = search needs
-
 answer-requires : tie.Need-answer-requires
 answer-requires c κs = packs (call c .fault) (small-constant-call _ _)
-
-same-length : tie.Need-same-length
-same-length c = search needs
 
 returns : tie.Need-returns
 returns c = answered (call (c .before)) (c .answer .ensures)
 
 pub nb-zero-spec : {M : Type 1} → statement M
-nb-zero-spec = tie.close (tie.spec zero-requires write-requires answer-requires same-length returns)
+nb-zero-spec = tie.close (tie.spec (λ c κs. search needs) (λ c κs. search needs) answer-requires (λ c. search needs) returns)

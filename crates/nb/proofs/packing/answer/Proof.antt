@@ -8,18 +8,12 @@ use borrow.Author.Needs.{needs}
 use Rattle.nb.proofs.packing.answer.Statement.{statement}
 use Rattle.nb.proofs.packing.answer.Tie as tie
 
-is-none-requires : tie.Need-is-none-requires
-is-none-requires c κs = search needs
-
 pack-requires : tie.Need-pack-requires
 pack-requires c κs = let v = c .before .before .pre .1 (sym (c .before .is-none .ensures) ∙ c .if1 .taken) in (omega arith, v .0, v .1)
 
 returns : tie.Need-returns
 unfolding packedAnswer packedFault
 returns c = rw (sym (c .before .before .is-none .ensures) ∙ c .before .if1 .taken) (c .pack .ensures)
-
-number-requires : tie.Need-number-requires
-number-requires c κs = search needs
 
 pack-requires-2 : tie.Need-pack-requires-2
 pack-requires-2 c κs =
@@ -33,4 +27,4 @@ returns-2 c = rw (sym (c .before .before .before .is-none .ensures) ∙ c .befor
 pub answer-spec : {M : Type 1} → statement M
 answer-spec =
     tie.close
-    (tie.spec is-none-requires pack-requires returns number-requires pack-requires-2 returns-2)
+    (tie.spec (λ c κs. search needs) pack-requires returns (λ c κs. search needs) pack-requires-2 returns-2)

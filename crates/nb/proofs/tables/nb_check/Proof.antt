@@ -6,9 +6,6 @@ use borrow.Author.Needs.{needs}
 use Rattle.nb.proofs.tables.nb_check.Statement.{statement}
 use Rattle.nb.proofs.tables.nb_check.Tie as tie
 
-check-requires : tie.Need-check-requires
-check-requires c κs = search needs
-
 answer-requires : tie.Need-answer-requires
 answer-requires c κs = packs (c .check .ensures) (small-check _ _)
 
@@ -16,4 +13,4 @@ returns : tie.Need-returns
 returns c = c .answer .ensures ∙ ap (λ f. packedAnswer f 0 0) (c .before .check .ensures)
 
 pub nb-check-spec : {M : Type 1} → statement M
-nb-check-spec = tie.close (tie.spec check-requires answer-requires returns)
+nb-check-spec = tie.close (tie.spec (λ c κs. search needs) answer-requires returns)

@@ -25,12 +25,6 @@ count c =
     let s = c .before .before .before .before .before .before .before in
     inverse-count _ _ _ _ (λ b. s .before .before .before .before .shared-slice-known2 .given b .fits) (s .before .before .judge-one .ensures) (s .before .is-none .ensures) (s .if1 .left) (c .before .before .before .before .before .before .carry .ensures) (c .before .before .settle .ensures) (c .before .before .before .before .before .inverse .ensures)
 
-judge-one-requires : tie.Need-judge-one-requires
-judge-one-requires c κs = search needs
-
-is-none-requires : tie.Need-is-none-requires
-is-none-requires c κs = search needs
-
 answer-requires : tie.Need-answer-requires
 answer-requires c κs =
     let a = c .before .before .before .before .before .before .args in
@@ -45,20 +39,8 @@ returns c =
       kept call (s .before .before .judge-one .ensures) (s .before .is-none .ensures) (s .if1 .taken) _ _,
     )
 
-carry-requires : tie.Need-carry-requires
-carry-requires c κs = search needs
-
-inverse-requires : tie.Need-inverse-requires
-inverse-requires c κs = search needs
-
-settle-requires : tie.Need-settle-requires
-settle-requires c κs = search needs
-
 answer-requires-2 : tie.Need-answer-requires-2
 answer-requires-2 c κs = packs-same (call c .fault) (λ e. (count c e, refl)) (inverse-packs _ _ _ _)
-
-same-length : tie.Need-same-length
-same-length c = search needs
 
 returns-2 : tie.Need-returns-2
 returns-2 c = (c .answer2 .ensures ∙ answer-same (call (c .before) .fault) (λ e. (count (c .before) e, refl)), call (c .before) .bytes)
@@ -67,13 +49,13 @@ pub nb-inverse-spec : {M : Type 1} → statement M
 nb-inverse-spec =
     tie.close
     (tie.spec
-    judge-one-requires
-    is-none-requires
+    (λ c κs. search needs)
+    (λ c κs. search needs)
     answer-requires
     returns
-    carry-requires
-    inverse-requires
-    settle-requires
+    (λ c κs. search needs)
+    (λ c κs. search needs)
+    (λ c κs. search needs)
     answer-requires-2
-    same-length
+    (λ c. search needs)
     returns-2)

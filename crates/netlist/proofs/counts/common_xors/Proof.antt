@@ -10,19 +10,10 @@ use borrow.Author.Needs.{needs}
 use Rattle.netlist.proofs.counts.common_xors.Statement.{statement}
 use Rattle.netlist.proofs.counts.common_xors.Tie as tie
 
-plain-xors-requires : tie.Need-plain-xors-requires
-plain-xors-requires c κs = search needs
-
 returns : tie.Need-returns
 returns c =
     let a = c .before .before .args in
     c .plain-xors .ensures ∙ ap (commonXors (a .width) (a .ones)) (sym (c .before .if1 .taken))
-
-mul-shared : tie.Need-mul-shared
-mul-shared c = search needs
-
-sub-result : tie.Need-sub-result
-sub-result c = search needs
 
 mul-result : tie.Need-mul-result
 mul-result c =
@@ -48,10 +39,10 @@ pub common-xors-spec : {M : Type 1} → statement M
 common-xors-spec =
     tie.close
     (tie.spec
-    plain-xors-requires
+    (λ c κs. search needs)
     returns
-    mul-shared
-    sub-result
+    (λ c. search needs)
+    (λ c. search needs)
     mul-result
     add-result
     sub-result-2

@@ -10,15 +10,6 @@ use borrow.Author.Needs.{needs}
 use Rattle.netlist.proofs.counts.counts_by.Statement.{statement}
 use Rattle.netlist.proofs.counts.counts_by.Tie as tie
 
-judge-symmetry-requires : tie.Need-judge-symmetry-requires
-judge-symmetry-requires c κs = search needs
-
-is-none-requires : tie.Need-is-none-requires
-is-none-requires c κs = search needs
-
-refused-requires : tie.Need-refused-requires
-refused-requires c κs = search needs
-
 returns : tie.Need-returns
 returns c =
     c .refused .ensures ∙ ap refusedWith (c .before .before .before .judge-symmetry .ensures)
@@ -35,9 +26,6 @@ xors-by-requires c κs =
     let s = c .before .before .before .before in
     table-fine (s .args .width) (s .args .table .now) (judged (c .before .before .judge-symmetry .ensures) (c .before .is-none .ensures) (not-false _ (c .if1 .left)))
 
-counted-requires : tie.Need-counted-requires
-counted-requires c κs = search needs
-
 returns-2 : tie.Need-returns-2
 returns-2 c =
     let a = c .before .before .before .before .before .before .args in
@@ -50,11 +38,11 @@ pub counts-by-spec : {M : Type 1} → statement M
 counts-by-spec =
     tie.close
     (tie.spec
-    judge-symmetry-requires
-    is-none-requires
-    refused-requires
+    (λ c κs. search needs)
+    (λ c κs. search needs)
+    (λ c κs. search needs)
     returns
     mul-counted
     xors-by-requires
-    counted-requires
+    (λ c κs. search needs)
     returns-2)

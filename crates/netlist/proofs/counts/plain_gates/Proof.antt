@@ -11,9 +11,6 @@ use Rattle.netlist.proofs.counts.plain_gates.Tie as tie
 add-result : tie.Need-add-result
 add-result c = omega (arith, c .pre .2, width-square (c .args .width) (c .args .width) (c .pre .0) (c .pre .0))
 
-sub-result : tie.Need-sub-result
-sub-result c = search needs
-
 mul-result : tie.Need-mul-result
 mul-result c = omega (arith, width-times (c .args .width) (c .args .width + c .args .ones - 1) 65280 (c .pre .0) (omega (arith, c .pre .2, width-square (c .args .width) (c .args .width) (c .pre .0) (c .pre .0))))
 
@@ -21,4 +18,4 @@ returns : tie.Need-returns
 returns c = (refl, omega (arith, width-times (c .args .width) (c .args .width + c .args .ones - 1) 65280 (c .pre .0) (omega (arith, c .pre .2, width-square (c .args .width) (c .args .width) (c .pre .0) (c .pre .0)))))
 
 pub plain-gates-spec : {M : Type 1} → statement M
-plain-gates-spec = tie.close (tie.spec add-result sub-result mul-result returns)
+plain-gates-spec = tie.close (tie.spec add-result (λ c. search needs) mul-result returns)

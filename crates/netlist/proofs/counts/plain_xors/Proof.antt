@@ -7,14 +7,8 @@ use borrow.Author.Needs.{needs}
 use Rattle.netlist.proofs.counts.plain_xors.Statement.{statement}
 use Rattle.netlist.proofs.counts.plain_xors.Tie as tie
 
-sub-result : tie.Need-sub-result
-sub-result c = search needs
-
 mul-result : tie.Need-mul-result
 mul-result c = omega (arith, width-times (c .args .width) (c .args .ones - 1) 65025 (c .pre .0) (omega (arith, c .pre .2, width-square (c .args .width) (c .args .width) (c .pre .0) (c .pre .0))))
 
-returns : tie.Need-returns
-returns c = search needs
-
 pub plain-xors-spec : {M : Type 1} → statement M
-plain-xors-spec = tie.close (tie.spec sub-result mul-result returns)
+plain-xors-spec = tie.close (tie.spec (λ c. search needs) mul-result (λ c. search needs))

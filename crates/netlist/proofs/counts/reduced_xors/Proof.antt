@@ -10,14 +10,8 @@ use Rattle.netlist.proofs.counts.reduced_xors.Tie as tie
 add-result : tie.Need-add-result
 add-result c = omega (arith, c .pre .2, width-square (c .args .width) (c .args .width) (c .pre .1) (c .pre .1))
 
-sub-result : tie.Need-sub-result
-sub-result c = search needs
-
 mul-result : tie.Need-mul-result
 mul-result c = omega (arith, width-times (c .args .width) (c .args .ones + c .args .width - 2) 65280 (c .pre .1) (omega (arith, c .pre .2, width-square (c .args .width) (c .args .width) (c .pre .1) (c .pre .1))))
 
-returns : tie.Need-returns
-returns c = search needs
-
 pub reduced-xors-spec : {M : Type 1} → statement M
-reduced-xors-spec = tie.close (tie.spec add-result sub-result mul-result returns)
+reduced-xors-spec = tie.close (tie.spec add-result (λ c. search needs) mul-result (λ c. search needs))

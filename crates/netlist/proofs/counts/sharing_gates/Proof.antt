@@ -9,14 +9,8 @@ use borrow.Author.Needs.{needs}
 use Rattle.netlist.proofs.counts.sharing_gates.Statement.{statement}
 use Rattle.netlist.proofs.counts.sharing_gates.Tie as tie
 
-mul-shared : tie.Need-mul-shared
-mul-shared c = search needs
-
 add-result : tie.Need-add-result
 add-result c = omega (arith, c .pre .3, width-square (c .args .width) (c .args .width) (c .pre .2) (c .pre .2))
-
-sub-result : tie.Need-sub-result
-sub-result c = search needs
 
 mul-result : tie.Need-mul-result
 mul-result c =
@@ -42,4 +36,4 @@ returns c =
 pub sharing-gates-spec : {M : Type 1} → statement M
 sharing-gates-spec =
     tie.close
-    (tie.spec mul-shared add-result sub-result mul-result add-result-2 sub-result-2 returns)
+    (tie.spec (λ c. search needs) add-result (λ c. search needs) mul-result add-result-2 sub-result-2 returns)

@@ -7,29 +7,11 @@ use borrow.Author.Needs.{needs}
 use Rattle.netlist.proofs.counts.xors_by.Statement.{statement}
 use Rattle.netlist.proofs.counts.xors_by.Tie as tie
 
-ones-of-requires : tie.Need-ones-of-requires
-ones-of-requires c κs = search needs
-
-enum-told : tie.Need-enum-told
-enum-told c = search needs
-
 plain-xors-requires : tie.Need-plain-xors-requires
 plain-xors-requires c κs =
     let s = c .before .before .before .before in
     let o = c .before .before .ones-of .ensures in
     (s .pre .0 .greatest, omega (arith, ones-positive (s .args .width) (s .args .table .now) (s .pre .0 .least) (s .pre .0 .isTable) (s .pre .1), o .0), o .1)
-
-enum-told-2 : tie.Need-enum-told-2
-enum-told-2 c = search needs
-
-reduced-xors-requires : tie.Need-reduced-xors-requires
-reduced-xors-requires c κs = search needs
-
-enum-told-3 : tie.Need-enum-told-3
-enum-told-3 c = search needs
-
-full-rows-requires : tie.Need-full-rows-requires
-full-rows-requires c κs = search needs
 
 common-xors-requires : tie.Need-common-xors-requires
 common-xors-requires c κs =
@@ -60,13 +42,13 @@ pub xors-by-spec : {M : Type 1} → statement M
 xors-by-spec =
     tie.close
     (tie.spec
-    ones-of-requires
-    enum-told
+    (λ c κs. search needs)
+    (λ c. search needs)
     plain-xors-requires
-    enum-told-2
-    reduced-xors-requires
-    enum-told-3
-    full-rows-requires
+    (λ c. search needs)
+    (λ c κs. search needs)
+    (λ c. search needs)
+    (λ c κs. search needs)
     common-xors-requires
     returns
     returns-2

@@ -9,9 +9,6 @@ use borrow.Author.Needs.{needs}
 use Rattle.netlist.proofs.entries.entry.Statement.{statement}
 use Rattle.netlist.proofs.entries.entry.Tie as tie
 
-bytes-for-requires : tie.Need-bytes-for-requires
-bytes-for-requires c κs = search needs
-
 mul-first : tie.Need-mul-first
 mul-first c =
     let s = c .before .before in
@@ -30,9 +27,6 @@ add-coordinate c =
     let h = width-square (s .args .d) (c .bytes-for .result) (omega (arith, s .pre .0 .greatest)) (omega (arith, s .pre .0 .greatest, c .bytes-for .ensures)) in
     omega (arith, h, s .pre .0 .greatest)
 
-coordinate-requires : tie.Need-coordinate-requires
-coordinate-requires c κs = search needs
-
 returns : tie.Need-returns
 returns c =
     let a = c .before .before .before .args in
@@ -42,9 +36,9 @@ pub entry-spec : {M : Type 1} → statement M
 entry-spec =
     tie.close
     (tie.spec
-    bytes-for-requires
+    (λ c κs. search needs)
     mul-first
     mul-coordinate
     add-coordinate
-    coordinate-requires
+    (λ c κs. search needs)
     returns)

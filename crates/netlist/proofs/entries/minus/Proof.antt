@@ -6,12 +6,6 @@ use borrow.Author.Needs.{needs}
 use Rattle.netlist.proofs.entries.minus.Statement.{statement}
 use Rattle.netlist.proofs.entries.minus.Tie as tie
 
-sub-result : tie.Need-sub-result
-sub-result c = search needs
-
-add-result : tie.Need-add-result
-add-result c = search needs
-
 returns : tie.Need-returns
 returns c = (sym (minus-below _ _ _ (c .if1 .taken) (c .before .pre .1)), omega arith)
 
@@ -19,4 +13,4 @@ returns-2 : tie.Need-returns-2
 returns-2 c = (sym (minus-round _ _ _ (omega arith) (c .before .pre .2)), omega arith)
 
 pub minus-spec : {M : Type 1} → statement M
-minus-spec = tie.close (tie.spec sub-result add-result returns returns-2)
+minus-spec = tie.close (tie.spec (λ c. search needs) (λ c. search needs) returns returns-2)

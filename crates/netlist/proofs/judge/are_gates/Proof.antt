@@ -26,12 +26,6 @@ is-gate-requires c κs = omega arith
 returns : tie.Need-returns Inv-loop μ-loop
 returns c = sym (every-not _ _ (c .before .before .before .loop .k) (c .before .before .loop-test .taken) (sym (c .before .is-gate .ensures) ∙ not-true _ (c .if1 .taken)))
 
-add-k : tie.Need-add-k Inv-loop μ-loop
-add-k c = search needs
-
-loop-less : tie.Need-loop-less Inv-loop μ-loop
-loop-less c = search needs
-
 loop-again : tie.Need-loop-again Inv-loop μ-loop
 loop-again c = (omega arith, every-more _ _ (c .before .before .before .loop .inv .1) (sym (c .before .is-gate .ensures) ∙ not-false _ (c .if1 .left)))
 
@@ -50,7 +44,7 @@ are-gates-spec =
     loop-holds
     is-gate-requires
     returns
-    add-k
-    loop-less
+    (λ c. search needs)
+    (λ c. search needs)
     loop-again
     returns-2)

@@ -5,19 +5,10 @@ use borrow.Author.Needs.{needs}
 use Rattle.netlist.proofs.judge.judge_bits.Statement.{statement}
 use Rattle.netlist.proofs.judge.judge_bits.Tie as tie
 
-judge-high-requires : tie.Need-judge-high-requires
-judge-high-requires c κs = search needs
-
-judge-high-requires-2 : tie.Need-judge-high-requires-2
-judge-high-requires-2 c κs = search needs
-
-or-else-requires : tie.Need-or-else-requires
-or-else-requires c κs = search needs
-
 returns : tie.Need-returns
 unfolding bitsFault
 returns c = rw (c .or-else .ensures, c .before .judge-high2 .ensures, c .before .before .judge-high .ensures, first-two)
 
 pub judge-bits-spec : {M : Type 1} → statement M
 judge-bits-spec =
-    tie.close (tie.spec judge-high-requires judge-high-requires-2 or-else-requires returns)
+    tie.close (tie.spec (λ c κs. search needs) (λ c κs. search needs) (λ c κs. search needs) returns)

@@ -9,9 +9,6 @@ use borrow.Author.Needs.{needs}
 use Rattle.netlist.proofs.judge.judge_gates.Statement.{statement}
 use Rattle.netlist.proofs.judge.judge_gates.Tie as tie
 
-word-requires : tie.Need-word-requires
-word-requires c κs = search needs
-
 are-gates-requires : tie.Need-are-gates-requires
 are-gates-requires c κs = (c .before .before .pre, omega (arith, c .word .ensures .1))
 
@@ -34,4 +31,4 @@ returns-3 c = outputs-bad _ _ (sym (c .before .are-outputs .ensures) ∙ c .if2 
 pub judge-gates-spec : {M : Type 1} → statement M
 judge-gates-spec =
     tie.close
-    (tie.spec word-requires are-gates-requires returns are-outputs-requires returns-2 returns-3)
+    (tie.spec (λ c κs. search needs) are-gates-requires returns are-outputs-requires returns-2 returns-3)

@@ -8,18 +8,6 @@ use borrow.Author.Needs.{needs}
 use Rattle.netlist.proofs.judge.judge_run.Statement.{statement}
 use Rattle.netlist.proofs.judge.judge_run.Tie as tie
 
-cast-a-width : tie.Need-cast-a-width
-cast-a-width c = search needs
-
-cast-b-width : tie.Need-cast-b-width
-cast-b-width c = search needs
-
-judge-widths-requires : tie.Need-judge-widths-requires
-judge-widths-requires c κs = search needs
-
-is-none-requires : tie.Need-is-none-requires
-is-none-requires c κs = search needs
-
 returns : tie.Need-returns
 unfolding runFault
 returns c = c .before .before .judge-widths .ensures ∙ first-taken _ _ _ (judged (c .before .before .judge-widths .ensures) (c .before .is-none .ensures) (not-true _ (c .if1 .taken)))
@@ -27,20 +15,11 @@ returns c = c .before .before .judge-widths .ensures ∙ first-taken _ _ _ (judg
 judge-lengths-requires : tie.Need-judge-lengths-requires
 judge-lengths-requires c κs = widths-fine _ _ _ (judged (c .before .before .judge-widths .ensures) (c .before .is-none .ensures) (not-false _ (c .if1 .left))) .1
 
-is-none-requires-2 : tie.Need-is-none-requires-2
-is-none-requires-2 c κs = search needs
-
 returns-2 : tie.Need-returns-2
 unfolding runFault
 returns-2 c =
     c .before .before .judge-lengths .ensures ∙ first-taken _ _ _ (judged (c .before .before .judge-lengths .ensures) (c .before .is-none2 .ensures) (not-true _ (c .if2 .taken)))
     ∙ sym (first-left _ _ _ (judged (c .before .before .before .before .before .judge-widths .ensures) (c .before .before .before .before .is-none .ensures) (not-false _ (c .before .before .before .if1 .left))))
-
-judge-bits-requires : tie.Need-judge-bits-requires
-judge-bits-requires c κs = search needs
-
-is-none-requires-3 : tie.Need-is-none-requires-3
-is-none-requires-3 c κs = search needs
 
 returns-3 : tie.Need-returns-3
 unfolding runFault
@@ -64,16 +43,16 @@ pub judge-run-spec : {M : Type 1} → statement M
 judge-run-spec =
     tie.close
     (tie.spec
-    cast-a-width
-    cast-b-width
-    judge-widths-requires
-    is-none-requires
+    (λ c. search needs)
+    (λ c. search needs)
+    (λ c κs. search needs)
+    (λ c κs. search needs)
     returns
     judge-lengths-requires
-    is-none-requires-2
+    (λ c κs. search needs)
     returns-2
-    judge-bits-requires
-    is-none-requires-3
+    (λ c κs. search needs)
+    (λ c κs. search needs)
     returns-3
     judge-gates-requires
     returns-4)

@@ -12,18 +12,6 @@ use borrow.Author.Needs.{needs}
 use Rattle.netlist.proofs.lists.deliver.Statement.{statement}
 use Rattle.netlist.proofs.lists.deliver.Tie as tie
 
-mul-q : tie.Need-mul-q
-mul-q c = search needs
-
-add-q : tie.Need-add-q
-add-q c = search needs
-
-add-if1 : tie.Need-add-if1
-add-if1 c = search needs
-
-refused-requires : tie.Need-refused-requires
-refused-requires c κs = search needs
-
 returns : tie.Need-returns
 returns c =
     let s = c .before .before .before .before in
@@ -32,16 +20,10 @@ returns c =
     lt-ltb (length (a .out .now)) (length (words (a .width) (listOf (a .terms) (a .width) (a .table .now)))) (omega (arith, s .pre .1, list-size (a .terms) (a .width) (a .table .now), c .before .if1 .taken)) in
     (rw e (c .refused .ensures), rw e)
 
-slice-aggregate-put-list : tie.Need-slice-aggregate-put-list
-slice-aggregate-put-list c = search needs
-
 put-list-requires : tie.Need-put-list-requires
 put-list-requires c κs =
     let s = c .before .before .before .before .before in
     (s .pre .0, search needs, s .pre .1, s .pre .2, omega (arith, c .before .before .if1 .left))
-
-same-length : tie.Need-same-length
-same-length c = search needs
 
 returns-2 : tie.Need-returns-2
 returns-2 c =
@@ -55,12 +37,12 @@ pub deliver-spec : {M : Type 1} → statement M
 deliver-spec =
     tie.close
     (tie.spec
-    mul-q
-    add-q
-    add-if1
-    refused-requires
+    (λ c. search needs)
+    (λ c. search needs)
+    (λ c. search needs)
+    (λ c κs. search needs)
     returns
-    slice-aggregate-put-list
+    (λ c. search needs)
     put-list-requires
-    same-length
+    (λ c. search needs)
     returns-2)

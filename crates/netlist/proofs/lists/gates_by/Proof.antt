@@ -13,29 +13,11 @@ use borrow.Author.Needs.{needs}
 use Rattle.netlist.proofs.lists.gates_by.Statement.{statement}
 use Rattle.netlist.proofs.lists.gates_by.Tie as tie
 
-ones-of-requires : tie.Need-ones-of-requires
-ones-of-requires c κs = search needs
-
-full-rows-requires : tie.Need-full-rows-requires
-full-rows-requires c κs = search needs
-
-enum-told : tie.Need-enum-told
-enum-told c = search needs
-
 plain-gates-requires : tie.Need-plain-gates-requires
 plain-gates-requires c κs =
     let s = c .before .before .before .before .before in
     let o = c .before .before .before .ones-of .ensures in
     (s .pre .0 .greatest, omega (arith, ones-positive (s .args .width) (s .args .table .now) (s .pre .0 .least) (s .pre .0 .isTable) (s .pre .1), o .0), o .1)
-
-enum-told-2 : tie.Need-enum-told-2
-enum-told-2 c = search needs
-
-reduced-gates-requires : tie.Need-reduced-gates-requires
-reduced-gates-requires c κs = search needs
-
-enum-told-3 : tie.Need-enum-told-3
-enum-told-3 c = search needs
 
 plain-gates-requires-2 : tie.Need-plain-gates-requires-2
 plain-gates-requires-2 c κs =
@@ -94,13 +76,13 @@ pub gates-by-spec : {M : Type 1} → statement M
 gates-by-spec =
     tie.close
     (tie.spec
-    ones-of-requires
-    full-rows-requires
-    enum-told
+    (λ c κs. search needs)
+    (λ c κs. search needs)
+    (λ c. search needs)
     plain-gates-requires
-    enum-told-2
-    reduced-gates-requires
-    enum-told-3
+    (λ c. search needs)
+    (λ c κs. search needs)
+    (λ c. search needs)
     plain-gates-requires-2
     sharing-gates-requires
     returns

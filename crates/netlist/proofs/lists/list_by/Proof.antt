@@ -9,12 +9,6 @@ use borrow.Author.Needs.{needs}
 use Rattle.netlist.proofs.lists.list_by.Statement.{statement}
 use Rattle.netlist.proofs.lists.list_by.Tie as tie
 
-counts-by-requires : tie.Need-counts-by-requires
-counts-by-requires c κs = search needs
-
-is-none-requires : tie.Need-is-none-requires
-is-none-requires c κs = search needs
-
 returns : tie.Need-returns
 returns c =
     let a = c .before .before .before .before .before .args in
@@ -33,9 +27,6 @@ deliver-requires c κs =
     let f = table-fine (a .width) (a .table .now) (judged (answer-fault _ _ (c .before .before .before .before .before .counts-by .ensures)) (c .before .before .before .before .is-none .ensures) (not-false _ (c .before .before .before .if1 .left))) in
     (f .0, c .before .gates-by .ensures .0 ∙ ap (λ z. length (listOf z (a .width) (a .table .now) .gates)) (sym (c .before .before .terms-by .ensures)), c .before .gates-by .ensures .1)
 
-same-length : tie.Need-same-length
-same-length c = search needs
-
 returns-2 : tie.Need-returns-2
 returns-2 c =
     let a = c .before .before .before .before .before .before .before .before .before .before .before .args in
@@ -49,11 +40,11 @@ pub list-by-spec : {M : Type 1} → statement M
 list-by-spec =
     tie.close
     (tie.spec
-    counts-by-requires
-    is-none-requires
+    (λ c κs. search needs)
+    (λ c κs. search needs)
     returns
     terms-by-requires
     gates-by-requires
     deliver-requires
-    same-length
+    (λ c. search needs)
     returns-2)

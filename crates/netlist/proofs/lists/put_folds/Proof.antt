@@ -31,18 +31,6 @@ fold-terms-requires c κs =
     let T = foldTerms (a .terms) (a .width) (a .table .now) (a .shared) in
     (s .pre .0, s .pre .1, c .before .loop-test .taken, omega (arith, s .pre .2, s .pre .3, w .inv .1, s .pre .0 .greatest, sum-mono (λ k. length (T k) - 1) (w .r) (a .width) (w .inv .0), width-square (a .width) (a .width) (s .pre .0 .greatest) (s .pre .0 .greatest)))
 
-add-put : tie.Need-add-put Inv-loop μ-loop
-add-put c = search needs
-
-put-requires : tie.Need-put-requires Inv-loop μ-loop
-put-requires c κs = search needs
-
-add-r : tie.Need-add-r Inv-loop μ-loop
-add-r c = search needs
-
-loop-less : tie.Need-loop-less Inv-loop μ-loop
-loop-less c = search needs
-
 loop-again : tie.Need-loop-again Inv-loop μ-loop
 loop-again c =
     let s = c .before .before .before .before .before .before .before .before .before .before .before .before .before in
@@ -72,10 +60,10 @@ put-folds-spec =
     μ-loop
     loop-holds
     fold-terms-requires
-    add-put
-    put-requires
-    add-r
-    loop-less
+    (λ c. search needs)
+    (λ c κs. search needs)
+    (λ c. search needs)
+    (λ c. search needs)
     loop-again
     same-length
     returns)

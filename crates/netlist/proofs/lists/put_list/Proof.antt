@@ -7,41 +7,11 @@ use borrow.Author.Needs.{needs}
 use Rattle.netlist.proofs.lists.put_list.Statement.{statement}
 use Rattle.netlist.proofs.lists.put_list.Tie as tie
 
-cast-put : tie.Need-cast-put
-cast-put c = search needs
-
-put-requires : tie.Need-put-requires
-put-requires c κs = search needs
-
-cast-put-2 : tie.Need-cast-put-2
-cast-put-2 c = search needs
-
-put-requires-2 : tie.Need-put-requires-2
-put-requires-2 c κs = search needs
-
-put-start-requires : tie.Need-put-start-requires
-put-start-requires c κs = search needs
-
-fill-requires : tie.Need-fill-requires
-fill-requires c κs = search needs
-
-mul-put-folds : tie.Need-mul-put-folds
-mul-put-folds c = search needs
-
-add-put-folds : tie.Need-add-put-folds
-add-put-folds c = search needs
-
 put-folds-requires : tie.Need-put-folds-requires
 put-folds-requires c κs =
     let s = c .before .before .before .before .before .before .before .before .before .before .before .before .before .before .before .before .before .before .before .before .before .before .before .before in
     let a = s .args in
     (s .pre .0, c .before .before .before .before .fill .ensures, omega (arith, s .pre .2, started-room (a .terms) (a .width) (a .table .now) (c .before .before .before .before .before .before .before .before .before .before .put-start .ensures)), omega (arith, s .pre .3, s .pre .0 .greatest))
-
-same-length : tie.Need-same-length
-same-length c = search needs
-
-same-length-2 : tie.Need-same-length-2
-same-length-2 c = search needs
 
 returns : tie.Need-returns
 returns c =
@@ -55,15 +25,15 @@ pub put-list-spec : {M : Type 1} → statement M
 put-list-spec =
     tie.close
     (tie.spec
-    cast-put
-    put-requires
-    cast-put-2
-    put-requires-2
-    put-start-requires
-    fill-requires
-    mul-put-folds
-    add-put-folds
+    (λ c. search needs)
+    (λ c κs. search needs)
+    (λ c. search needs)
+    (λ c κs. search needs)
+    (λ c κs. search needs)
+    (λ c κs. search needs)
+    (λ c. search needs)
+    (λ c. search needs)
     put-folds-requires
-    same-length
-    same-length-2
+    (λ c. search needs)
+    (λ c. search needs)
     returns)

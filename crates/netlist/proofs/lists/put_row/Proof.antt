@@ -25,12 +25,6 @@ put-pair-requires c κs =
     let w = c .before .before .loop in
     (s .pre .0, omega arith, omega arith, omega (arith, s .pre .2, put-most (w .j) (w .inv .1) (gates-most (a .mixed) (a .width) (a .i) (w .j))))
 
-add-j : tie.Need-add-j Inv-loop μ-loop
-add-j c = search needs
-
-loop-less : tie.Need-loop-less Inv-loop μ-loop
-loop-less c = search needs
-
 loop-again : tie.Need-loop-again Inv-loop μ-loop
 loop-again c =
     let a = c .before .before .before .before .before .before .before .args in
@@ -54,8 +48,8 @@ put-row-spec =
     μ-loop
     loop-holds
     put-pair-requires
-    add-j
-    loop-less
+    (λ c. search needs)
+    (λ c. search needs)
     loop-again
     same-length
     returns)

@@ -14,24 +14,12 @@ put-pairs-requires c κs =
     let g = s .pre .0 .greatest in
     (g, omega (arith, g, width-square (s .args .width) (s .args .width) g g))
 
-enum-told : tie.Need-enum-told
-enum-told c = search needs
-
-enum-told-2 : tie.Need-enum-told-2
-enum-told-2 c = search needs
-
 put-pairs-requires-2 : tie.Need-put-pairs-requires-2
 put-pairs-requires-2 c κs =
     let s = c .before .before .before .before .before .before .before .before .before .before in
     let m = s .args .width in
     let g = s .pre .0 .greatest in
     (g, omega (arith, g, width-square m m g g, put-most (m * m) (c .before .before .before .before .before .put-pairs .ensures) (pairs-length false m)))
-
-enum-told-3 : tie.Need-enum-told-3
-enum-told-3 c = search needs
-
-enum-told-4 : tie.Need-enum-told-4
-enum-told-4 c = search needs
 
 fill-requires : tie.Need-fill-requires
 fill-requires c κs = c .before .before .before .before .before .before .before .before .before .before .pre
@@ -43,29 +31,14 @@ fold-terms-requires c κs =
     let g = s .pre .0 .greatest in
     (s .pre .0, c .before .before .before .before .fill .ensures, omega (arith, s .pre .0 .least), omega (arith, g, width-square m m g g, put-most (m * m) (c .before .before .before .before .before .before .before .before .before .before .put-pairs .ensures) (pairs-length false m)))
 
-same-length : tie.Need-same-length
-same-length c = search needs
-
 returns : tie.Need-returns
 returns c = rw (c .enum-told .given .1) (start-plain _ _ (c .before .before .before .before .put-pairs .ensures))
-
-same-length-2 : tie.Need-same-length-2
-same-length-2 c = search needs
 
 returns-2 : tie.Need-returns-2
 returns-2 c = rw (c .before .before .before .before .enum-told2 .given .1) (start-reduced _ _ (c .before .before .before .before .before .before .before .before .put-pairs .ensures) (c .before .before .put-pairs2 .ensures))
 
-same-length-3 : tie.Need-same-length-3
-same-length-3 c = search needs
-
 returns-3 : tie.Need-returns-3
 returns-3 c = rw (c .enum-told3 .given .1) (start-shared _ _ (c .before .before .before .before .put-pairs .ensures))
-
-same-length-4 : tie.Need-same-length-4
-same-length-4 c = search needs
-
-same-length-5 : tie.Need-same-length-5
-same-length-5 c = search needs
 
 returns-4 : tie.Need-returns-4
 returns-4 c = rw (c .before .before .before .before .before .before .before .before .before .enum-told4 .given .1) (start-other _ _ (c .before .before .before .before .before .before .before .before .before .before .before .before .before .put-pairs .ensures) (c .before .before .fold-terms .ensures))
@@ -75,19 +48,19 @@ put-start-spec =
     tie.close
     (tie.spec
     put-pairs-requires
-    enum-told
-    enum-told-2
+    (λ c. search needs)
+    (λ c. search needs)
     put-pairs-requires-2
-    enum-told-3
-    enum-told-4
+    (λ c. search needs)
+    (λ c. search needs)
     fill-requires
     fold-terms-requires
-    same-length
+    (λ c. search needs)
     returns
-    same-length-2
+    (λ c. search needs)
     returns-2
-    same-length-3
+    (λ c. search needs)
     returns-3
-    same-length-4
-    same-length-5
+    (λ c. search needs)
+    (λ c. search needs)
     returns-4)

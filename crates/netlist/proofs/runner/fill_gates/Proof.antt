@@ -17,12 +17,6 @@ Inv-loop width list g wires₀ last₀ k₀ wires last k = (k ≤ g) × (wires �
 abbrev μ-loop : tie.MeasureT-loop
 μ-loop width list g wires₀ last₀ k₀ wires last k = g - k
 
-mul-last : tie.Need-mul-last Inv-loop μ-loop
-mul-last c = search needs
-
-sub-last : tie.Need-sub-last Inv-loop μ-loop
-sub-last c = search needs
-
 slice-read-last : tie.Need-slice-read-last Inv-loop μ-loop
 slice-read-last c = omega (arith, c .before .before .before .pre)
 
@@ -31,33 +25,6 @@ loop-holds c =
     let s = c .before .before .before in
     let e : 2 * s .args .width - 1 ≡ 2 * s .args .width + 0 - 1 = omega arith in
     (omega arith, filled-start (s .args .width) (s .args .list .now) (s .args .wires .now) (omega (arith, s .pre .3)) (s .pre .5), refl, ap (λ n. getD (s .args .wires .now) n 0) e)
-
-mul-own : tie.Need-mul-own Inv-loop μ-loop
-mul-own c = search needs
-
-add-own : tie.Need-add-own Inv-loop μ-loop
-add-own c = search needs
-
-mul-at : tie.Need-mul-at Inv-loop μ-loop
-mul-at c = search needs
-
-add-at : tie.Need-add-at Inv-loop μ-loop
-add-at c = search needs
-
-word-requires : tie.Need-word-requires Inv-loop μ-loop
-word-requires c κs = search needs
-
-add-word : tie.Need-add-word Inv-loop μ-loop
-add-word c = search needs
-
-word-requires-2 : tie.Need-word-requires-2 Inv-loop μ-loop
-word-requires-2 c κs = search needs
-
-add-word-2 : tie.Need-add-word-2 Inv-loop μ-loop
-add-word-2 c = search needs
-
-word-requires-3 : tie.Need-word-requires-3 Inv-loop μ-loop
-word-requires-3 c κs = search needs
 
 on-wire-requires : tie.Need-on-wire-requires Inv-loop μ-loop
 on-wire-requires c κs =
@@ -86,12 +53,6 @@ gate-value-requires c κs =
 
 slice-write-wires : tie.Need-slice-write-wires Inv-loop μ-loop
 slice-write-wires c = omega (arith, c .before .before .before .before .before .before .before .before .before .loop .inv .2, c .before .before .before .before .before .before .before .before .before .before .before .before .before .pre .3)
-
-add-k : tie.Need-add-k Inv-loop μ-loop
-add-k c = search needs
-
-loop-less : tie.Need-loop-less Inv-loop μ-loop
-loop-less c = search needs
 
 loop-again : tie.Need-loop-again Inv-loop μ-loop
 loop-again c =
@@ -130,25 +91,25 @@ fill-gates-spec =
     (tie.spec
     Inv-loop
     μ-loop
-    mul-last
-    sub-last
+    (λ c. search needs)
+    (λ c. search needs)
     slice-read-last
     loop-holds
-    mul-own
-    add-own
-    mul-at
-    add-at
-    word-requires
-    add-word
-    word-requires-2
-    add-word-2
-    word-requires-3
+    (λ c. search needs)
+    (λ c. search needs)
+    (λ c. search needs)
+    (λ c. search needs)
+    (λ c κs. search needs)
+    (λ c. search needs)
+    (λ c κs. search needs)
+    (λ c. search needs)
+    (λ c κs. search needs)
     on-wire-requires
     on-wire-requires-2
     gate-value-requires
     slice-write-wires
-    add-k
-    loop-less
+    (λ c. search needs)
+    (λ c. search needs)
     loop-again
     same-length
     returns)

@@ -20,20 +20,8 @@ loop-holds : tie.Need-loop-holds Inv-loop μ-loop
 unfolding tabulate
 loop-holds c = (omega arith, refl, refl)
 
-coordinate-requires : tie.Need-coordinate-requires Inv-loop μ-loop
-coordinate-requires c κs = search needs
-
-add-wires : tie.Need-add-wires Inv-loop μ-loop
-add-wires c = search needs
-
 slice-write-wires : tie.Need-slice-write-wires Inv-loop μ-loop
 slice-write-wires c = omega arith
-
-add-i : tie.Need-add-i Inv-loop μ-loop
-add-i c = search needs
-
-loop-less : tie.Need-loop-less Inv-loop μ-loop
-loop-less c = search needs
 
 loop-again : tie.Need-loop-again Inv-loop μ-loop
 loop-again c =
@@ -57,11 +45,11 @@ fill-operand-spec =
     Inv-loop
     μ-loop
     loop-holds
-    coordinate-requires
-    add-wires
+    (λ c κs. search needs)
+    (λ c. search needs)
     slice-write-wires
-    add-i
-    loop-less
+    (λ c. search needs)
+    (λ c. search needs)
     loop-again
     same-length
     returns)

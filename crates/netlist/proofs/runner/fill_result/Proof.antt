@@ -28,9 +28,6 @@ output-byte-requires c κs =
 slice-write-result : tie.Need-slice-write-result Inv-loop μ-loop
 slice-write-result c = omega (arith, c .before .before .loop .inv .1)
 
-add-b : tie.Need-add-b Inv-loop μ-loop
-add-b c = search needs
-
 loop-less : tie.Need-loop-less Inv-loop μ-loop
 loop-less c = omega (arith, c .before .before .loop .inv .1)
 
@@ -55,7 +52,7 @@ fill-result-spec =
     loop-holds
     output-byte-requires
     slice-write-result
-    add-b
+    (λ c. search needs)
     loop-less
     loop-again
     same-length

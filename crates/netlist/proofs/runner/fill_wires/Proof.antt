@@ -11,15 +11,6 @@ use borrow.Author.Needs.{needs}
 use Rattle.netlist.proofs.runner.fill_wires.Statement.{statement}
 use Rattle.netlist.proofs.runner.fill_wires.Tie as tie
 
-fill-operand-requires : tie.Need-fill-operand-requires
-fill-operand-requires c κs = search needs
-
-fill-operand-requires-2 : tie.Need-fill-operand-requires-2
-fill-operand-requires-2 c κs = search needs
-
-word-requires : tie.Need-word-requires
-word-requires c κs = search needs
-
 fill-gates-requires : tie.Need-fill-gates-requires
 fill-gates-requires c κs =
     let s = c .before .before .before .before .before .before .before .before .before .before .before .before .before .before in
@@ -33,9 +24,6 @@ fill-gates-requires c κs =
       rw e (bits-inputs m (s .args .a .now) (s .args .b .now) (s .args .wires .now) (omega (arith, s .pre .2))),
     )
 
-same-length : tie.Need-same-length
-same-length c = search needs
-
 returns : tie.Need-returns
 returns c =
     let s = c .before .before .before .before .before .before .before .before .before .before .before .before .before .before .before .before .before in
@@ -47,9 +35,9 @@ pub fill-wires-spec : {M : Type 1} → statement M
 fill-wires-spec =
     tie.close
     (tie.spec
-    fill-operand-requires
-    fill-operand-requires-2
-    word-requires
+    (λ c κs. search needs)
+    (λ c κs. search needs)
+    (λ c κs. search needs)
     fill-gates-requires
-    same-length
+    (λ c. search needs)
     returns)

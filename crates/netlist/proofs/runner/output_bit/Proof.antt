@@ -13,21 +13,6 @@ use Rattle.netlist.proofs.runner.output_bit.Tie as tie
 returns : tie.Need-returns
 returns c = rw (below-out (c .before .before .before .args .width) (λ r. valueOn (c .before .before .before .args .wires .now) (outputAt (c .before .before .before .args .list .now) r)) (c .before .before .before .args .r) (c .if1 .taken))
 
-word-requires : tie.Need-word-requires
-word-requires c κs = search needs
-
-mul-first : tie.Need-mul-first
-mul-first c = search needs
-
-add-first : tie.Need-add-first
-add-first c = search needs
-
-add-word : tie.Need-add-word
-add-word c = search needs
-
-word-requires-2 : tie.Need-word-requires-2
-word-requires-2 c κs = search needs
-
 shared-slice-read-result : tie.Need-shared-slice-read-result
 shared-slice-read-result c =
     let s = c .before .before .before .before .before .before in
@@ -46,10 +31,10 @@ output-bit-spec =
     tie.close
     (tie.spec
     returns
-    word-requires
-    mul-first
-    add-first
-    add-word
-    word-requires-2
+    (λ c κs. search needs)
+    (λ c. search needs)
+    (λ c. search needs)
+    (λ c. search needs)
+    (λ c κs. search needs)
     shared-slice-read-result
     returns-2)

@@ -21,20 +21,8 @@ loop-holds : tie.Need-loop-holds Inv-loop μ-loop
 unfolding value sum
 loop-holds c = (omega arith, omega arith)
 
-mul-output-bit : tie.Need-mul-output-bit Inv-loop μ-loop
-mul-output-bit c = search needs
-
-add-output-bit : tie.Need-add-output-bit Inv-loop μ-loop
-add-output-bit c = search needs
-
 output-bit-requires : tie.Need-output-bit-requires Inv-loop μ-loop
 output-bit-requires c κs = let s = c .before .before .before .before in (s .pre .0, s .pre .2, s .pre .3)
-
-cast-byte : tie.Need-cast-byte Inv-loop μ-loop
-cast-byte c = search needs
-
-shl-byte : tie.Need-shl-byte Inv-loop μ-loop
-shl-byte c = search needs
 
 add-byte : tie.Need-add-byte Inv-loop μ-loop
 add-byte c =
@@ -42,12 +30,6 @@ add-byte c =
     let w = c .before .before .loop in
     let b = byte-more (λ j. below (s .width) (λ r. valueOn (s .wires .now) (outputAt (s .list .now) r)) (s .b * 8 + j)) (w .j) (w .byte) (c .output-bit .result) (w .inv .1) (c .output-bit .ensures) (omega arith) in
     omega (arith, b .0, b .2)
-
-add-j : tie.Need-add-j Inv-loop μ-loop
-add-j c = search needs
-
-loop-less : tie.Need-loop-less Inv-loop μ-loop
-loop-less c = search needs
 
 loop-again : tie.Need-loop-again Inv-loop μ-loop
 loop-again c =
@@ -70,13 +52,13 @@ output-byte-spec =
     Inv-loop
     μ-loop
     loop-holds
-    mul-output-bit
-    add-output-bit
+    (λ c. search needs)
+    (λ c. search needs)
     output-bit-requires
-    cast-byte
-    shl-byte
+    (λ c. search needs)
+    (λ c. search needs)
     add-byte
-    add-j
-    loop-less
+    (λ c. search needs)
+    (λ c. search needs)
     loop-again
     returns)

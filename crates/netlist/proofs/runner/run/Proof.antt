@@ -10,18 +10,6 @@ use borrow.Author.Needs.{needs}
 use Rattle.netlist.proofs.runner.run.Statement.{statement}
 use Rattle.netlist.proofs.runner.run.Tie as tie
 
-judge-run-requires : tie.Need-judge-run-requires
-judge-run-requires c κs = search needs
-
-is-none-requires : tie.Need-is-none-requires
-is-none-requires c κs = search needs
-
-slice-aggregate-fill-wires : tie.Need-slice-aggregate-fill-wires
-slice-aggregate-fill-wires c = search needs
-
-slice-aggregate-fill-wires-2 : tie.Need-slice-aggregate-fill-wires-2
-slice-aggregate-fill-wires-2 c = search needs
-
 fill-wires-requires : tie.Need-fill-wires-requires
 fill-wires-requires c κs =
     let f = run-fine _ _ _ _ _ _ (judged (c .before .before .before .before .before .judge-run .ensures) (c .before .before .before .before .is-none .ensures) (c .before .before .before .if1 .taken)) in
@@ -31,12 +19,6 @@ fill-result-requires : tie.Need-fill-result-requires
 fill-result-requires c κs =
     let f = run-fine _ _ _ _ _ _ (judged (c .before .before .before .before .before .before .before .before .before .before .judge-run .ensures) (c .before .before .before .before .before .before .before .before .before .is-none .ensures) (c .before .before .before .before .before .before .before .before .if1 .taken)) in
     (f .greatest, f .bytes, c .before .before .before .before .fill-wires .kept .1 .1 .1 .1 .0 ∙ f .bytePerWire, f .outputs)
-
-same-length : tie.Need-same-length
-same-length c = search needs
-
-same-length-2 : tie.Need-same-length-2
-same-length-2 c = search needs
 
 returns : tie.Need-returns
 returns c =
@@ -58,13 +40,13 @@ pub run-spec : {M : Type 1} → statement M
 run-spec =
     tie.close
     (tie.spec
-    judge-run-requires
-    is-none-requires
-    slice-aggregate-fill-wires
-    slice-aggregate-fill-wires-2
+    (λ c κs. search needs)
+    (λ c κs. search needs)
+    (λ c. search needs)
+    (λ c. search needs)
     fill-wires-requires
     fill-result-requires
-    same-length
-    same-length-2
+    (λ c. search needs)
+    (λ c. search needs)
     returns
     returns-2)

@@ -24,18 +24,12 @@ loop-holds c =
     let g = s .pre .0 .greatest in
     (omega arith, successors-none (omega (arith, width-square (s .args .width) (s .args .width) g g, s .pre .1)), refl)
 
-sub-d : tie.Need-sub-d Inv-loop μ-loop
-sub-d c = search needs
-
 fill-row-requires : tie.Need-fill-row-requires Inv-loop μ-loop
 fill-row-requires c κs =
     let s = c .before .before .before .before .before in
     let w = c .before .before .loop in
     let e : w .d - 1 + 1 ≡ w .d = omega arith in
     (s .pre .0, omega arith, rw e (w .inv .1))
-
-loop-less : tie.Need-loop-less Inv-loop μ-loop
-loop-less c = search needs
 
 loop-again : tie.Need-loop-again Inv-loop μ-loop
 loop-again c = (omega arith, c .before .before .fill-row .ensures, c .before .before .fill-row .kept .0 ∙ c .before .before .before .before .before .loop .inv .2)
@@ -56,9 +50,9 @@ fill-spec =
     Inv-loop
     μ-loop
     loop-holds
-    sub-d
+    (λ c. search needs)
     fill-row-requires
-    loop-less
+    (λ c. search needs)
     loop-again
     same-length
     returns)

@@ -16,9 +16,6 @@ Inv-loop successors₀ width table terms d full s₀ successors s = (s ≤ width
 abbrev μ-loop : tie.MeasureT-loop
 μ-loop successors₀ width table terms d full s₀ successors s = width - s
 
-full-row-requires : tie.Need-full-row-requires Inv-loop μ-loop
-full-row-requires c κs = search needs
-
 loop-holds : tie.Need-loop-holds Inv-loop μ-loop
 loop-holds c = (omega arith, c .before .before .before .pre .2, λ u l. absurd (omega arith), refl)
 
@@ -48,12 +45,6 @@ slice-write-successors c =
     let w = c .before .before .before .loop in
     omega (arith, w .inv .1 .room, place-before (s .args .width) (s .args .d) (w .s) (s .args .width) (s .pre .1) (c .before .before .loop-test .taken))
 
-add-s : tie.Need-add-s Inv-loop μ-loop
-add-s c = search needs
-
-loop-less : tie.Need-loop-less Inv-loop μ-loop
-loop-less c = search needs
-
 loop-again : tie.Need-loop-again Inv-loop μ-loop
 loop-again c =
     let s = c .before .before .before .before .before .before .before in
@@ -76,15 +67,15 @@ fill-row-spec =
     (tie.spec
     Inv-loop
     μ-loop
-    full-row-requires
+    (λ c κs. search needs)
     loop-holds
     entry-for-requires
     mul-successors
     add-successors
     mul-successors-2
     slice-write-successors
-    add-s
-    loop-less
+    (λ c. search needs)
+    (λ c. search needs)
     loop-again
     same-length
     returns)

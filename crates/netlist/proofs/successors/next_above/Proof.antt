@@ -6,22 +6,10 @@ use borrow.Author.Needs.{needs}
 use Rattle.netlist.proofs.successors.next_above.Statement.{statement}
 use Rattle.netlist.proofs.successors.next_above.Tie as tie
 
-minus-requires : tie.Need-minus-requires
-minus-requires c κs = search needs
-
-sub-look : tie.Need-sub-look
-sub-look c = search needs
-
 look-requires : tie.Need-look-requires
 look-requires c κs =
     let s = c .before .before .before in
     (s .pre .0 .greatest, omega arith, c .minus .ensures .1, successors-from _ (omega arith) (s .pre .1))
-
-sub-if1 : tie.Need-sub-if1
-sub-if1 c = search needs
-
-add-result : tie.Need-add-result
-add-result c = search needs
 
 returns : tie.Need-returns
 returns c =
@@ -37,4 +25,4 @@ returns-2 c =
 
 pub next-above-spec : {M : Type 1} → statement M
 next-above-spec =
-    tie.close (tie.spec minus-requires sub-look look-requires sub-if1 add-result returns returns-2)
+    tie.close (tie.spec (λ c κs. search needs) (λ c. search needs) look-requires (λ c. search needs) (λ c. search needs) returns returns-2)

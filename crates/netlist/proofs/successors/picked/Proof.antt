@@ -7,29 +7,11 @@ use borrow.Author.Needs.{needs}
 use Rattle.netlist.proofs.successors.picked.Statement.{statement}
 use Rattle.netlist.proofs.successors.picked.Tie as tie
 
-entry-requires : tie.Need-entry-requires
-entry-requires c κs = search needs
-
-enum-told : tie.Need-enum-told
-enum-told c = search needs
-
-enum-told-2 : tie.Need-enum-told-2
-enum-told-2 c = search needs
-
-enum-told-3 : tie.Need-enum-told-3
-enum-told-3 c = search needs
-
-enum-told-4 : tie.Need-enum-told-4
-enum-told-4 c = search needs
-
 returns : tie.Need-returns
 returns c = rw (c .enum-told .given .1) (c .before .before .entry .ensures)
 
 returns-2 : tie.Need-returns-2
 returns-2 c = rw (c .enum-told2 .given .1) (c .before .before .entry .ensures)
-
-returns-3 : tie.Need-returns-3
-returns-3 c = search needs
 
 returns-4 : tie.Need-returns-4
 returns-4 c = rw (c .before .enum-told4 .given .1) (ap₂ (λ x y. x && not y) (sym (c .if1 .taken) ∙ c .before .before .before .entry .ensures) (c .before .before .before .before .before .pre .3))
@@ -43,13 +25,13 @@ pub picked-spec : {M : Type 1} → statement M
 picked-spec =
     tie.close
     (tie.spec
-    entry-requires
-    enum-told
-    enum-told-2
-    enum-told-3
-    enum-told-4
+    (λ c κs. search needs)
+    (λ c. search needs)
+    (λ c. search needs)
+    (λ c. search needs)
+    (λ c. search needs)
     returns
     returns-2
-    returns-3
+    (λ c. search needs)
     returns-4
     returns-5)

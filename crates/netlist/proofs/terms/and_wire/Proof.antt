@@ -5,9 +5,6 @@ use borrow.Author.Needs.{needs}
 use Rattle.netlist.proofs.terms.and_wire.Statement.{statement}
 use Rattle.netlist.proofs.terms.and_wire.Tie as tie
 
-mul-result : tie.Need-mul-result
-mul-result c = search needs
-
 mul-result-2 : tie.Need-mul-result-2
 mul-result-2 c = omega (arith, width-square (c .args .i) (c .args .width) (omega arith) (c .pre .0))
 
@@ -20,9 +17,6 @@ add-result-2 c = omega (arith, width-square (c .args .i) (c .args .width) (omega
 cast-result : tie.Need-cast-result
 cast-result c = omega (arith, width-square (c .args .i) (c .args .width) (omega arith) (c .pre .0))
 
-returns : tie.Need-returns
-returns c = search needs
-
 pub and-wire-spec : {M : Type 1} → statement M
 and-wire-spec =
-    tie.close (tie.spec mul-result mul-result-2 add-result add-result-2 cast-result returns)
+    tie.close (tie.spec (λ c. search needs) mul-result-2 add-result add-result-2 cast-result (λ c. search needs))

@@ -8,24 +8,6 @@ use borrow.Author.Needs.{needs}
 use Rattle.netlist.proofs.terms.first_term.Statement.{statement}
 use Rattle.netlist.proofs.terms.first_term.Tie as tie
 
-enum-told : tie.Need-enum-told
-enum-told c = search needs
-
-enum-told-2 : tie.Need-enum-told-2
-enum-told-2 c = search needs
-
-minus-requires : tie.Need-minus-requires
-minus-requires c κs = search needs
-
-and-wire-requires : tie.Need-and-wire-requires
-and-wire-requires c κs = search needs
-
-enum-told-3 : tie.Need-enum-told-3
-enum-told-3 c = search needs
-
-enum-told-4 : tie.Need-enum-told-4
-enum-told-4 c = search needs
-
 returns : tie.Need-returns
 unfolding pushedAll
 returns c = rw (c .enum-told .given .1)
@@ -48,12 +30,12 @@ pub first-term-spec : {M : Type 1} → statement M
 first-term-spec =
     tie.close
     (tie.spec
-    enum-told
-    enum-told-2
-    minus-requires
-    and-wire-requires
-    enum-told-3
-    enum-told-4
+    (λ c. search needs)
+    (λ c. search needs)
+    (λ c κs. search needs)
+    (λ c κs. search needs)
+    (λ c. search needs)
+    (λ c. search needs)
     returns
     returns-2
     returns-3

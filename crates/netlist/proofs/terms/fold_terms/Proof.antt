@@ -6,9 +6,6 @@ use borrow.Author.Needs.{needs}
 use Rattle.netlist.proofs.terms.fold_terms.Statement.{statement}
 use Rattle.netlist.proofs.terms.fold_terms.Tie as tie
 
-first-term-requires : tie.Need-first-term-requires
-first-term-requires c κs = search needs
-
 push-pairs-requires : tie.Need-push-pairs-requires
 push-pairs-requires c κs =
     let s = c .before .before .before .before .before in
@@ -20,9 +17,6 @@ last-term-requires c κs =
     let a = s .args in
     (s .pre .0 .greatest, omega (arith, s .pre .3, start-gates (a .terms) (a .width) (a .r) (a .n) (c .before .before .before .before .before .first-term .ensures), push-most (c .before .before .before .push-pairs .ensures), pairs-most (a .terms) (a .width) (a .table .now) (a .r)))
 
-same-length : tie.Need-same-length
-same-length c = search needs
-
 returns : tie.Need-returns
 unfolding foldTerms
 returns c =
@@ -32,4 +26,4 @@ returns c =
 pub fold-terms-spec : {M : Type 1} → statement M
 fold-terms-spec =
     tie.close
-    (tie.spec first-term-requires push-pairs-requires last-term-requires same-length returns)
+    (tie.spec (λ c κs. search needs) push-pairs-requires last-term-requires (λ c. search needs) returns)

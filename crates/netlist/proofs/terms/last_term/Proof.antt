@@ -4,21 +4,6 @@ use borrow.Author.Needs.{needs}
 use Rattle.netlist.proofs.terms.last_term.Statement.{statement}
 use Rattle.netlist.proofs.terms.last_term.Tie as tie
 
-enum-told : tie.Need-enum-told
-enum-told c = search needs
-
-enum-told-2 : tie.Need-enum-told-2
-enum-told-2 c = search needs
-
-enum-told-3 : tie.Need-enum-told-3
-enum-told-3 c = search needs
-
-enum-told-4 : tie.Need-enum-told-4
-enum-told-4 c = search needs
-
-push-requires : tie.Need-push-requires
-push-requires c κs = search needs
-
 returns : tie.Need-returns
 returns c = rw (c .enum-told .given .1) (push-none _ _ _)
 
@@ -28,9 +13,6 @@ returns-2 c = rw (c .enum-told2 .given .1) (push-none _ _ _)
 returns-3 : tie.Need-returns-3
 returns-3 c = rw (c .enum-told3 .given .1) (push-none _ _ _)
 
-same-length : tie.Need-same-length
-same-length c = search needs
-
 returns-4 : tie.Need-returns-4
 returns-4 c = rw (c .before .before .before .before .enum-told4 .given .1) (c .before .before .push .ensures)
 
@@ -38,13 +20,13 @@ pub last-term-spec : {M : Type 1} → statement M
 last-term-spec =
     tie.close
     (tie.spec
-    enum-told
-    enum-told-2
-    enum-told-3
-    enum-told-4
-    push-requires
+    (λ c. search needs)
+    (λ c. search needs)
+    (λ c. search needs)
+    (λ c. search needs)
+    (λ c κs. search needs)
     returns
     returns-2
     returns-3
-    same-length
+    (λ c. search needs)
     returns-4)

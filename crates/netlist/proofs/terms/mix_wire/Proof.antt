@@ -8,29 +8,11 @@ use borrow.Author.Needs.{needs}
 use Rattle.netlist.proofs.terms.mix_wire.Statement.{statement}
 use Rattle.netlist.proofs.terms.mix_wire.Tie as tie
 
-mul-rows : tie.Need-mul-rows
-mul-rows c = search needs
-
-sub-rows : tie.Need-sub-rows
-sub-rows c = search needs
-
-sub-rows-2 : tie.Need-sub-rows-2
-sub-rows-2 c = search needs
-
 mul-rows-2 : tie.Need-mul-rows-2
 mul-rows-2 c = omega (arith, mul-le-mul {n₁ = c .args .i} {m₁ = 2 * c .args .width - c .args .i - 1} {n₂ = 255} {m₂ = 510} (omega arith) (omega arith))
 
-mul-result : tie.Need-mul-result
-mul-result c = search needs
-
 mul-result-2 : tie.Need-mul-result-2
 mul-result-2 c = omega (arith, width-square (c .args .width) (c .args .width) (c .pre .0) (c .pre .0))
-
-sub-result : tie.Need-sub-result
-sub-result c = search needs
-
-sub-result-2 : tie.Need-sub-result-2
-sub-result-2 c = search needs
 
 add-result : tie.Need-add-result
 add-result c = omega (arith, mul-le-mul {n₁ = c .args .i} {m₁ = 2 * c .args .width - c .args .i - 1} {n₂ = 255} {m₂ = 510} (omega arith) (omega arith))
@@ -51,14 +33,14 @@ pub mix-wire-spec : {M : Type 1} → statement M
 mix-wire-spec =
     tie.close
     (tie.spec
-    mul-rows
-    sub-rows
-    sub-rows-2
+    (λ c. search needs)
+    (λ c. search needs)
+    (λ c. search needs)
     mul-rows-2
-    mul-result
+    (λ c. search needs)
     mul-result-2
-    sub-result
-    sub-result-2
+    (λ c. search needs)
+    (λ c. search needs)
     add-result
     add-result-2
     add-result-3

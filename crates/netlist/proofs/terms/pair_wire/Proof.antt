@@ -8,32 +8,11 @@ use borrow.Author.Needs.{needs}
 use Rattle.netlist.proofs.terms.pair_wire.Statement.{statement}
 use Rattle.netlist.proofs.terms.pair_wire.Tie as tie
 
-enum-told : tie.Need-enum-told
-enum-told c = search needs
-
-and-wire-requires : tie.Need-and-wire-requires
-and-wire-requires c κs = search needs
-
-enum-told-2 : tie.Need-enum-told-2
-enum-told-2 c = search needs
-
 mix-wire-requires : tie.Need-mix-wire-requires
 mix-wire-requires c κs =
     let a = c .before .before .before .args in
     let e = ap (λ t. picks t (a .width) (a .table .now) (a .r) (a .i) (a .j)) (sym (c .enum-told2 .given .1)) ∙ c .before .before .before .pre .3 in
     (c .before .before .before .pre .0, ltb-true _ _ (and-both (ltb (a .i) (a .j)) _ e .0), c .before .before .before .pre .2)
-
-enum-told-3 : tie.Need-enum-told-3
-enum-told-3 c = search needs
-
-and-wire-requires-2 : tie.Need-and-wire-requires-2
-and-wire-requires-2 c κs = search needs
-
-enum-told-4 : tie.Need-enum-told-4
-enum-told-4 c = search needs
-
-and-wire-requires-3 : tie.Need-and-wire-requires-3
-and-wire-requires-3 c κs = search needs
 
 returns : tie.Need-returns
 returns c =
@@ -59,14 +38,14 @@ pub pair-wire-spec : {M : Type 1} → statement M
 pair-wire-spec =
     tie.close
     (tie.spec
-    enum-told
-    and-wire-requires
-    enum-told-2
+    (λ c. search needs)
+    (λ c κs. search needs)
+    (λ c. search needs)
     mix-wire-requires
-    enum-told-3
-    and-wire-requires-2
-    enum-told-4
-    and-wire-requires-3
+    (λ c. search needs)
+    (λ c κs. search needs)
+    (λ c. search needs)
+    (λ c κs. search needs)
     returns
     returns-2
     returns-3

@@ -26,12 +26,6 @@ push-row-requires c κs =
     let w = c .before .before .loop in
     (s .pre .0, s .pre .1, s .pre .2, c .before .loop-test .taken, omega (arith, s .pre .3, push-most (w .inv .1), rows-most (a .terms) (a .width) (a .table .now) (a .r) (w .i), mul-le-mul-right {m = w .i} {n = a .width} (a .width) (omega arith)))
 
-add-i : tie.Need-add-i Inv-loop μ-loop
-add-i c = search needs
-
-loop-less : tie.Need-loop-less Inv-loop μ-loop
-loop-less c = search needs
-
 loop-again : tie.Need-loop-again Inv-loop μ-loop
 loop-again c =
     let a = c .before .before .before .before .before .before .before .before .before .args in
@@ -56,8 +50,8 @@ push-pairs-spec =
     μ-loop
     loop-holds
     push-row-requires
-    add-i
-    loop-less
+    (λ c. search needs)
+    (λ c. search needs)
     loop-again
     same-length
     returns)

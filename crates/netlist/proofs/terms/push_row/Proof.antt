@@ -45,9 +45,6 @@ push-requires c κs =
     let w = c .before .before .before .loop in
     (s .pre .0 .greatest, omega (arith, s .pre .4, push-most (w .inv .3), row-most (a .terms) (a .width) (a .table .now) (a .r) (a .i) (w .j), c .before .before .loop-test .taken))
 
-add-next : tie.Need-add-next Inv-loop μ-loop
-add-next c = search needs
-
 next-requires-2 : tie.Need-next-requires-2 Inv-loop μ-loop
 next-requires-2 c κs =
     let s = c .before .before .before .before .before .before .before .before .before .before .before .before in
@@ -85,7 +82,7 @@ push-row-spec =
     loop-holds
     pair-wire-requires
     push-requires
-    add-next
+    (λ c. search needs)
     next-requires-2
     loop-less
     loop-again

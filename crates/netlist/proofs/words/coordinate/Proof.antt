@@ -7,15 +7,6 @@ use borrow.Author.Needs.{needs}
 use Rattle.netlist.proofs.words.coordinate.Statement.{statement}
 use Rattle.netlist.proofs.words.coordinate.Tie as tie
 
-shared-slice-read-result : tie.Need-shared-slice-read-result
-shared-slice-read-result c = search needs
-
-cast-result : tie.Need-cast-result
-cast-result c = search needs
-
-shr-result : tie.Need-shr-result
-shr-result c = search needs
-
 returns : tie.Need-returns
 unfolding coord
 returns c = refl
@@ -25,4 +16,4 @@ returns-2 c = sym (coord-past (c .before .args .bytes .now) (c .before .args .i)
 
 pub coordinate-spec : {M : Type 1} → statement M
 coordinate-spec =
-    tie.close (tie.spec shared-slice-read-result cast-result shr-result returns returns-2)
+    tie.close (tie.spec (λ c. search needs) (λ c. search needs) (λ c. search needs) returns returns-2)

@@ -6,12 +6,6 @@ use borrow.Author.Needs.{needs}
 use Rattle.netlist.proofs.words.word.Statement.{statement}
 use Rattle.netlist.proofs.words.word.Tie as tie
 
-mul-result : tie.Need-mul-result
-mul-result c = search needs
-
-shared-slice-read-result : tie.Need-shared-slice-read-result
-shared-slice-read-result c = search needs
-
 cast-result : tie.Need-cast-result
 cast-result c = omega (arith, c .shared-slice-known .given (c .before .before .args .at))
 
@@ -22,4 +16,4 @@ returns-2 : tie.Need-returns-2
 returns-2 c = (sym (List·getD-eq-default (c .before .args .list .now) 0 {n = c .before .args .at} (omega arith)), omega arith)
 
 pub word-spec : {M : Type 1} → statement M
-word-spec = tie.close (tie.spec mul-result shared-slice-read-result cast-result returns returns-2)
+word-spec = tie.close (tie.spec (λ c. search needs) (λ c. search needs) cast-result returns returns-2)

@@ -7,12 +7,6 @@ use borrow.Author.Needs.{needs}
 use Rattle.operand.proofs.Operand.one.Statement.{statement}
 use Rattle.operand.proofs.Operand.one.Tie as tie
 
-judge-width-requires : tie.Need-judge-width-requires
-judge-width-requires c κs = search needs
-
-cleared-requires : tie.Need-cleared-requires
-cleared-requires c κs = search needs
-
 answered-requires : tie.Need-answered-requires
 answered-requires c κs = λ e. width-fine _ (ap isNone (sym (c .before .judge-width .ensures)) ∙ e) .1
 
@@ -22,4 +16,4 @@ returns c =
     ∙ answer-same _ (c .before .before .judge-width .ensures) (λ e. c .before .cleared .ensures ∙ one-bytes _ (width-fine _ e .1))
 
 pub one-spec : {M : Type 1} → statement M
-one-spec = tie.close (tie.spec judge-width-requires cleared-requires answered-requires returns)
+one-spec = tie.close (tie.spec (λ c κs. search needs) (λ c κs. search needs) answered-requires returns)

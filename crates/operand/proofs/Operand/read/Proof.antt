@@ -6,9 +6,6 @@ use borrow.Author.Needs.{needs}
 use Rattle.operand.proofs.Operand.read.Statement.{statement}
 use Rattle.operand.proofs.Operand.read.Tie as tie
 
-carried-requires : tie.Need-carried-requires
-carried-requires c κs = search needs
-
 judge-bytes-requires : tie.Need-judge-bytes-requires
 judge-bytes-requires c κs = c .carried .ensures
 
@@ -19,4 +16,4 @@ returns : tie.Need-returns
 returns c = c .answered .ensures ∙ answer-same _ (c .before .judge-bytes .ensures) (λ e. c .before .before .carried .ensures)
 
 pub read-spec : {M : Type 1} → statement M
-read-spec = tie.close (tie.spec carried-requires judge-bytes-requires answered-requires returns)
+read-spec = tie.close (tie.spec (λ c κs. search needs) judge-bytes-requires answered-requires returns)

@@ -10,18 +10,6 @@ use borrow.Author.Needs.{needs}
 use Rattle.operand.proofs.Operand.solve.Statement.{statement}
 use Rattle.operand.proofs.Operand.solve.Tie as tie
 
-cast-m : tie.Need-cast-m
-cast-m c = search needs
-
-root-requires : tie.Need-root-requires
-root-requires c κs = search needs
-
-judge-solving-requires : tie.Need-judge-solving-requires
-judge-solving-requires c κs = search needs
-
-cleared-requires : tie.Need-cleared-requires
-cleared-requires c κs = search needs
-
 answered-requires : tie.Need-answered-requires
 answered-requires c κs = λ e. operand-fine _ (two-fine _ _ (ap isNone (sym (c .before .judge-solving .ensures)) ∙ e) .0) .greatest
 
@@ -37,9 +25,9 @@ pub solve-spec : {M : Type 1} → statement M
 solve-spec =
     tie.close
     (tie.spec
-    cast-m
-    root-requires
-    judge-solving-requires
-    cleared-requires
+    (λ c. search needs)
+    (λ c κs. search needs)
+    (λ c κs. search needs)
+    (λ c κs. search needs)
     answered-requires
     returns)

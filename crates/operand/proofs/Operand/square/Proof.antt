@@ -7,9 +7,6 @@ use borrow.Author.Needs.{needs}
 use Rattle.operand.proofs.Operand.square.Statement.{statement}
 use Rattle.operand.proofs.Operand.square.Tie as tie
 
-turn-requires : tie.Need-turn-requires
-turn-requires c κs = search needs
-
 returns : tie.Need-returns
 unfolding squared
 returns c =
@@ -17,4 +14,4 @@ returns c =
     c .turn .ensures ∙ ap (λ f. answer f (a .width) (turned (a .width) 1 (a .bytes))) (square-fault a)
 
 pub square-spec : {M : Type 1} → statement M
-square-spec = tie.close (tie.spec turn-requires returns)
+square-spec = tie.close (tie.spec (λ c κs. search needs) returns)

@@ -11,15 +11,6 @@ use borrow.Author.Needs.{needs}
 use Rattle.operand.proofs.Operand.sum.Statement.{statement}
 use Rattle.operand.proofs.Operand.sum.Tie as tie
 
-cast-m : tie.Need-cast-m
-cast-m c = search needs
-
-judge-pair-requires : tie.Need-judge-pair-requires
-judge-pair-requires c κs = search needs
-
-xored-requires : tie.Need-xored-requires
-xored-requires c κs = search needs
-
 answered-requires : tie.Need-answered-requires
 answered-requires c κs = λ e. pair-fine _ _ (ap isNone (sym (c .before .judge-pair .ensures)) ∙ e) .left .greatest
 
@@ -32,4 +23,4 @@ returns c =
     c .before .xored .ensures ∙ ap (λ n. pack n (λ i. coord (a .self .bytes) i + coord (a .other .bytes) i)) (sym size) ∙ sum-bytes _ _ _ (fine .left .clear) (fine .right))
 
 pub sum-spec : {M : Type 1} → statement M
-sum-spec = tie.close (tie.spec cast-m judge-pair-requires xored-requires answered-requires returns)
+sum-spec = tie.close (tie.spec (λ c. search needs) (λ c κs. search needs) (λ c κs. search needs) answered-requires returns)

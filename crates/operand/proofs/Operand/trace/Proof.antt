@@ -8,18 +8,6 @@ use borrow.Author.Needs.{needs}
 use Rattle.operand.proofs.Operand.trace.Statement.{statement}
 use Rattle.operand.proofs.Operand.trace.Tie as tie
 
-judge-operand-requires : tie.Need-judge-operand-requires
-judge-operand-requires c κs = search needs
-
-is-none-requires : tie.Need-is-none-requires
-is-none-requires c κs = search needs
-
-trace-requires : tie.Need-trace-requires
-trace-requires c κs = search needs
-
-cast-t7 : tie.Need-cast-t7
-cast-t7 c = search needs
-
 returns : tie.Need-returns
 returns c =
     let s = c .before .before in
@@ -36,4 +24,4 @@ returns-2 c =
 pub trace-spec : {M : Type 1} → statement M
 trace-spec =
     tie.close
-    (tie.spec judge-operand-requires is-none-requires trace-requires cast-t7 returns returns-2)
+    (tie.spec (λ c κs. search needs) (λ c κs. search needs) (λ c κs. search needs) (λ c. search needs) returns returns-2)

@@ -9,21 +9,12 @@ use borrow.Author.Needs.{needs}
 use Rattle.operand.proofs.Operand.turn.Statement.{statement}
 use Rattle.operand.proofs.Operand.turn.Tie as tie
 
-cast-m : tie.Need-cast-m
-cast-m c = search needs
-
 -- what holds where no fault is judged
 fine : (c : tie.Then1) → let a = c .before .before .before .before .before .args in isNone (firstOf (operandFault (a .self) ∷ turnFault (a .self .width) (a .k) ∷ [])) ≡ true
 fine c = judged (c .before .before .judge-turning .ensures) (c .before .is-none .ensures) (c .if1 .taken)
 
 sound : (c : tie.Then1) → Fine (c .before .before .before .before .before .args .self)
 sound c = operand-fine _ (two-fine _ _ (fine c) .0)
-
-judge-turning-requires : tie.Need-judge-turning-requires
-judge-turning-requires c κs = search needs
-
-is-none-requires : tie.Need-is-none-requires
-is-none-requires c κs = search needs
 
 turned-requires : tie.Need-turned-requires
 turned-requires c κs = (sound c .greatest, turn-fine _ _ (two-fine _ _ (fine c) .1), sound c .clear)
@@ -46,9 +37,9 @@ pub turn-spec : {M : Type 1} → statement M
 turn-spec =
     tie.close
     (tie.spec
-    cast-m
-    judge-turning-requires
-    is-none-requires
+    (λ c. search needs)
+    (λ c κs. search needs)
+    (λ c κs. search needs)
     turned-requires
     answered-requires
     returns

@@ -4,18 +4,6 @@ use borrow.Author.Needs.{needs}
 use Rattle.operand.proofs.Operand.write.Statement.{statement}
 use Rattle.operand.proofs.Operand.write.Tie as tie
 
-judge-room-requires : tie.Need-judge-room-requires
-judge-room-requires c κs = search needs
-
-is-none-requires : tie.Need-is-none-requires
-is-none-requires c κs = search needs
-
-copy-out-requires : tie.Need-copy-out-requires
-copy-out-requires c κs = search needs
-
-same-length : tie.Need-same-length
-same-length c = search needs
-
 returns : tie.Need-returns
 returns c =
     let s = c .before .before .before .before .before in (
@@ -31,4 +19,4 @@ returns-2 c =
 pub write-spec : {M : Type 1} → statement M
 write-spec =
     tie.close
-    (tie.spec judge-room-requires is-none-requires copy-out-requires same-length returns returns-2)
+    (tie.spec (λ c κs. search needs) (λ c κs. search needs) (λ c κs. search needs) (λ c. search needs) returns returns-2)

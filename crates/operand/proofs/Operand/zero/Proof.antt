@@ -7,9 +7,6 @@ use borrow.Author.Needs.{needs}
 use Rattle.operand.proofs.Operand.zero.Statement.{statement}
 use Rattle.operand.proofs.Operand.zero.Tie as tie
 
-judge-width-requires : tie.Need-judge-width-requires
-judge-width-requires c κs = search needs
-
 answered-requires : tie.Need-answered-requires
 answered-requires c κs = λ e. width-fine _ (ap isNone (sym (c .judge-width .ensures)) ∙ e) .1
 
@@ -17,4 +14,4 @@ returns : tie.Need-returns
 returns c = c .answered .ensures ∙ answer-same _ (c .before .judge-width .ensures) (λ e. zero-bytes _)
 
 pub zero-spec : {M : Type 1} → statement M
-zero-spec = tie.close (tie.spec judge-width-requires answered-requires returns)
+zero-spec = tie.close (tie.spec (λ c κs. search needs) answered-requires returns)

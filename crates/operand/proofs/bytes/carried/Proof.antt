@@ -8,14 +8,8 @@ use borrow.Author.Needs.{needs}
 use Rattle.operand.proofs.bytes.carried.Statement.{statement}
 use Rattle.operand.proofs.bytes.carried.Tie as tie
 
-slice-words-requires : tie.Need-slice-words-requires
-slice-words-requires c κs = search needs
-
-to-bytes-requires : tie.Need-to-bytes-requires
-to-bytes-requires c κs = search needs
-
 returns : tie.Need-returns
 returns c = c .to-bytes .ensures ∙ ap (λ l. pack carriedBytes (wordCoord l)) (c .before .slice-words .ensures) ∙ bytes-words _
 
 pub carried-spec : {M : Type 1} → statement M
-carried-spec = tie.close (tie.spec slice-words-requires to-bytes-requires returns)
+carried-spec = tie.close (tie.spec (λ c κs. search needs) (λ c κs. search needs) returns)

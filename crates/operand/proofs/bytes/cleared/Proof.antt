@@ -9,15 +9,6 @@ use borrow.Author.Needs.{needs}
 use Rattle.operand.proofs.bytes.cleared.Statement.{statement}
 use Rattle.operand.proofs.bytes.cleared.Tie as tie
 
-to-words-requires : tie.Need-to-words-requires
-to-words-requires c κs = search needs
-
-low-words-requires : tie.Need-low-words-requires
-low-words-requires c κs = search needs
-
-to-bytes-requires : tie.Need-to-bytes-requires
-to-bytes-requires c κs = search needs
-
 returns : tie.Need-returns
 unfolding fromCoords
 returns c =
@@ -27,4 +18,4 @@ returns c =
     ∙ ap (λ f. pack carriedBytes (below (s .args .m) f)) (words-same (s .args .x) (c .before .before .to-words .ensures) size)
 
 pub cleared-spec : {M : Type 1} → statement M
-cleared-spec = tie.close (tie.spec to-words-requires low-words-requires to-bytes-requires returns)
+cleared-spec = tie.close (tie.spec (λ c κs. search needs) (λ c κs. search needs) (λ c κs. search needs) returns)

@@ -8,15 +8,6 @@ use borrow.Author.Needs.{needs}
 use Rattle.operand.proofs.bytes.copy_out.Statement.{statement}
 use Rattle.operand.proofs.bytes.copy_out.Tie as tie
 
-to-words-requires : tie.Need-to-words-requires
-to-words-requires c κs = search needs
-
-store-requires : tie.Need-store-requires
-store-requires c κs = search needs
-
-same-length : tie.Need-same-length
-same-length c = search needs
-
 returns : tie.Need-returns
 returns c =
     let t = c .before .before .before .before in
@@ -25,4 +16,4 @@ returns c =
     c .before .before .store .ensures ∙ ap (pack (length (s .args .out .now))) (words-same (s .args .x) (t .to-words .ensures) size)
 
 pub copy-out-spec : {M : Type 1} → statement M
-copy-out-spec = tie.close (tie.spec to-words-requires store-requires same-length returns)
+copy-out-spec = tie.close (tie.spec (λ c κs. search needs) (λ c κs. search needs) (λ c. search needs) returns)

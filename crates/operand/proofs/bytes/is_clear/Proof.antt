@@ -19,29 +19,11 @@ Inv-loop m all high₀ w₀ high w = (w ≤ carriedWords) × (high ≡ ored w (a
 abbrev μ-loop : tie.MeasureT-loop
 μ-loop m all high₀ w₀ high w = carriedWords - w
 
-to-words-requires : tie.Need-to-words-requires Inv-loop μ-loop
-to-words-requires c κs = search needs
-
 loop-holds : tie.Need-loop-holds Inv-loop μ-loop
 loop-holds c = (omega arith, ored-none _)
 
-mul-word : tie.Need-mul-word Inv-loop μ-loop
-mul-word c = search needs
-
-array-read-word : tie.Need-array-read-word Inv-loop μ-loop
-array-read-word c = search needs
-
-low-word-requires : tie.Need-low-word-requires Inv-loop μ-loop
-low-word-requires c κs = search needs
-
 sub-high : tie.Need-sub-high Inv-loop μ-loop
 sub-high c = rw (c .low-word .ensures) (mod-le _ _)
-
-add-w : tie.Need-add-w Inv-loop μ-loop
-add-w c = search needs
-
-loop-less : tie.Need-loop-less Inv-loop μ-loop
-loop-less c = search needs
 
 loop-again : tie.Need-loop-again Inv-loop μ-loop
 loop-again c =
@@ -62,13 +44,13 @@ is-clear-spec =
     (tie.spec
     Inv-loop
     μ-loop
-    to-words-requires
+    (λ c κs. search needs)
     loop-holds
-    mul-word
-    array-read-word
-    low-word-requires
+    (λ c. search needs)
+    (λ c. search needs)
+    (λ c κs. search needs)
     sub-high
-    add-w
-    loop-less
+    (λ c. search needs)
+    (λ c. search needs)
     loop-again
     returns)

@@ -10,18 +10,6 @@ use borrow.Author.Needs.{needs}
 use Rattle.operand.proofs.bytes.xored.Statement.{statement}
 use Rattle.operand.proofs.bytes.xored.Tie as tie
 
-to-words-requires : tie.Need-to-words-requires
-to-words-requires c κs = search needs
-
-to-words-requires-2 : tie.Need-to-words-requires-2
-to-words-requires-2 c κs = search needs
-
-xored-words-requires : tie.Need-xored-words-requires
-xored-words-requires c κs = search needs
-
-to-bytes-requires : tie.Need-to-bytes-requires
-to-bytes-requires c κs = search needs
-
 returns : tie.Need-returns
 returns c =
     let s = c .before .before .before .before in
@@ -33,4 +21,4 @@ returns c =
 pub xored-spec : {M : Type 1} → statement M
 xored-spec =
     tie.close
-    (tie.spec to-words-requires to-words-requires-2 xored-words-requires to-bytes-requires returns)
+    (tie.spec (λ c κs. search needs) (λ c κs. search needs) (λ c κs. search needs) (λ c κs. search needs) returns)

@@ -6,12 +6,9 @@ use Rattle.operand.specs.Faults.{isNone}
 use Rattle.operand.proofs.fault.is_none.Statement.{statement}
 use Rattle.operand.proofs.fault.is_none.Tie as tie
 
-number-requires : tie.Need-number-requires
-number-requires c κs = search needs
-
 returns : tie.Need-returns
 unfolding isNone
 returns c = ap (λ n. eqb (n .0) 0) (c .before .number .ensures)
 
 pub is-none-spec : {M : Type 1} → statement M
-is-none-spec = tie.close (tie.spec number-requires returns)
+is-none-spec = tie.close (tie.spec (λ c κs. search needs) returns)

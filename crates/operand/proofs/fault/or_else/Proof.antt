@@ -5,9 +5,6 @@ use Rattle.operand.specs.Faults.{orElse}
 use Rattle.operand.proofs.fault.or_else.Statement.{statement}
 use Rattle.operand.proofs.fault.or_else.Tie as tie
 
-is-none-requires : tie.Need-is-none-requires
-is-none-requires c κs = search needs
-
 returns : tie.Need-returns
 unfolding orElse
 returns c = rw (sym (c .before .is-none .ensures) ∙ c .if1 .taken)
@@ -17,4 +14,4 @@ unfolding orElse
 returns-2 c = rw (sym (c .before .is-none .ensures) ∙ c .if1 .left)
 
 pub or-else-spec : {M : Type 1} → statement M
-or-else-spec = tie.close (tie.spec is-none-requires returns returns-2)
+or-else-spec = tie.close (tie.spec (λ c κs. search needs) returns returns-2)

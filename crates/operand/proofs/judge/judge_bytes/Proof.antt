@@ -11,9 +11,6 @@ use borrow.Author.Needs.{needs}
 use Rattle.operand.proofs.judge.judge_bytes.Statement.{statement}
 use Rattle.operand.proofs.judge.judge_bytes.Tie as tie
 
-judge-sized-requires : tie.Need-judge-sized-requires
-judge-sized-requires c κs = search needs
-
 returns : tie.Need-returns
 returns c =
     let m = c .before .before .args .width in
@@ -22,4 +19,4 @@ returns c =
     ∙ first-more _ _ _ ∙ ap (orElse (widthFault m)) (first-two _ _) ∙ bytes-fault m l
 
 pub judge-bytes-spec : {M : Type 1} → statement M
-judge-bytes-spec = tie.close (tie.spec judge-sized-requires returns)
+judge-bytes-spec = tie.close (tie.spec (λ c κs. search needs) returns)

@@ -5,9 +5,6 @@ use borrow.Author.Needs.{needs}
 use Rattle.operand.proofs.judge.judge_high.Statement.{statement}
 use Rattle.operand.proofs.judge.judge_high.Tie as tie
 
-is-clear-requires : tie.Need-is-clear-requires
-is-clear-requires c κs = search needs
-
 returns : tie.Need-returns
 unfolding highFault
 returns c = rw (sym (c .before .is-clear .ensures) ∙ c .if1 .taken)
@@ -17,4 +14,4 @@ unfolding highFault
 returns-2 c = rw (sym (c .before .is-clear .ensures) ∙ c .if1 .left)
 
 pub judge-high-spec : {M : Type 1} → statement M
-judge-high-spec = tie.close (tie.spec is-clear-requires returns returns-2)
+judge-high-spec = tie.close (tie.spec (λ c κs. search needs) returns returns-2)

@@ -5,18 +5,6 @@ use borrow.Author.Needs.{needs}
 use Rattle.operand.proofs.judge.judge_operand.Statement.{statement}
 use Rattle.operand.proofs.judge.judge_operand.Tie as tie
 
-cast-m : tie.Need-cast-m
-cast-m c = search needs
-
-judge-width-requires : tie.Need-judge-width-requires
-judge-width-requires c κs = search needs
-
-is-none-requires : tie.Need-is-none-requires
-is-none-requires c κs = search needs
-
-judge-high-requires : tie.Need-judge-high-requires
-judge-high-requires c κs = search needs
-
 returns : tie.Need-returns
 unfolding operandFault
 returns c =
@@ -29,4 +17,4 @@ returns-2 c = first-ends _ _ _ (c .before .before .judge-width .ensures) (c .bef
 pub judge-operand-spec : {M : Type 1} → statement M
 judge-operand-spec =
     tie.close
-    (tie.spec cast-m judge-width-requires is-none-requires judge-high-requires returns returns-2)
+    (tie.spec (λ c. search needs) (λ c κs. search needs) (λ c κs. search needs) (λ c κs. search needs) returns returns-2)

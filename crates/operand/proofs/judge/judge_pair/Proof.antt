@@ -5,39 +5,15 @@ use borrow.Author.Needs.{needs}
 use Rattle.operand.proofs.judge.judge_pair.Statement.{statement}
 use Rattle.operand.proofs.judge.judge_pair.Tie as tie
 
-cast-m : tie.Need-cast-m
-cast-m c = search needs
-
-cast-n : tie.Need-cast-n
-cast-n c = search needs
-
-judge-width-requires : tie.Need-judge-width-requires
-judge-width-requires c κs = search needs
-
-is-none-requires : tie.Need-is-none-requires
-is-none-requires c κs = search needs
-
 returns : tie.Need-returns
 unfolding pairFault
 returns c = first-ends _ _ _ (c .before .before .judge-width .ensures) (c .before .is-none .ensures) (not-true _ (c .if1 .taken))
-
-judge-width-requires-2 : tie.Need-judge-width-requires-2
-judge-width-requires-2 c κs = search needs
-
-is-none-requires-2 : tie.Need-is-none-requires-2
-is-none-requires-2 c κs = search needs
 
 returns-2 : tie.Need-returns-2
 unfolding pairFault
 returns-2 c =
     first-goes _ _ _ (c .before .before .before .before .before .judge-width .ensures) (c .before .before .before .before .is-none .ensures) (not-not _ (c .before .before .before .if1 .left))
     (first-ends _ _ _ (c .before .before .judge-width2 .ensures) (c .before .is-none2 .ensures) (not-true _ (c .if2 .taken)))
-
-judge-length-requires : tie.Need-judge-length-requires
-judge-length-requires c κs = search needs
-
-is-none-requires-3 : tie.Need-is-none-requires-3
-is-none-requires-3 c κs = search needs
 
 returns-3 : tie.Need-returns-3
 unfolding pairFault
@@ -46,12 +22,6 @@ returns-3 c =
     (first-goes _ _ _ (c .before .before .before .before .before .judge-width2 .ensures) (c .before .before .before .before .is-none2 .ensures) (not-not _ (c .before .before .before .if2 .left))
     (first-ends _ _ _ (c .before .before .judge-length .ensures) (c .before .is-none3 .ensures) (not-true _ (c .if3 .taken))))
 
-judge-high-requires : tie.Need-judge-high-requires
-judge-high-requires c κs = search needs
-
-is-none-requires-4 : tie.Need-is-none-requires-4
-is-none-requires-4 c κs = search needs
-
 returns-4 : tie.Need-returns-4
 unfolding pairFault
 returns-4 c =
@@ -59,9 +29,6 @@ returns-4 c =
     (first-goes _ _ _ (c .before .before .before .before .before .before .before .before .judge-width2 .ensures) (c .before .before .before .before .before .before .before .is-none2 .ensures) (not-not _ (c .before .before .before .before .before .before .if2 .left))
     (first-goes _ _ _ (c .before .before .before .before .before .judge-length .ensures) (c .before .before .before .before .is-none3 .ensures) (not-not _ (c .before .before .before .if3 .left))
     (first-ends _ _ _ (c .before .before .judge-high .ensures) (c .before .is-none4 .ensures) (not-true _ (c .if4 .taken)))))
-
-judge-high-requires-2 : tie.Need-judge-high-requires-2
-judge-high-requires-2 c κs = search needs
 
 returns-5 : tie.Need-returns-5
 unfolding pairFault
@@ -76,19 +43,19 @@ pub judge-pair-spec : {M : Type 1} → statement M
 judge-pair-spec =
     tie.close
     (tie.spec
-    cast-m
-    cast-n
-    judge-width-requires
-    is-none-requires
+    (λ c. search needs)
+    (λ c. search needs)
+    (λ c κs. search needs)
+    (λ c κs. search needs)
     returns
-    judge-width-requires-2
-    is-none-requires-2
+    (λ c κs. search needs)
+    (λ c κs. search needs)
     returns-2
-    judge-length-requires
-    is-none-requires-3
+    (λ c κs. search needs)
+    (λ c κs. search needs)
     returns-3
-    judge-high-requires
-    is-none-requires-4
+    (λ c κs. search needs)
+    (λ c κs. search needs)
     returns-4
-    judge-high-requires-2
+    (λ c κs. search needs)
     returns-5)

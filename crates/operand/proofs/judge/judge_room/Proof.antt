@@ -4,15 +4,9 @@ use borrow.Author.Needs.{needs}
 use Rattle.operand.proofs.judge.judge_room.Statement.{statement}
 use Rattle.operand.proofs.judge.judge_room.Tie as tie
 
-cast-m : tie.Need-cast-m
-cast-m c = search needs
-
-judge-sized-requires : tie.Need-judge-sized-requires
-judge-sized-requires c κs = search needs
-
 returns : tie.Need-returns
 unfolding roomFault
 returns c = c .judge-sized .ensures
 
 pub judge-room-spec : {M : Type 1} → statement M
-judge-room-spec = tie.close (tie.spec cast-m judge-sized-requires returns)
+judge-room-spec = tie.close (tie.spec (λ c. search needs) (λ c κs. search needs) returns)

@@ -6,15 +6,6 @@ use borrow.Author.Needs.{needs}
 use Rattle.operand.proofs.judge.judge_solving.Statement.{statement}
 use Rattle.operand.proofs.judge.judge_solving.Tie as tie
 
-judge-operand-requires : tie.Need-judge-operand-requires
-judge-operand-requires c κs = search needs
-
-is-none-requires : tie.Need-is-none-requires
-is-none-requires c κs = search needs
-
-judge-trace-requires : tie.Need-judge-trace-requires
-judge-trace-requires c κs = search needs
-
 returns : tie.Need-returns
 returns c =
     let s = c .before .before .before in
@@ -27,4 +18,4 @@ returns-2 c = first-ends _ _ _ (c .before .before .judge-operand .ensures) (c .b
 pub judge-solving-spec : {M : Type 1} → statement M
 judge-solving-spec =
     tie.close
-    (tie.spec judge-operand-requires is-none-requires judge-trace-requires returns returns-2)
+    (tie.spec (λ c κs. search needs) (λ c κs. search needs) (λ c κs. search needs) returns returns-2)

@@ -6,9 +6,6 @@ use borrow.Author.Needs.{needs}
 use Rattle.operand.proofs.judge.judge_trace.Statement.{statement}
 use Rattle.operand.proofs.judge.judge_trace.Tie as tie
 
-trace-requires : tie.Need-trace-requires
-trace-requires c κs = search needs
-
 returns : tie.Need-returns
 unfolding trace
 returns c = sym (trace-one _ _ (sym (c .before .trace .ensures) ∙ c .if1 .taken))
@@ -18,4 +15,4 @@ unfolding trace
 returns-2 c = sym (trace-none _ _ (λ e. c .if1 .left (c .before .trace .ensures ∙ e)))
 
 pub judge-trace-spec : {M : Type 1} → statement M
-judge-trace-spec = tie.close (tie.spec trace-requires returns returns-2)
+judge-trace-spec = tie.close (tie.spec (λ c κs. search needs) returns returns-2)

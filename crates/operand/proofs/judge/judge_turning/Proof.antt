@@ -4,18 +4,6 @@ use borrow.Author.Needs.{needs}
 use Rattle.operand.proofs.judge.judge_turning.Statement.{statement}
 use Rattle.operand.proofs.judge.judge_turning.Tie as tie
 
-cast-m : tie.Need-cast-m
-cast-m c = search needs
-
-judge-operand-requires : tie.Need-judge-operand-requires
-judge-operand-requires c κs = search needs
-
-is-none-requires : tie.Need-is-none-requires
-is-none-requires c κs = search needs
-
-judge-turn-requires : tie.Need-judge-turn-requires
-judge-turn-requires c κs = search needs
-
 returns : tie.Need-returns
 returns c =
     first-goes _ _ _ (c .before .before .before .judge-operand .ensures) (c .before .before .is-none .ensures) (c .before .if1 .taken) (first-last (c .judge-turn .ensures))
@@ -26,4 +14,4 @@ returns-2 c = first-ends _ _ _ (c .before .before .judge-operand .ensures) (c .b
 pub judge-turning-spec : {M : Type 1} → statement M
 judge-turning-spec =
     tie.close
-    (tie.spec cast-m judge-operand-requires is-none-requires judge-turn-requires returns returns-2)
+    (tie.spec (λ c. search needs) (λ c κs. search needs) (λ c κs. search needs) (λ c κs. search needs) returns returns-2)

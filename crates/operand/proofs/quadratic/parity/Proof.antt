@@ -4,11 +4,8 @@ use borrow.Author.Needs.{needs}
 use Rattle.operand.proofs.quadratic.parity.Statement.{statement}
 use Rattle.operand.proofs.quadratic.parity.Tie as tie
 
-cast-result : tie.Need-cast-result
-cast-result c = search needs
-
 returns : tie.Need-returns
 returns c = word-parity (c .args .x)
 
 pub parity-spec : {M : Type 1} → statement M
-parity-spec = tie.close (tie.spec cast-result returns)
+parity-spec = tie.close (tie.spec (λ c. search needs) returns)

@@ -12,15 +12,6 @@ use borrow.Author.Needs.{needs}
 use Rattle.operand.proofs.quadratic.root.Statement.{statement}
 use Rattle.operand.proofs.quadratic.root.Tie as tie
 
-to-words-requires : tie.Need-to-words-requires
-to-words-requires c κs = search needs
-
-root-words-requires : tie.Need-root-words-requires
-root-words-requires c κs = search needs
-
-to-bytes-requires : tie.Need-to-bytes-requires
-to-bytes-requires c κs = search needs
-
 returns : tie.Need-returns
 returns c =
     let t = c .before .before in
@@ -30,4 +21,4 @@ returns c =
     ∙ ap (λ f. pack carriedBytes (λ i. f 0 + sum (suc i) f)) (words-same x (t .to-words .ensures) size) ∙ root-pack carriedBytes x
 
 pub root-spec : {M : Type 1} → statement M
-root-spec = tie.close (tie.spec to-words-requires root-words-requires to-bytes-requires returns)
+root-spec = tie.close (tie.spec (λ c κs. search needs) (λ c κs. search needs) (λ c κs. search needs) returns)

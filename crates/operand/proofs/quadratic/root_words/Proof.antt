@@ -13,32 +13,11 @@ Inv-loop c out₀ carry₀ w₀ out carry w = Rooted carriedWords c out₀ out c
 abbrev μ-loop : tie.MeasureT-loop
 μ-loop c out₀ carry₀ w₀ out carry w = carriedWords - w
 
-array-read-carry : tie.Need-array-read-carry Inv-loop μ-loop
-array-read-carry c = search needs
-
 loop-holds : tie.Need-loop-holds Inv-loop μ-loop
 loop-holds c = rooted-none carriedWords _ _
 
-mul-word : tie.Need-mul-word Inv-loop μ-loop
-mul-word c = search needs
-
-array-read-word : tie.Need-array-read-word Inv-loop μ-loop
-array-read-word c = search needs
-
 prefix-sums-requires : tie.Need-prefix-sums-requires Inv-loop μ-loop
 prefix-sums-requires c κs = rooted-carry (c .before .loop .inv)
-
-mul-out : tie.Need-mul-out Inv-loop μ-loop
-mul-out c = search needs
-
-array-write-out : tie.Need-array-write-out Inv-loop μ-loop
-array-write-out c = search needs
-
-add-w : tie.Need-add-w Inv-loop μ-loop
-add-w c = search needs
-
-loop-less : tie.Need-loop-less Inv-loop μ-loop
-loop-less c = search needs
 
 loop-again : tie.Need-loop-again Inv-loop μ-loop
 loop-again c = rooted-more (c .before .before .loop .inv) (c .prefix-sums .ensures) (omega arith) (omega arith)
@@ -52,14 +31,14 @@ root-words-spec =
     (tie.spec
     Inv-loop
     μ-loop
-    array-read-carry
+    (λ c. search needs)
     loop-holds
-    mul-word
-    array-read-word
+    (λ c. search needs)
+    (λ c. search needs)
     prefix-sums-requires
-    mul-out
-    array-write-out
-    add-w
-    loop-less
+    (λ c. search needs)
+    (λ c. search needs)
+    (λ c. search needs)
+    (λ c. search needs)
     loop-again
     returns)

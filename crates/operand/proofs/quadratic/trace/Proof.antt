@@ -11,15 +11,6 @@ use borrow.Author.Needs.{needs}
 use Rattle.operand.proofs.quadratic.trace.Statement.{statement}
 use Rattle.operand.proofs.quadratic.trace.Tie as tie
 
-to-words-requires : tie.Need-to-words-requires
-to-words-requires c κs = search needs
-
-folded-requires : tie.Need-folded-requires
-folded-requires c κs = search needs
-
-parity-requires : tie.Need-parity-requires
-parity-requires c κs = search needs
-
 returns : tie.Need-returns
 returns c =
     let t = c .before .before in
@@ -29,4 +20,4 @@ returns c =
     ∙ folded-trace carriedWords (t .to-words .result) ∙ ap (λ f. sum (64 * carriedWords) f % 2) (words-same x (t .to-words .ensures) size)
 
 pub trace-spec : {M : Type 1} → statement M
-trace-spec = tie.close (tie.spec to-words-requires folded-requires parity-requires returns)
+trace-spec = tie.close (tie.spec (λ c κs. search needs) (λ c κs. search needs) (λ c κs. search needs) returns)

@@ -15,38 +15,8 @@ Inv-loop k moved out₀ w₀ out w = Filled carriedWords (λ v. pairFrom (k % 64
 abbrev μ-loop : tie.MeasureT-loop
 μ-loop k moved out₀ w₀ out w = carriedWords - w
 
-lower-words-requires : tie.Need-lower-words-requires Inv-loop μ-loop
-lower-words-requires c κs = search needs
-
 loop-holds : tie.Need-loop-holds Inv-loop μ-loop
 loop-holds c = filled-none carriedWords _ _
-
-mul-word : tie.Need-mul-word Inv-loop μ-loop
-mul-word c = search needs
-
-array-read-word : tie.Need-array-read-word Inv-loop μ-loop
-array-read-word c = search needs
-
-add-word-at : tie.Need-add-word-at Inv-loop μ-loop
-add-word-at c = search needs
-
-word-at-requires : tie.Need-word-at-requires Inv-loop μ-loop
-word-at-requires c κs = search needs
-
-lower-pair-requires : tie.Need-lower-pair-requires Inv-loop μ-loop
-lower-pair-requires c κs = search needs
-
-mul-out : tie.Need-mul-out Inv-loop μ-loop
-mul-out c = search needs
-
-array-write-out : tie.Need-array-write-out Inv-loop μ-loop
-array-write-out c = search needs
-
-add-w : tie.Need-add-w Inv-loop μ-loop
-add-w c = search needs
-
-loop-less : tie.Need-loop-less Inv-loop μ-loop
-loop-less c = search needs
 
 loop-again : tie.Need-loop-again Inv-loop μ-loop
 loop-again c = filled-more (c .before .before .before .loop .inv) (omega arith) (omega arith) (c .lower-pair .ensures ∙ rw (c .before .word-at .ensures))
@@ -60,16 +30,16 @@ lower-spec =
     (tie.spec
     Inv-loop
     μ-loop
-    lower-words-requires
+    (λ c κs. search needs)
     loop-holds
-    mul-word
-    array-read-word
-    add-word-at
-    word-at-requires
-    lower-pair-requires
-    mul-out
-    array-write-out
-    add-w
-    loop-less
+    (λ c. search needs)
+    (λ c. search needs)
+    (λ c. search needs)
+    (λ c κs. search needs)
+    (λ c κs. search needs)
+    (λ c. search needs)
+    (λ c. search needs)
+    (λ c. search needs)
+    (λ c. search needs)
     loop-again
     returns)

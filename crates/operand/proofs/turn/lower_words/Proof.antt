@@ -16,18 +16,6 @@ abbrev μ-loop : tie.MeasureT-loop
 loop-holds : tie.Need-loop-holds Inv-loop μ-loop
 loop-holds c = moved-none (moves-down carriedWords (c .args .x) (omega arith)) (c .args .n) (omega arith)
 
-div-lower-if : tie.Need-div-lower-if Inv-loop μ-loop
-div-lower-if c = search needs
-
-lower-if-requires : tie.Need-lower-if-requires Inv-loop μ-loop
-lower-if-requires c κs = search needs
-
-mul-step : tie.Need-mul-step Inv-loop μ-loop
-mul-step c = search needs
-
-loop-less : tie.Need-loop-less Inv-loop μ-loop
-loop-less c = search needs
-
 loop-again : tie.Need-loop-again Inv-loop μ-loop
 loop-again c = let s = c .before .before .before in moved-more (moves-down carriedWords (s .args .x) (omega arith)) (s .args .n) (c .before .before .loop .inv) (c .lower-if .ensures)
 
@@ -41,9 +29,9 @@ lower-words-spec =
     Inv-loop
     μ-loop
     loop-holds
-    div-lower-if
-    lower-if-requires
-    mul-step
-    loop-less
+    (λ c. search needs)
+    (λ c κs. search needs)
+    (λ c. search needs)
+    (λ c. search needs)
     loop-again
     returns)

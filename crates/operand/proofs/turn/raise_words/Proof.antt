@@ -16,18 +16,6 @@ abbrev μ-loop : tie.MeasureT-loop
 loop-holds : tie.Need-loop-holds Inv-loop μ-loop
 loop-holds c = moved-none (moves-up carriedWords (c .args .x)) (c .args .n) (omega arith)
 
-div-raise-if : tie.Need-div-raise-if Inv-loop μ-loop
-div-raise-if c = search needs
-
-raise-if-requires : tie.Need-raise-if-requires Inv-loop μ-loop
-raise-if-requires c κs = search needs
-
-mul-step : tie.Need-mul-step Inv-loop μ-loop
-mul-step c = search needs
-
-loop-less : tie.Need-loop-less Inv-loop μ-loop
-loop-less c = search needs
-
 loop-again : tie.Need-loop-again Inv-loop μ-loop
 loop-again c = let s = c .before .before .before in moved-more (moves-up carriedWords (s .args .x)) (s .args .n) (c .before .before .loop .inv) (c .raise-if .ensures)
 
@@ -41,9 +29,9 @@ raise-words-spec =
     Inv-loop
     μ-loop
     loop-holds
-    div-raise-if
-    raise-if-requires
-    mul-step
-    loop-less
+    (λ c. search needs)
+    (λ c κs. search needs)
+    (λ c. search needs)
+    (λ c. search needs)
     loop-again
     returns)

@@ -13,27 +13,6 @@ use borrow.Author.Needs.{needs}
 use Rattle.operand.proofs.turn.turned.Statement.{statement}
 use Rattle.operand.proofs.turn.turned.Tie as tie
 
-to-words-requires : tie.Need-to-words-requires
-to-words-requires c κs = search needs
-
-sub-back : tie.Need-sub-back
-sub-back c = search needs
-
-raise-requires : tie.Need-raise-requires
-raise-requires c κs = search needs
-
-lower-requires : tie.Need-lower-requires
-lower-requires c κs = search needs
-
-xored-words-requires : tie.Need-xored-words-requires
-xored-words-requires c κs = search needs
-
-low-words-requires : tie.Need-low-words-requires
-low-words-requires c κs = search needs
-
-to-bytes-requires : tie.Need-to-bytes-requires
-to-bytes-requires c κs = search needs
-
 returns : tie.Need-returns
 returns c =
     let moved = c .before .before .before in
@@ -54,11 +33,11 @@ pub turned-spec : {M : Type 1} → statement M
 turned-spec =
     tie.close
     (tie.spec
-    to-words-requires
-    sub-back
-    raise-requires
-    lower-requires
-    xored-words-requires
-    low-words-requires
-    to-bytes-requires
+    (λ c κs. search needs)
+    (λ c. search needs)
+    (λ c κs. search needs)
+    (λ c κs. search needs)
+    (λ c κs. search needs)
+    (λ c κs. search needs)
+    (λ c κs. search needs)
     returns)

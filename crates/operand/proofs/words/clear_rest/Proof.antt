@@ -18,12 +18,6 @@ abbrev μ-loop : tie.MeasureT-loop
 loop-holds : tie.Need-loop-holds Inv-loop μ-loop
 loop-holds c = (omega arith, cleared-none _ _)
 
-slice-write-out : tie.Need-slice-write-out Inv-loop μ-loop
-slice-write-out c = search needs
-
-add-b : tie.Need-add-b Inv-loop μ-loop
-add-b c = search needs
-
 loop-less : tie.Need-loop-less Inv-loop μ-loop
 loop-less c = omega (arith, c .before .loop .inv .1 .size)
 
@@ -43,8 +37,8 @@ clear-rest-spec =
     Inv-loop
     μ-loop
     loop-holds
-    slice-write-out
-    add-b
+    (λ c. search needs)
+    (λ c. search needs)
     loop-less
     loop-again
     same-length

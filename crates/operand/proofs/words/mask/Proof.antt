@@ -9,26 +9,14 @@ use borrow.Author.Needs.{needs}
 use Rattle.operand.proofs.words.mask.Statement.{statement}
 use Rattle.operand.proofs.words.mask.Tie as tie
 
-mul-if1 : tie.Need-mul-if1
-mul-if1 c = search needs
-
 returns : tie.Need-returns
 returns c =
     λ x h.
     let e : c .before .args .m - c .before .args .w * 64 ≡ 0 = omega arith in
     and-zero-r x ∙ rw e (omega arith)
 
-mul-n : tie.Need-mul-n
-mul-n c = search needs
-
-sub-n : tie.Need-sub-n
-sub-n c = search needs
-
 returns-2 : tie.Need-returns-2
 returns-2 c = λ x h. and-mask x 64 ∙ mod-eq-of-lt h ∙ sym (mod-eq-of-lt (lt-of-lt-of-le h (pow-mono {i = 64} (c .if2 .taken))))
-
-shl-result : tie.Need-shl-result
-shl-result c = search needs
 
 sub-result : tie.Need-sub-result
 sub-result c =
@@ -43,4 +31,4 @@ returns-3 c =
 
 pub mask-spec : {M : Type 1} → statement M
 mask-spec =
-    tie.close (tie.spec mul-if1 returns mul-n sub-n returns-2 shl-result sub-result returns-3)
+    tie.close (tie.spec (λ c. search needs) returns (λ c. search needs) (λ c. search needs) returns-2 (λ c. search needs) sub-result returns-3)

@@ -11,44 +11,8 @@ use borrow.Author.Needs.{needs}
 use Rattle.operand.proofs.words.put_last.Statement.{statement}
 use Rattle.operand.proofs.words.put_last.Tie as tie
 
-mul-s : tie.Need-mul-s
-mul-s c = search needs
-
 returns : tie.Need-returns
 returns c = stored-by (c .before .before .pre .1) _ _ (λ i p q. (p, omega arith))
-
-sub-low : tie.Need-sub-low
-sub-low c = search needs
-
-mul-low : tie.Need-mul-low
-mul-low c = search needs
-
-array-read-low : tie.Need-array-read-low
-array-read-low c = search needs
-
-mul-high : tie.Need-mul-high
-mul-high c = search needs
-
-array-read-high : tie.Need-array-read-high
-array-read-high c = search needs
-
-shr-put-whole : tie.Need-shr-put-whole
-shr-put-whole c = search needs
-
-sub-put-whole : tie.Need-sub-put-whole
-sub-put-whole c = search needs
-
-shl-put-whole : tie.Need-shl-put-whole
-shl-put-whole c = search needs
-
-sub-put-whole-2 : tie.Need-sub-put-whole-2
-sub-put-whole-2 c = search needs
-
-put-whole-requires : tie.Need-put-whole-requires
-put-whole-requires c κs = search needs
-
-same-length : tie.Need-same-length
-same-length c = search needs
 
 returns-2 : tie.Need-returns-2
 returns-2 c =
@@ -63,18 +27,18 @@ pub put-last-spec : {M : Type 1} → statement M
 put-last-spec =
     tie.close
     (tie.spec
-    mul-s
+    (λ c. search needs)
     returns
-    sub-low
-    mul-low
-    array-read-low
-    mul-high
-    array-read-high
-    shr-put-whole
-    sub-put-whole
-    shl-put-whole
-    sub-put-whole-2
-    put-whole-requires
-    same-length
+    (λ c. search needs)
+    (λ c. search needs)
+    (λ c. search needs)
+    (λ c. search needs)
+    (λ c. search needs)
+    (λ c. search needs)
+    (λ c. search needs)
+    (λ c. search needs)
+    (λ c. search needs)
+    (λ c κs. search needs)
+    (λ c. search needs)
     returns-2
     returns-3)

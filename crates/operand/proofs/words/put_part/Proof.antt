@@ -22,9 +22,6 @@ byte-of-requires c κs = omega (arith, c .before .loop .inv .1 .size)
 slice-write-out : tie.Need-slice-write-out Inv-loop μ-loop
 slice-write-out c = omega arith
 
-add-j : tie.Need-add-j Inv-loop μ-loop
-add-j c = search needs
-
 loop-less : tie.Need-loop-less Inv-loop μ-loop
 loop-less c = omega (arith, c .before .before .loop .inv .1 .size)
 
@@ -48,7 +45,7 @@ put-part-spec =
     loop-holds
     byte-of-requires
     slice-write-out
-    add-j
+    (λ c. search needs)
     loop-less
     loop-again
     same-length

@@ -8,31 +8,13 @@ use borrow.Author.Needs.{needs}
 use Rattle.operand.proofs.words.store.Statement.{statement}
 use Rattle.operand.proofs.words.store.Tie as tie
 
-array-read-word : tie.Need-array-read-word
-array-read-word c = search needs
-
-put-part-requires : tie.Need-put-part-requires
-put-part-requires c κs = search needs
-
-put-words-requires : tie.Need-put-words-requires
-put-words-requires c κs = search needs
-
 put-last-requires : tie.Need-put-last-requires
 put-last-requires c κs =
     let w = c .before .before .before .put-words in
     (omega (arith, w .kept .1), stored-by (w .ensures) _ _ (λ i p q. (p, omega (arith, w .kept .1))))
 
-clear-rest-requires : tie.Need-clear-rest-requires
-clear-rest-requires c κs = search needs
-
-same-length : tie.Need-same-length
-same-length c = search needs
-
 returns : tie.Need-returns
 returns c = part-pack _ (c .before .before .put-part .ensures) (c .before .before .before .before .if1 .taken)
-
-same-length-2 : tie.Need-same-length-2
-same-length-2 c = search needs
 
 returns-2 : tie.Need-returns-2
 returns-2 c =
@@ -47,12 +29,12 @@ pub store-spec : {M : Type 1} → statement M
 store-spec =
     tie.close
     (tie.spec
-    array-read-word
-    put-part-requires
-    put-words-requires
+    (λ c. search needs)
+    (λ c κs. search needs)
+    (λ c κs. search needs)
     put-last-requires
-    clear-rest-requires
-    same-length
+    (λ c κs. search needs)
+    (λ c. search needs)
     returns
-    same-length-2
+    (λ c. search needs)
     returns-2)

@@ -6,17 +6,8 @@ use borrow.Author.Needs.{needs}
 use Rattle.operand.proofs.words.word_at.Statement.{statement}
 use Rattle.operand.proofs.words.word_at.Tie as tie
 
-mul-result : tie.Need-mul-result
-mul-result c = search needs
-
-array-read-result : tie.Need-array-read-result
-array-read-result c = search needs
-
-returns : tie.Need-returns
-returns c = search needs
-
 returns-2 : tie.Need-returns-2
 returns-2 c = sym (List·getD-eq-default (c .before .args .t1) 0 {n = c .before .args .w} (omega arith))
 
 pub word-at-spec : {M : Type 1} → statement M
-word-at-spec = tie.close (tie.spec mul-result array-read-result returns returns-2)
+word-at-spec = tie.close (tie.spec (λ c. search needs) (λ c. search needs) (λ c. search needs) returns-2)

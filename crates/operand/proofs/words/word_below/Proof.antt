@@ -7,9 +7,6 @@ use borrow.Author.Needs.{needs}
 use Rattle.operand.proofs.words.word_below.Statement.{statement}
 use Rattle.operand.proofs.words.word_below.Tie as tie
 
-word-at-requires : tie.Need-word-at-requires
-word-at-requires c κs = search needs
-
 returns : tie.Need-returns
 returns c =
     let a = c .before .before .args in
@@ -21,4 +18,4 @@ returns-2 c =
     sym (raised-out (a .n) (λ v. getD (a .x) v 0) (a .w) (omega arith))
 
 pub word-below-spec : {M : Type 1} → statement M
-word-below-spec = tie.close (tie.spec word-at-requires returns returns-2)
+word-below-spec = tie.close (tie.spec (λ c κs. search needs) returns returns-2)

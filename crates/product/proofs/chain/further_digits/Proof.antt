@@ -20,9 +20,6 @@ loop-holds c = omega arith
 add-found : tie.Need-add-found Inv-loop μ-loop
 add-found c = omega (arith, log2-half (c .before .loop .rest) (c .loop-test .taken), log2-le (c .before .before .args .n))
 
-loop-less : tie.Need-loop-less Inv-loop μ-loop
-loop-less c = search needs
-
 loop-again : tie.Need-loop-again Inv-loop μ-loop
 loop-again c = omega (arith, log2-half (c .before .loop .rest) (c .loop-test .taken))
 
@@ -31,4 +28,4 @@ returns c = omega (arith, log2-small (c .before .loop .rest) (omega arith))
 
 pub further-digits-spec : {M : Type 1} → statement M
 further-digits-spec =
-    tie.close (tie.spec Inv-loop μ-loop loop-holds add-found loop-less loop-again returns)
+    tie.close (tie.spec Inv-loop μ-loop loop-holds add-found (λ c. search needs) loop-again returns)

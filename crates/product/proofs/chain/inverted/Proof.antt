@@ -6,12 +6,6 @@ use borrow.Author.Needs.{needs}
 use Rattle.product.proofs.chain.inverted.Statement.{statement}
 use Rattle.product.proofs.chain.inverted.Tie as tie
 
-last-requires : tie.Need-last-requires
-last-requires c κs = search needs
-
-turn-requires : tie.Need-turn-requires
-turn-requires c κs = search needs
-
 returns : tie.Need-returns
 returns c =
     let s = c .before .before .before .before .before in
@@ -19,4 +13,4 @@ returns c =
     ap₂ (λ v n. record { fault = None; value = v; count = n }) (last-turned (s .args .table .now) (s .pre .1) e (c .before .turn .ensures)) (last-count (s .args .table .now) (s .pre .1) e)
 
 pub inverted-spec : {M : Type 1} → statement M
-inverted-spec = tie.close (tie.spec last-requires turn-requires returns)
+inverted-spec = tie.close (tie.spec (λ c κs. search needs) (λ c κs. search needs) returns)

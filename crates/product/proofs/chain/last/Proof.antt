@@ -12,9 +12,6 @@ use Rattle.product.proofs.chain.last.Tie as tie
 sub-further-digits : tie.Need-sub-further-digits
 sub-further-digits c = omega (arith, c .before .pre .0 .least)
 
-further-digits-requires : tie.Need-further-digits-requires
-further-digits-requires c κs = search needs
-
 double-requires : tie.Need-double-requires
 double-requires c κs =
     let s = c .before .before in
@@ -28,4 +25,4 @@ returns c =
 
 pub last-spec : {M : Type 1} → statement M
 last-spec =
-    tie.close (tie.spec sub-further-digits further-digits-requires double-requires returns)
+    tie.close (tie.spec sub-further-digits (λ c κs. search needs) double-requires returns)

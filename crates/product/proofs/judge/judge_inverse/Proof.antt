@@ -4,42 +4,6 @@ use borrow.Author.Needs.{needs}
 use Rattle.product.proofs.judge.judge_inverse.Statement.{statement}
 use Rattle.product.proofs.judge.judge_inverse.Tie as tie
 
-cast-m : tie.Need-cast-m
-cast-m c = search needs
-
-judge-width-requires : tie.Need-judge-width-requires
-judge-width-requires c κs = search needs
-
-judge-width-requires-2 : tie.Need-judge-width-requires-2
-judge-width-requires-2 c κs = search needs
-
-or-else-requires : tie.Need-or-else-requires
-or-else-requires c κs = search needs
-
-judge-shape-requires : tie.Need-judge-shape-requires
-judge-shape-requires c κs = search needs
-
-judge-operand-requires : tie.Need-judge-operand-requires
-judge-operand-requires c κs = search needs
-
-or-else-requires-2 : tie.Need-or-else-requires-2
-or-else-requires-2 c κs = search needs
-
-judge-zero-requires : tie.Need-judge-zero-requires
-judge-zero-requires c κs = search needs
-
-or-else-requires-3 : tie.Need-or-else-requires-3
-or-else-requires-3 c κs = search needs
-
-judge-length-requires : tie.Need-judge-length-requires
-judge-length-requires c κs = search needs
-
-or-else-requires-4 : tie.Need-or-else-requires-4
-or-else-requires-4 c κs = search needs
-
-or-else-requires-5 : tie.Need-or-else-requires-5
-or-else-requires-5 c κs = search needs
-
 returns : tie.Need-returns
 returns c =
     rw (
@@ -61,16 +25,16 @@ pub judge-inverse-spec : {M : Type 1} → statement M
 judge-inverse-spec =
     tie.close
     (tie.spec
-    cast-m
-    judge-width-requires
-    judge-width-requires-2
-    or-else-requires
-    judge-shape-requires
-    judge-operand-requires
-    or-else-requires-2
-    judge-zero-requires
-    or-else-requires-3
-    judge-length-requires
-    or-else-requires-4
-    or-else-requires-5
+    (λ c. search needs)
+    (λ c κs. search needs)
+    (λ c κs. search needs)
+    (λ c κs. search needs)
+    (λ c κs. search needs)
+    (λ c κs. search needs)
+    (λ c κs. search needs)
+    (λ c κs. search needs)
+    (λ c κs. search needs)
+    (λ c κs. search needs)
+    (λ c κs. search needs)
+    (λ c κs. search needs)
     returns)

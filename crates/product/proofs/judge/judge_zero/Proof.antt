@@ -12,12 +12,6 @@ use borrow.Author.Needs.{needs}
 use Rattle.product.proofs.judge.judge_zero.Statement.{statement}
 use Rattle.product.proofs.judge.judge_zero.Tie as tie
 
-judge-high-requires : tie.Need-judge-high-requires
-judge-high-requires c κs = search needs
-
-is-none-requires : tie.Need-is-none-requires
-is-none-requires c κs = search needs
-
 returns : tie.Need-returns
 returns c =
     let a = c .before .before .before .before .args .a in
@@ -33,4 +27,4 @@ returns-2 c =
     sym (zero-fault a size (λ k. small k .fits) false (judged (c .before .before .judge-high .ensures) (c .before .is-none .ensures) (c .if1 .left)))
 
 pub judge-zero-spec : {M : Type 1} → statement M
-judge-zero-spec = tie.close (tie.spec judge-high-requires is-none-requires returns returns-2)
+judge-zero-spec = tie.close (tie.spec (λ c κs. search needs) (λ c κs. search needs) returns returns-2)

@@ -15,40 +15,13 @@ Inv-loop width table both from count x y g₀ xx yy k₀ g k = (k ≤ count) × 
 abbrev μ-loop : tie.MeasureT-loop
 μ-loop width table both from count x y g₀ xx yy k₀ g k = count - k
 
-twice-requires : tie.Need-twice-requires Inv-loop μ-loop
-twice-requires c κs = search needs
-
-twice-requires-2 : tie.Need-twice-requires-2 Inv-loop μ-loop
-twice-requires-2 c κs = search needs
-
 loop-holds : tie.Need-loop-holds Inv-loop μ-loop
 loop-holds c = (omega arith, rows-none _ _ _ _ _ _ _, refl)
-
-add-met : tie.Need-add-met Inv-loop μ-loop
-add-met c = search needs
-
-slice-aggregate-met : tie.Need-slice-aggregate-met Inv-loop μ-loop
-slice-aggregate-met c = search needs
-
-slice-aggregate-met-2 : tie.Need-slice-aggregate-met-2 Inv-loop μ-loop
-slice-aggregate-met-2 c = search needs
-
-met-requires : tie.Need-met-requires Inv-loop μ-loop
-met-requires c κs = search needs
-
-add-add-line : tie.Need-add-add-line Inv-loop μ-loop
-add-add-line c = search needs
 
 add-line-requires : tie.Need-add-line-requires Inv-loop μ-loop
 add-line-requires c κs =
     let s = c .before .before .before .before .before .before .before .before .before .before in
     (s .pre .0, omega (arith, c .before .before .before .before .loop-test .taken, s .pre .3), c .before .before .before .before .before .loop .inv .2 ∙ s .pre .4)
-
-add-k : tie.Need-add-k Inv-loop μ-loop
-add-k c = search needs
-
-loop-less : tie.Need-loop-less Inv-loop μ-loop
-loop-less c = search needs
 
 loop-again : tie.Need-loop-again Inv-loop μ-loop
 loop-again c =
@@ -77,17 +50,17 @@ add-rows-spec =
     (tie.spec
     Inv-loop
     μ-loop
-    twice-requires
-    twice-requires-2
+    (λ c κs. search needs)
+    (λ c κs. search needs)
     loop-holds
-    add-met
-    slice-aggregate-met
-    slice-aggregate-met-2
-    met-requires
-    add-add-line
+    (λ c. search needs)
+    (λ c. search needs)
+    (λ c. search needs)
+    (λ c κs. search needs)
+    (λ c. search needs)
     add-line-requires
-    add-k
-    loop-less
+    (λ c. search needs)
+    (λ c. search needs)
     loop-again
     same-length
     returns)

@@ -10,35 +10,17 @@ use borrow.Author.Needs.{needs}
 use Rattle.product.proofs.kernel.met.Statement.{statement}
 use Rattle.product.proofs.kernel.met.Tie as tie
 
-window-requires : tie.Need-window-requires
-window-requires c κs = search needs
-
-masked-requires : tie.Need-masked-requires
-masked-requires c κs = search needs
-
 returns : tie.Need-returns
 returns c =
     let a = c .before .before .before .before .before .args in
     masked-window carriedWords (a .d) (a .x) (a .yy .now) (c .before .before .window .ensures) (c .before .masked .ensures)
     ∙ met-once carriedWords (isOneWay (a .both) (a .m) (a .d)) _ _ (plain-way (a .both) (a .m) (a .d) (c .if1 .taken))
 
-mul-if2 : tie.Need-mul-if2
-mul-if2 c = search needs
-
 returns-2 : tie.Need-returns-2
 returns-2 c =
     let a = c .before .before .before .before .before .before .args in
     masked-window carriedWords (a .d) (a .x) (a .yy .now) (c .before .before .before .window .ensures) (c .before .before .masked .ensures)
     ∙ met-once carriedWords (isOneWay (a .both) (a .m) (a .d)) _ _ (reduced-way (a .both) (a .m) (a .d) (c .before .if1 .left) ∙ eq-eqb (2 * a .d) (a .m) (omega arith))
-
-window-requires-2 : tie.Need-window-requires-2
-window-requires-2 c κs = search needs
-
-masked-requires-2 : tie.Need-masked-requires-2
-masked-requires-2 c κs = search needs
-
-xored-words-requires : tie.Need-xored-words-requires
-xored-words-requires c κs = search needs
 
 returns-3 : tie.Need-returns-3
 returns-3 c =
@@ -51,12 +33,12 @@ pub met-spec : {M : Type 1} → statement M
 met-spec =
     tie.close
     (tie.spec
-    window-requires
-    masked-requires
+    (λ c κs. search needs)
+    (λ c κs. search needs)
     returns
-    mul-if2
+    (λ c. search needs)
     returns-2
-    window-requires-2
-    masked-requires-2
-    xored-words-requires
+    (λ c κs. search needs)
+    (λ c κs. search needs)
+    (λ c κs. search needs)
     returns-3)

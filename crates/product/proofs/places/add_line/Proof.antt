@@ -11,9 +11,6 @@ use borrow.Author.Needs.{needs}
 use Rattle.product.proofs.places.add_line.Statement.{statement}
 use Rattle.product.proofs.places.add_line.Tie as tie
 
-bytes-for-requires : tie.Need-bytes-for-requires
-bytes-for-requires c κs = search needs
-
 mul-from : tie.Need-mul-from
 mul-from c =
     let a = c .before .before .before in
@@ -24,28 +21,10 @@ add-carried c =
     let a = c .before .before .before in
     rw (c .bytes-for .ensures) (omega (arith, row-within (a .args .width) (a .args .d) (a .args .table .now) (a .pre .0 .isTable .size) (a .pre .1)))
 
-sub-carried : tie.Need-sub-carried
-sub-carried c = search needs
-
-part-carried-start : tie.Need-part-carried-start
-part-carried-start c = search needs
-
 part-carried-end : tie.Need-part-carried-end
 part-carried-end c =
     let a = c .before .before .before in
     rw (c .bytes-for .ensures) (omega (arith, row-within (a .args .width) (a .args .d) (a .args .table .now) (a .pre .0 .isTable .size) (a .pre .1)))
-
-carried-requires : tie.Need-carried-requires
-carried-requires c κs = search needs
-
-to-words-requires : tie.Need-to-words-requires
-to-words-requires c κs = search needs
-
-add-row-requires : tie.Need-add-row-requires
-add-row-requires c κs = search needs
-
-same-length : tie.Need-same-length
-same-length c = search needs
 
 returns : tie.Need-returns
 unfolding row
@@ -61,14 +40,14 @@ pub add-line-spec : {M : Type 1} → statement M
 add-line-spec =
     tie.close
     (tie.spec
-    bytes-for-requires
+    (λ c κs. search needs)
     mul-from
     add-carried
-    sub-carried
-    part-carried-start
+    (λ c. search needs)
+    (λ c. search needs)
     part-carried-end
-    carried-requires
-    to-words-requires
-    add-row-requires
-    same-length
+    (λ c κs. search needs)
+    (λ c κs. search needs)
+    (λ c κs. search needs)
+    (λ c. search needs)
     returns)

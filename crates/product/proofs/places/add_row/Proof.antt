@@ -21,23 +21,8 @@ abbrev μ-loop : tie.MeasureT-loop
 loop-holds : tie.Need-loop-holds Inv-loop μ-loop
 loop-holds c = (omega arith, row-none _ _ _, refl)
 
-mul-word : tie.Need-mul-word Inv-loop μ-loop
-mul-word c = search needs
-
-array-read-word : tie.Need-array-read-word Inv-loop μ-loop
-array-read-word c = search needs
-
-mul-add-word : tie.Need-mul-add-word Inv-loop μ-loop
-mul-add-word c = search needs
-
 add-word-requires : tie.Need-add-word-requires Inv-loop μ-loop
 add-word-requires c κs = (c .before .before .loop .inv .2 ∙ c .before .before .before .before .pre, omega arith)
-
-add-w : tie.Need-add-w Inv-loop μ-loop
-add-w c = search needs
-
-loop-less : tie.Need-loop-less Inv-loop μ-loop
-loop-less c = search needs
 
 loop-again : tie.Need-loop-again Inv-loop μ-loop
 loop-again c =
@@ -62,12 +47,12 @@ add-row-spec =
     Inv-loop
     μ-loop
     loop-holds
-    mul-word
-    array-read-word
-    mul-add-word
+    (λ c. search needs)
+    (λ c. search needs)
+    (λ c. search needs)
     add-word-requires
-    add-w
-    loop-less
+    (λ c. search needs)
+    (λ c. search needs)
     loop-again
     same-length
     returns)

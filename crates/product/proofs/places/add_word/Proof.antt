@@ -35,9 +35,6 @@ add-at-requires c κs =
     let s = c .before .before .before .before in
     (l .inv .2 ∙ s .pre .0, omega (arith, lowest-next 64 (l .rest) (l .inv .0) (c .before .loop-test .taken)))
 
-sub-rest : tie.Need-sub-rest Inv-loop μ-loop
-sub-rest c = search needs
-
 loop-less : tie.Need-loop-less Inv-loop μ-loop
 loop-less c =
     let l = c .before .before .before .before .before .loop in
@@ -69,7 +66,7 @@ add-word-spec =
     cast-zeros
     add-add-at
     add-at-requires
-    sub-rest
+    (λ c. search needs)
     loop-less
     loop-again
     same-length

@@ -9,19 +9,10 @@ use borrow.Author.Needs.{needs}
 use Rattle.product.proofs.places.below_width.Statement.{statement}
 use Rattle.product.proofs.places.below_width.Tie as tie
 
-low-words-requires : tie.Need-low-words-requires
-low-words-requires c κs = search needs
-
-to-bytes-requires : tie.Need-to-bytes-requires
-to-bytes-requires c κs = search needs
-
-cast-t5 : tie.Need-cast-t5
-cast-t5 c = search needs
-
 returns : tie.Need-returns
 unfolding fromCoords
 returns c =
     ap (carried (c .before .before .args .width)) (c .to-bytes .ensures ∙ ap (λ z. pack carriedBytes (wordCoord z)) (c .before .low-words .ensures) ∙ bytes-words _)
 
 pub below-width-spec : {M : Type 1} → statement M
-below-width-spec = tie.close (tie.spec low-words-requires to-bytes-requires cast-t5 returns)
+below-width-spec = tie.close (tie.spec (λ c κs. search needs) (λ c κs. search needs) (λ c. search needs) returns)

@@ -17,47 +17,11 @@ Inv-loop g s q from out₀ w₀ out w = Plus g s q out₀ w out
 abbrev μ-loop : tie.MeasureT-loop
 μ-loop g s q from out₀ w₀ out w = carriedWords - w
 
-mul-from : tie.Need-mul-from Inv-loop μ-loop
-mul-from c = search needs
-
 loop-holds : tie.Need-loop-holds Inv-loop μ-loop
 loop-holds c =
     let x = c .args .x in
     let small : (k : ℕ) → Fits w64 (getD x k 0) = λ k. search needs in
     plus-none _ _ _ (λ k. small k .fits)
-
-add-out : tie.Need-add-out Inv-loop μ-loop
-add-out c = search needs
-
-mul-out : tie.Need-mul-out Inv-loop μ-loop
-mul-out c = search needs
-
-array-read-out : tie.Need-array-read-out Inv-loop μ-loop
-array-read-out c = search needs
-
-add-out-2 : tie.Need-add-out-2 Inv-loop μ-loop
-add-out-2 c = search needs
-
-mul-out-2 : tie.Need-mul-out-2 Inv-loop μ-loop
-mul-out-2 c = search needs
-
-shared-slice-read-out : tie.Need-shared-slice-read-out Inv-loop μ-loop
-shared-slice-read-out c = search needs
-
-add-out-3 : tie.Need-add-out-3 Inv-loop μ-loop
-add-out-3 c = search needs
-
-mul-out-3 : tie.Need-mul-out-3 Inv-loop μ-loop
-mul-out-3 c = search needs
-
-array-write-out : tie.Need-array-write-out Inv-loop μ-loop
-array-write-out c = search needs
-
-add-w : tie.Need-add-w Inv-loop μ-loop
-add-w c = search needs
-
-loop-less : tie.Need-loop-less Inv-loop μ-loop
-loop-less c = search needs
 
 loop-again : tie.Need-loop-again Inv-loop μ-loop
 loop-again c = plus-more _ _ _ _ (c .before .before .loop .inv) (omega arith) (omega arith) (c .shared-slice-known .given _ .fits)
@@ -73,18 +37,18 @@ plus-at-spec =
     (tie.spec
     Inv-loop
     μ-loop
-    mul-from
+    (λ c. search needs)
     loop-holds
-    add-out
-    mul-out
-    array-read-out
-    add-out-2
-    mul-out-2
-    shared-slice-read-out
-    add-out-3
-    mul-out-3
-    array-write-out
-    add-w
-    loop-less
+    (λ c. search needs)
+    (λ c. search needs)
+    (λ c. search needs)
+    (λ c. search needs)
+    (λ c. search needs)
+    (λ c. search needs)
+    (λ c. search needs)
+    (λ c. search needs)
+    (λ c. search needs)
+    (λ c. search needs)
+    (λ c. search needs)
     loop-again
     returns)

@@ -25,21 +25,6 @@ loop-holds c =
     let size : length x ≡ twiceWords = search needs in
     (omega arith, column-none _ _ twiceWords size (λ k. small k .fits))
 
-mul-plus-at : tie.Need-mul-plus-at Inv-loop μ-loop
-mul-plus-at c = search needs
-
-add-plus-at : tie.Need-add-plus-at Inv-loop μ-loop
-add-plus-at c = search needs
-
-plus-at-requires : tie.Need-plus-at-requires Inv-loop μ-loop
-plus-at-requires c κs = search needs
-
-add-q : tie.Need-add-q Inv-loop μ-loop
-add-q c = search needs
-
-loop-less : tie.Need-loop-less Inv-loop μ-loop
-loop-less c = search needs
-
 loop-again : tie.Need-loop-again Inv-loop μ-loop
 loop-again c =
     let l = c .before .before .loop in
@@ -59,10 +44,10 @@ plus-column-spec =
     Inv-loop
     μ-loop
     loop-holds
-    mul-plus-at
-    add-plus-at
-    plus-at-requires
-    add-q
-    loop-less
+    (λ c. search needs)
+    (λ c. search needs)
+    (λ c κs. search needs)
+    (λ c. search needs)
+    (λ c. search needs)
     loop-again
     returns)

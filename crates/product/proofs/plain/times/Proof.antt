@@ -11,22 +11,10 @@ use borrow.Author.Needs.{needs}
 use Rattle.product.proofs.plain.times.Statement.{statement}
 use Rattle.product.proofs.plain.times.Tie as tie
 
-to-words-requires : tie.Need-to-words-requires
-to-words-requires c κs = search needs
-
-to-words-requires-2 : tie.Need-to-words-requires-2
-to-words-requires-2 c κs = search needs
-
-slice-aggregate-add-rows : tie.Need-slice-aggregate-add-rows
-slice-aggregate-add-rows c = search needs
-
 add-rows-requires : tie.Need-add-rows-requires
 add-rows-requires c κs =
     let s = c .before .before .before .before .before .before in
     (s .pre .0, words-clear (s .pre .1) (c .before .before .to-words .ensures), words-clear (s .pre .2) (c .before .to-words2 .ensures), omega arith, refl)
-
-slice-aggregate-gathered : tie.Need-slice-aggregate-gathered
-slice-aggregate-gathered c = search needs
 
 gathered-requires : tie.Need-gathered-requires
 gathered-requires c κs =
@@ -46,10 +34,10 @@ pub times-spec : {M : Type 1} → statement M
 times-spec =
     tie.close
     (tie.spec
-    to-words-requires
-    to-words-requires-2
-    slice-aggregate-add-rows
+    (λ c κs. search needs)
+    (λ c κs. search needs)
+    (λ c. search needs)
     add-rows-requires
-    slice-aggregate-gathered
+    (λ c. search needs)
     gathered-requires
     returns)

@@ -12,32 +12,11 @@ use borrow.Author.Needs.{needs}
 use Rattle.product.proofs.reduced.times_reduced.Statement.{statement}
 use Rattle.product.proofs.reduced.times_reduced.Tie as tie
 
-to-words-requires : tie.Need-to-words-requires
-to-words-requires c κs = search needs
-
-to-words-requires-2 : tie.Need-to-words-requires-2
-to-words-requires-2 c κs = search needs
-
-slice-aggregate-add-rows : tie.Need-slice-aggregate-add-rows
-slice-aggregate-add-rows c = search needs
-
 add-rows-requires : tie.Need-add-rows-requires
 add-rows-requires c κs =
     let s = c .before .before .before .before .before .before in
     let two = s .pre .0 .least in
     (s .pre .0, words-clear (s .pre .2) (c .before .before .to-words .ensures), words-clear (s .pre .3) (c .before .to-words2 .ensures), omega arith, refl)
-
-masked-requires : tie.Need-masked-requires
-masked-requires c κs = search needs
-
-to-bytes-requires : tie.Need-to-bytes-requires
-to-bytes-requires c κs = search needs
-
-square-requires : tie.Need-square-requires
-square-requires c κs = search needs
-
-slice-aggregate-gathered : tie.Need-slice-aggregate-gathered
-slice-aggregate-gathered c = search needs
 
 gathered-requires : tie.Need-gathered-requires
 gathered-requires c κs =
@@ -48,9 +27,6 @@ gathered-requires c κs =
       rows .size,
       rows-within true (s .args .width) (s .args .table .now) _ _ 1 _ (places * carriedWords) rows (s .pre .0) (words-clear (s .pre .2) (c .before .before .before .before .before .before .before .before .to-words .ensures)) (words-clear (s .pre .3) (c .before .before .before .before .before .before .before .to-words2 .ensures)) (omega arith),
     )
-
-sum-requires : tie.Need-sum-requires
-sum-requires c κs = search needs
 
 returns : tie.Need-returns
 returns c =
@@ -66,14 +42,14 @@ pub times-reduced-spec : {M : Type 1} → statement M
 times-reduced-spec =
     tie.close
     (tie.spec
-    to-words-requires
-    to-words-requires-2
-    slice-aggregate-add-rows
+    (λ c κs. search needs)
+    (λ c κs. search needs)
+    (λ c. search needs)
     add-rows-requires
-    masked-requires
-    to-bytes-requires
-    square-requires
-    slice-aggregate-gathered
+    (λ c κs. search needs)
+    (λ c κs. search needs)
+    (λ c κs. search needs)
+    (λ c. search needs)
     gathered-requires
-    sum-requires
+    (λ c κs. search needs)
     returns)

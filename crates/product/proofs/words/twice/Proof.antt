@@ -25,33 +25,6 @@ abbrev μ-loop : tie.MeasureT-loop
 loop-holds : tie.Need-loop-holds Inv-loop μ-loop
 loop-holds c = filled-none twiceWords _ _
 
-add-word-below : tie.Need-add-word-below Inv-loop μ-loop
-add-word-below c = search needs
-
-word-below-requires : tie.Need-word-below-requires Inv-loop μ-loop
-word-below-requires c κs = search needs
-
-word-below-requires-2 : tie.Need-word-below-requires-2 Inv-loop μ-loop
-word-below-requires-2 c κs = search needs
-
-word-at-requires : tie.Need-word-at-requires Inv-loop μ-loop
-word-at-requires c κs = search needs
-
-raise-pair-requires : tie.Need-raise-pair-requires Inv-loop μ-loop
-raise-pair-requires c κs = search needs
-
-mul-out : tie.Need-mul-out Inv-loop μ-loop
-mul-out c = search needs
-
-array-write-out : tie.Need-array-write-out Inv-loop μ-loop
-array-write-out c = search needs
-
-add-w : tie.Need-add-w Inv-loop μ-loop
-add-w c = search needs
-
-loop-less : tie.Need-loop-less Inv-loop μ-loop
-loop-less c = search needs
-
 loop-again : tie.Need-loop-again Inv-loop μ-loop
 loop-again c =
     let m = c .before .before .before .before .before .before .args .m in
@@ -72,14 +45,14 @@ twice-spec =
     Inv-loop
     μ-loop
     loop-holds
-    add-word-below
-    word-below-requires
-    word-below-requires-2
-    word-at-requires
-    raise-pair-requires
-    mul-out
-    array-write-out
-    add-w
-    loop-less
+    (λ c. search needs)
+    (λ c κs. search needs)
+    (λ c κs. search needs)
+    (λ c κs. search needs)
+    (λ c κs. search needs)
+    (λ c. search needs)
+    (λ c. search needs)
+    (λ c. search needs)
+    (λ c. search needs)
     loop-again
     returns)

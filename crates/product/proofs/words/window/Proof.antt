@@ -25,9 +25,6 @@ loop-holds c = filled-none carriedWords _ _
 add-low : tie.Need-add-low Inv-loop μ-loop
 add-low c = omega arith
 
-mul-low : tie.Need-mul-low Inv-loop μ-loop
-mul-low c = search needs
-
 shared-slice-read-low : tie.Need-shared-slice-read-low Inv-loop μ-loop
 shared-slice-read-low c = omega arith
 
@@ -37,26 +34,8 @@ add-high c = omega arith
 add-high-2 : tie.Need-add-high-2 Inv-loop μ-loop
 add-high-2 c = omega arith
 
-mul-high : tie.Need-mul-high Inv-loop μ-loop
-mul-high c = search needs
-
 shared-slice-read-high : tie.Need-shared-slice-read-high Inv-loop μ-loop
 shared-slice-read-high c = omega arith
-
-lower-pair-requires : tie.Need-lower-pair-requires Inv-loop μ-loop
-lower-pair-requires c κs = search needs
-
-mul-out : tie.Need-mul-out Inv-loop μ-loop
-mul-out c = search needs
-
-array-write-out : tie.Need-array-write-out Inv-loop μ-loop
-array-write-out c = search needs
-
-add-w : tie.Need-add-w Inv-loop μ-loop
-add-w c = search needs
-
-loop-less : tie.Need-loop-less Inv-loop μ-loop
-loop-less c = search needs
 
 loop-again : tie.Need-loop-again Inv-loop μ-loop
 loop-again c = filled-more (c .before .before .before .before .loop .inv) (omega arith) (omega arith) (c .lower-pair .ensures)
@@ -76,16 +55,16 @@ window-spec =
     μ-loop
     loop-holds
     add-low
-    mul-low
+    (λ c. search needs)
     shared-slice-read-low
     add-high
     add-high-2
-    mul-high
+    (λ c. search needs)
     shared-slice-read-high
-    lower-pair-requires
-    mul-out
-    array-write-out
-    add-w
-    loop-less
+    (λ c κs. search needs)
+    (λ c. search needs)
+    (λ c. search needs)
+    (λ c. search needs)
+    (λ c. search needs)
     loop-again
     returns)

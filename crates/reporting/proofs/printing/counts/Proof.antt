@@ -4,12 +4,9 @@ use borrow.Author.Needs.{needs}
 use Rattle.reporting.proofs.printing.counts.Statement.{statement}
 use Rattle.reporting.proofs.printing.counts.Tie as tie
 
-append-pair-requires : tie.Need-append-pair-requires
-append-pair-requires c κs = search needs
-
 returns : tie.Need-returns
 unfolding countsLine
 returns c = c .append-pair .ensures
 
 pub counts-spec : {M : Type 1} → statement M
-counts-spec = tie.close (tie.spec append-pair-requires returns)
+counts-spec = tie.close (tie.spec (λ c κs. search needs) returns)

@@ -12,9 +12,6 @@ use borrow.Author.Needs.{needs}
 use Rattle.reporting.proofs.printing.front_report.Statement.{statement}
 use Rattle.reporting.proofs.printing.front_report.Tie as tie
 
-bytes-for-requires : tie.Need-bytes-for-requires
-bytes-for-requires c κs = search needs
-
 mul-size : tie.Need-mul-size
 mul-size c =
     let a = c .before .before .args in
@@ -37,7 +34,7 @@ pub front-report-spec : {M : Type 1} → statement M
 front-report-spec =
     tie.close
     (tie.spec
-    bytes-for-requires
+    (λ c κs. search needs)
     mul-size
     slice-aggregate-table-report
     table-report-requires

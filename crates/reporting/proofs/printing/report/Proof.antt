@@ -10,39 +10,15 @@ use borrow.Author.Needs.{needs}
 use Rattle.reporting.proofs.printing.report.Statement.{statement}
 use Rattle.reporting.proofs.printing.report.Tie as tie
 
-empty-requires : tie.Need-empty-requires
-empty-requires c κs = search needs
-
-refused-requires : tie.Need-refused-requires
-refused-requires c κs = search needs
-
 returns : tie.Need-returns
 returns c =
     let s = c .before .before .before .before .args .card .now in
     let text = c .refused .ensures ∙ ap (λ t. appended t (refusal Length)) (c .before .empty .ensures) in
     whole s (λ b. c .before .before .before .shared-slice-known .given b .fits) text (long-report s (c .before .before .if1 .taken))
 
-slice-aggregate-read : tie.Need-slice-aggregate-read
-slice-aggregate-read c = search needs
-
-read-requires : tie.Need-read-requires
-read-requires c κs = search needs
-
-is-none-requires : tie.Need-is-none-requires
-is-none-requires c κs = search needs
-
-slice-aggregate-front-report : tie.Need-slice-aggregate-front-report
-slice-aggregate-front-report c = search needs
-
 front-report-requires : tie.Need-front-report-requires
 front-report-requires c κs =
     table-read _ (c .before .before .before .before .before .before .if1 .left) (λ b. c .before .before .before .before .before .before .before .shared-slice-known .given b .fits) (c .before .before .before .before .read .ensures .0) (c .before .before .before .before .read .ensures .1) (sym (c .before .before .is-none .ensures) ∙ c .before .if2 .taken) .inFront
-
-empty-requires-2 : tie.Need-empty-requires-2
-empty-requires-2 c κs = search needs
-
-refused-requires-2 : tie.Need-refused-requires-2
-refused-requires-2 c κs = search needs
 
 returns-2 : tie.Need-returns-2
 returns-2 c =
@@ -61,15 +37,15 @@ pub report-spec : {M : Type 1} → statement M
 report-spec =
     tie.close
     (tie.spec
-    empty-requires
-    refused-requires
+    (λ c κs. search needs)
+    (λ c κs. search needs)
     returns
-    slice-aggregate-read
-    read-requires
-    is-none-requires
-    slice-aggregate-front-report
+    (λ c. search needs)
+    (λ c κs. search needs)
+    (λ c κs. search needs)
+    (λ c. search needs)
     front-report-requires
-    empty-requires-2
-    refused-requires-2
+    (λ c κs. search needs)
+    (λ c κs. search needs)
     returns-2
     returns-3)

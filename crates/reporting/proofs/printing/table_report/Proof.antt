@@ -11,36 +11,6 @@ use borrow.Author.Needs.{needs}
 use Rattle.reporting.proofs.printing.table_report.Statement.{statement}
 use Rattle.reporting.proofs.printing.table_report.Tie as tie
 
-ones-requires : tie.Need-ones-requires
-ones-requires c κs = search needs
-
-empty-requires : tie.Need-empty-requires
-empty-requires c κs = search needs
-
-slice-aggregate-append-line : tie.Need-slice-aggregate-append-line
-slice-aggregate-append-line c = search needs
-
-append-line-requires : tie.Need-append-line-requires
-append-line-requires c κs = search needs
-
-slice-aggregate-append-line-2 : tie.Need-slice-aggregate-append-line-2
-slice-aggregate-append-line-2 c = search needs
-
-append-line-requires-2 : tie.Need-append-line-requires-2
-append-line-requires-2 c κs = search needs
-
-check-requires : tie.Need-check-requires
-check-requires c κs = search needs
-
-is-none-requires : tie.Need-is-none-requires
-is-none-requires c κs = search needs
-
-accepted-requires : tie.Need-accepted-requires
-accepted-requires c κs = search needs
-
-refused-requires : tie.Need-refused-requires
-refused-requires c κs = search needs
-
 returns : tie.Need-returns
 returns c =
     let start = c .before .before .before .before .before .before .before .before .before .before .before in
@@ -65,15 +35,15 @@ pub table-report-spec : {M : Type 1} → statement M
 table-report-spec =
     tie.close
     (tie.spec
-    ones-requires
-    empty-requires
-    slice-aggregate-append-line
-    append-line-requires
-    slice-aggregate-append-line-2
-    append-line-requires-2
-    check-requires
-    is-none-requires
-    accepted-requires
-    refused-requires
+    (λ c κs. search needs)
+    (λ c κs. search needs)
+    (λ c. search needs)
+    (λ c κs. search needs)
+    (λ c. search needs)
+    (λ c κs. search needs)
+    (λ c κs. search needs)
+    (λ c κs. search needs)
+    (λ c κs. search needs)
+    (λ c κs. search needs)
     returns
     returns-2)

@@ -19,12 +19,6 @@ abbrev μ-loop : tie.MeasureT-loop
 loop-holds : tie.Need-loop-holds Inv-loop μ-loop
 loop-holds c = (omega arith, counted-none _)
 
-shared-slice-read-byte-ones : tie.Need-shared-slice-read-byte-ones Inv-loop μ-loop
-shared-slice-read-byte-ones c = search needs
-
-byte-ones-requires : tie.Need-byte-ones-requires Inv-loop μ-loop
-byte-ones-requires c κs = search needs
-
 add-total : tie.Need-add-total Inv-loop μ-loop
 add-total c =
     let s = c .before .before .before in
@@ -32,12 +26,6 @@ add-total c =
     let few = s .loop .inv .1 .most in
     let byte = bits-most (getD t (s .loop .b) 0) in
     rw (c .byte-ones .ensures) (omega arith)
-
-add-b : tie.Need-add-b Inv-loop μ-loop
-add-b c = search needs
-
-loop-less : tie.Need-loop-less Inv-loop μ-loop
-loop-less c = search needs
 
 loop-again : tie.Need-loop-again Inv-loop μ-loop
 loop-again c = let s = c .before .before .before in (omega arith, counted-more (s .loop .inv .1) (c .byte-ones .ensures))
@@ -56,10 +44,10 @@ count-spec =
     Inv-loop
     μ-loop
     loop-holds
-    shared-slice-read-byte-ones
-    byte-ones-requires
+    (λ c. search needs)
+    (λ c κs. search needs)
     add-total
-    add-b
-    loop-less
+    (λ c. search needs)
+    (λ c. search needs)
     loop-again
     returns)

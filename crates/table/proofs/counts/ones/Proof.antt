@@ -13,12 +13,6 @@ use borrow.Author.Needs.{needs}
 use Rattle.table.proofs.counts.ones.Statement.{statement}
 use Rattle.table.proofs.counts.ones.Tie as tie
 
-judge-shape-requires : tie.Need-judge-shape-requires
-judge-shape-requires c κs = search needs
-
-is-none-requires : tie.Need-is-none-requires
-is-none-requires c κs = search needs
-
 -- what is judged when the shape has no fault
 none : (c : tie.Then1) → isNone (shapeFault (c .before .before .before .before .args .width) (c .before .before .before .before .args .table .now)) ≡ true
 none c = judged (c .before .before .judge-shape .ensures) (c .before .is-none .ensures) (c .if1 .taken)
@@ -41,4 +35,4 @@ returns-2 c =
 
 pub ones-spec : {M : Type 1} → statement M
 ones-spec =
-    tie.close (tie.spec judge-shape-requires is-none-requires count-requires returns returns-2)
+    tie.close (tie.spec (λ c κs. search needs) (λ c κs. search needs) count-requires returns returns-2)

@@ -13,15 +13,6 @@ use borrow.Author.Needs.{needs}
 use Rattle.table.proofs.first.acts_twice.Statement.{statement}
 use Rattle.table.proofs.first.acts_twice.Tie as tie
 
-sub-wrapped : tie.Need-sub-wrapped
-sub-wrapped c = search needs
-
-add-wrapped : tie.Need-add-wrapped
-add-wrapped c = search needs
-
-wrapped-requires : tie.Need-wrapped-requires
-wrapped-requires c κs = search needs
-
 -- the row before row j
 before : (c : tie.After-wrapped) → c .wrapped .result < c .before .before .args .width
 before c = rw (c .wrapped .ensures) (mod-lt _ (omega (arith, c .before .before .pre .0 .least)))
@@ -37,9 +28,6 @@ row-bytes-requires-2 c κs = let p = c .before .before .before .before .pre in (
 
 times-first-requires : tie.Need-times-first-requires
 times-first-requires c κs = let p = c .before .before .before .before .before .pre in (p .0, rw (c .row-bytes2 .ensures) (row-operand (p .0) _ (p .2)))
-
-same-bytes-requires : tie.Need-same-bytes-requires
-same-bytes-requires c κs = search needs
 
 returns : tie.Need-returns
 unfolding associates
@@ -59,12 +47,12 @@ pub acts-twice-spec : {M : Type 1} → statement M
 acts-twice-spec =
     tie.close
     (tie.spec
-    sub-wrapped
-    add-wrapped
-    wrapped-requires
+    (λ c. search needs)
+    (λ c. search needs)
+    (λ c κs. search needs)
     row-bytes-requires
     turned-requires
     row-bytes-requires-2
     times-first-requires
-    same-bytes-requires
+    (λ c κs. search needs)
     returns)

@@ -26,12 +26,6 @@ acts-twice-requires c κs = let p = c .before .before .before .pre in (p .0, p .
 returns : tie.Need-returns Inv-loop μ-loop
 returns c = sym (every-not _ _ _ (c .before .before .loop-test .taken) (sym (c .before .acts-twice .ensures) ∙ not-true _ (c .if1 .taken)))
 
-add-j : tie.Need-add-j Inv-loop μ-loop
-add-j c = search needs
-
-loop-less : tie.Need-loop-less Inv-loop μ-loop
-loop-less c = search needs
-
 loop-again : tie.Need-loop-again Inv-loop μ-loop
 loop-again c = (omega (arith, c .before .before .loop-test .taken), every-more _ _ (c .before .before .before .loop .inv .1) (sym (c .before .acts-twice .ensures) ∙ not-false _ (c .if1 .left)))
 
@@ -51,7 +45,7 @@ all-act-twice-spec =
     loop-holds
     acts-twice-requires
     returns
-    add-j
-    loop-less
+    (λ c. search needs)
+    (λ c. search needs)
     loop-again
     returns-2)

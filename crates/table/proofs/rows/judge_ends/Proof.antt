@@ -22,9 +22,6 @@ returns c =
     let s = c .before .before in
     sym (rows-done _ _ (every-of (s .args .width) _ (λ d l. clear-whole _ _ (row-length _ d _ (s .pre .1) l) (c .if1 .taken))))
 
-bytes-for-requires : tie.Need-bytes-for-requires Inv-loop μ-loop
-bytes-for-requires c κs = search needs
-
 loop-holds : tie.Need-loop-holds Inv-loop μ-loop
 loop-holds c = (omega arith, ored-none _)
 
@@ -44,12 +41,6 @@ add-all c = omega (arith, within c)
 shared-slice-read-all : tie.Need-shared-slice-read-all Inv-loop μ-loop
 shared-slice-read-all c = within (c .before)
 
-add-d : tie.Need-add-d Inv-loop μ-loop
-add-d c = search needs
-
-loop-less : tie.Need-loop-less Inv-loop μ-loop
-loop-less c = search needs
-
 loop-again : tie.Need-loop-again Inv-loop μ-loop
 loop-again c =
     let l = c .before .before in
@@ -62,12 +53,6 @@ whole c =
     let a = c .before .before .before .before .before .args in
     let e : c .before .loop .d ≡ a .width = omega arith in
     c .before .loop .inv .1 ∙ ap (λ n. ored n (lastByte (a .width) (a .table .now))) e
-
-cast-if2 : tie.Need-cast-if2 Inv-loop μ-loop
-cast-if2 c = search needs
-
-shr-if2 : tie.Need-shr-if2 Inv-loop μ-loop
-shr-if2 c = search needs
 
 returns-2 : tie.Need-returns-2 Inv-loop μ-loop
 returns-2 c =
@@ -87,15 +72,15 @@ judge-ends-spec =
     Inv-loop
     μ-loop
     returns
-    bytes-for-requires
+    (λ c κs. search needs)
     loop-holds
     mul-all
     add-all
     shared-slice-read-all
-    add-d
-    loop-less
+    (λ c. search needs)
+    (λ c. search needs)
     loop-again
-    cast-if2
-    shr-if2
+    (λ c. search needs)
+    (λ c. search needs)
     returns-2
     returns-3)

@@ -9,12 +9,6 @@ use borrow.Author.Needs.{needs}
 use Rattle.table.proofs.rows.judge_shape.Statement.{statement}
 use Rattle.table.proofs.rows.judge_shape.Tie as tie
 
-judge-size-requires : tie.Need-judge-size-requires
-judge-size-requires c κs = search needs
-
-is-none-requires : tie.Need-is-none-requires
-is-none-requires c κs = search needs
-
 -- what is judged when the size has no fault
 fine : (c : tie.Else1) → Sized (c .before .before .before .before .args .width) (length (c .before .before .before .before .args .table .now))
 fine c = size-fine _ _ (judged (c .before .before .judge-size .ensures) (c .before .is-none .ensures) (not-false _ (c .if1 .left)))
@@ -35,4 +29,4 @@ returns-2 c = c .judge-ends .ensures ∙ sym (first-three _ _ _ ∙ or-second _ 
 pub judge-shape-spec : {M : Type 1} → statement M
 judge-shape-spec =
     tie.close
-    (tie.spec judge-size-requires is-none-requires returns judge-ends-requires returns-2)
+    (tie.spec (λ c κs. search needs) (λ c κs. search needs) returns judge-ends-requires returns-2)

@@ -7,23 +7,11 @@ use borrow.Author.Needs.{needs}
 use Rattle.table.proofs.rows.judge_size.Statement.{statement}
 use Rattle.table.proofs.rows.judge_size.Tie as tie
 
-judge-width-requires : tie.Need-judge-width-requires
-judge-width-requires c κs = search needs
-
-is-none-requires : tie.Need-is-none-requires
-is-none-requires c κs = search needs
-
-bytes-for-requires : tie.Need-bytes-for-requires
-bytes-for-requires c κs = search needs
-
 mul-judge-length : tie.Need-mul-judge-length
 mul-judge-length c =
     let s = c .before .before in
     let w = width-fine _ (judged (s .before .judge-width .ensures) (s .is-none .ensures) (c .before .if1 .taken)) in
     rw (c .bytes-for .ensures) (omega (arith, size-small _ (w .1)))
-
-judge-length-requires : tie.Need-judge-length-requires
-judge-length-requires c κs = search needs
 
 returns : tie.Need-returns
 returns c =
@@ -40,10 +28,10 @@ pub judge-size-spec : {M : Type 1} → statement M
 judge-size-spec =
     tie.close
     (tie.spec
-    judge-width-requires
-    is-none-requires
-    bytes-for-requires
+    (λ c κs. search needs)
+    (λ c κs. search needs)
+    (λ c κs. search needs)
     mul-judge-length
-    judge-length-requires
+    (λ c κs. search needs)
     returns
     returns-2)

@@ -6,11 +6,8 @@ use Rattle.table.proofs.rows.row_at.Tie as tie
 row-bytes-requires : tie.Need-row-bytes-requires
 row-bytes-requires c κs = let s = c .before .pre .0 in (s .greatest, s .isTable .size, c .before .pre .1)
 
-cast-t5 : tie.Need-cast-t5
-cast-t5 c = search needs
-
 returns : tie.Need-returns
 returns c = rw (c .row-bytes .ensures)
 
 pub row-at-spec : {M : Type 1} → statement M
-row-at-spec = tie.close (tie.spec row-bytes-requires cast-t5 returns)
+row-at-spec = tie.close (tie.spec row-bytes-requires (λ c. search needs) returns)

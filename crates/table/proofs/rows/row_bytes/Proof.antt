@@ -9,9 +9,6 @@ use borrow.Author.Needs.{needs}
 use Rattle.table.proofs.rows.row_bytes.Statement.{statement}
 use Rattle.table.proofs.rows.row_bytes.Tie as tie
 
-bytes-for-requires : tie.Need-bytes-for-requires
-bytes-for-requires c κs = search needs
-
 mul-from : tie.Need-mul-from
 mul-from c =
     let a = c .before .before in
@@ -22,19 +19,10 @@ add-carried c =
     let a = c .before .before in
     rw (c .bytes-for .ensures) (omega (arith, row-within (a .args .width) (a .args .d) (a .args .table .now) (a .pre .1) (a .pre .2)))
 
-sub-carried : tie.Need-sub-carried
-sub-carried c = search needs
-
-part-carried-start : tie.Need-part-carried-start
-part-carried-start c = search needs
-
 part-carried-end : tie.Need-part-carried-end
 part-carried-end c =
     let a = c .before .before in
     rw (c .bytes-for .ensures) (omega (arith, row-within (a .args .width) (a .args .d) (a .args .table .now) (a .pre .1) (a .pre .2)))
-
-carried-requires : tie.Need-carried-requires
-carried-requires c κs = search needs
 
 returns : tie.Need-returns
 unfolding row
@@ -47,11 +35,11 @@ pub row-bytes-spec : {M : Type 1} → statement M
 row-bytes-spec =
     tie.close
     (tie.spec
-    bytes-for-requires
+    (λ c κs. search needs)
     mul-from
     add-carried
-    sub-carried
-    part-carried-start
+    (λ c. search needs)
+    (λ c. search needs)
     part-carried-end
-    carried-requires
+    (λ c κs. search needs)
     returns)

@@ -10,12 +10,6 @@ use Rattle.table.proofs.sums.plus_row.Tie as tie
 row-bytes-requires : tie.Need-row-bytes-requires
 row-bytes-requires c κs = let p = c .before .pre in (p .0 .greatest, p .0 .isTable .size, p .1)
 
-to-words-requires : tie.Need-to-words-requires
-to-words-requires c κs = search needs
-
-xored-words-requires : tie.Need-xored-words-requires
-xored-words-requires c κs = search needs
-
 returns : tie.Need-returns
 returns c =
     let p = c .before .before .before .before in
@@ -24,4 +18,4 @@ returns c =
 
 pub plus-row-spec : {M : Type 1} → statement M
 plus-row-spec =
-    tie.close (tie.spec row-bytes-requires to-words-requires xored-words-requires returns)
+    tie.close (tie.spec row-bytes-requires (λ c κs. search needs) (λ c κs. search needs) returns)

@@ -43,9 +43,6 @@ add-plus-row c = omega (arith, within c, c .before .before .before .pre .0 .grea
 plus-row-requires : tie.Need-plus-row-requires Inv-loop μ-loop
 plus-row-requires c κs = (c .before .before .before .pre .0, within c)
 
-sub-rest : tie.Need-sub-rest Inv-loop μ-loop
-sub-rest c = search needs
-
 loop-less : tie.Need-loop-less Inv-loop μ-loop
 loop-less c = let l = c .before .before .loop in lowest-less 64 (l .rest) (l .inv .0) (c .before .loop-test .taken)
 
@@ -73,7 +70,7 @@ plus-rows-spec =
     cast-zeros
     add-plus-row
     plus-row-requires
-    sub-rest
+    (λ c. search needs)
     loop-less
     loop-again
     returns)

@@ -16,35 +16,14 @@ Inv-loop width table words total₀ w₀ total w = (w ≤ carriedWords) × (tota
 abbrev μ-loop : tie.MeasureT-loop
 μ-loop width table words total₀ w₀ total w = carriedWords - w
 
-to-words-requires : tie.Need-to-words-requires Inv-loop μ-loop
-to-words-requires c κs = search needs
-
 loop-holds : tie.Need-loop-holds Inv-loop μ-loop
 loop-holds c = (omega arith, words-none _ _ _)
-
-mul-word : tie.Need-mul-word Inv-loop μ-loop
-mul-word c = search needs
-
-array-read-word : tie.Need-array-read-word Inv-loop μ-loop
-array-read-word c = search needs
-
-mul-plus-rows : tie.Need-mul-plus-rows Inv-loop μ-loop
-mul-plus-rows c = search needs
 
 plus-rows-requires : tie.Need-plus-rows-requires Inv-loop μ-loop
 plus-rows-requires c κs = let p = c .before .before .before .before .pre in (p .0, word-within (p .0) (p .1) (c .before .before .to-words .ensures) _)
 
-add-w : tie.Need-add-w Inv-loop μ-loop
-add-w c = search needs
-
-loop-less : tie.Need-loop-less Inv-loop μ-loop
-loop-less c = search needs
-
 loop-again : tie.Need-loop-again Inv-loop μ-loop
 loop-again c = (omega arith, c .plus-rows .ensures ∙ words-more _ _ _ _ (c .before .before .loop .inv .1))
-
-to-bytes-requires : tie.Need-to-bytes-requires Inv-loop μ-loop
-to-bytes-requires c κs = search needs
 
 returns : tie.Need-returns Inv-loop μ-loop
 returns c =
@@ -59,14 +38,14 @@ times-first-spec =
     (tie.spec
     Inv-loop
     μ-loop
-    to-words-requires
+    (λ c κs. search needs)
     loop-holds
-    mul-word
-    array-read-word
-    mul-plus-rows
+    (λ c. search needs)
+    (λ c. search needs)
+    (λ c. search needs)
     plus-rows-requires
-    add-w
-    loop-less
+    (λ c. search needs)
+    (λ c. search needs)
     loop-again
-    to-bytes-requires
+    (λ c κs. search needs)
     returns)

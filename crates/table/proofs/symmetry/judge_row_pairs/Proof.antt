@@ -32,12 +32,6 @@ returns c =
     let e = when-fails _ (RowPair (s .loop .d)) (sym (c .before .mirrored .ensures) ∙ not-true _ (c .if1 .taken)) in
     sym (s .loop .inv .1 ∙ first-hit _ _ _ (omega (arith, s .before .before .pre .least, c .before .before .loop-test .taken)) (ap isNone e) ∙ e)
 
-add-d : tie.Need-add-d Inv-loop μ-loop
-add-d c = search needs
-
-loop-less : tie.Need-loop-less Inv-loop μ-loop
-loop-less c = search needs
-
 loop-again : tie.Need-loop-again Inv-loop μ-loop
 loop-again c =
     let s = c .before .before .before in
@@ -62,7 +56,7 @@ judge-row-pairs-spec =
     loop-holds
     mirrored-requires
     returns
-    add-d
-    loop-less
+    (λ c. search needs)
+    (λ c. search needs)
     loop-again
     returns-2)

@@ -12,12 +12,6 @@ use borrow.Author.Needs.{needs}
 use Rattle.table.proofs.symmetry.judge_symmetry.Statement.{statement}
 use Rattle.table.proofs.symmetry.judge_symmetry.Tie as tie
 
-judge-shape-requires : tie.Need-judge-shape-requires
-judge-shape-requires c κs = search needs
-
-is-none-requires : tie.Need-is-none-requires
-is-none-requires c κs = search needs
-
 -- what is judged when the shape has no fault
 none : (c : tie.Else1) → isNone (shapeFault (c .before .before .before .before .args .width) (c .before .before .before .before .args .table .now)) ≡ true
 none c = judged (c .before .before .judge-shape .ensures) (c .before .is-none .ensures) (not-false _ (c .if1 .left))
@@ -34,9 +28,6 @@ returns c =
 
 judge-row-zero-requires : tie.Need-judge-row-zero-requires
 judge-row-zero-requires c κs = shaped c
-
-is-none-requires-2 : tie.Need-is-none-requires-2
-is-none-requires-2 c κs = search needs
 
 returns-2 : tie.Need-returns-2
 unfolding symmetryFault
@@ -59,11 +50,11 @@ pub judge-symmetry-spec : {M : Type 1} → statement M
 judge-symmetry-spec =
     tie.close
     (tie.spec
-    judge-shape-requires
-    is-none-requires
+    (λ c κs. search needs)
+    (λ c κs. search needs)
     returns
     judge-row-zero-requires
-    is-none-requires-2
+    (λ c κs. search needs)
     returns-2
     judge-row-pairs-requires
     returns-3)

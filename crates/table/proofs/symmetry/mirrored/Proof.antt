@@ -16,17 +16,11 @@ use Rattle.table.proofs.symmetry.mirrored.Tie as tie
 row-bytes-requires : tie.Need-row-bytes-requires
 row-bytes-requires c κs = let p = c .before .pre in (p .0 .greatest, p .0 .isTable .size, p .2)
 
-sub-row-bytes : tie.Need-sub-row-bytes
-sub-row-bytes c = search needs
-
 row-bytes-requires-2 : tie.Need-row-bytes-requires-2
 row-bytes-requires-2 c κs = let p = c .before .before .pre in (p .0 .greatest, p .0 .isTable .size, omega (arith, p .1, p .2))
 
 turned-requires : tie.Need-turned-requires
 turned-requires c κs = let p = c .before .before .before .pre in row-turns (p .0) _ (omega (arith, p .1, p .2)) (c .row-bytes2 .ensures) _ (p .2)
-
-same-bytes-requires : tie.Need-same-bytes-requires
-same-bytes-requires c κs = search needs
 
 returns : tie.Need-returns
 unfolding mirrors
@@ -47,8 +41,8 @@ mirrored-spec =
     tie.close
     (tie.spec
     row-bytes-requires
-    sub-row-bytes
+    (λ c. search needs)
     row-bytes-requires-2
     turned-requires
-    same-bytes-requires
+    (λ c κs. search needs)
     returns)

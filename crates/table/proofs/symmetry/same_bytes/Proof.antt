@@ -20,32 +20,8 @@ Inv-loop p q apart₀ w₀ done w = (w ≤ carriedWords) × (done ≡ ored w (ap
 abbrev μ-loop : tie.MeasureT-loop
 μ-loop p q apart₀ w₀ done w = carriedWords - w
 
-to-words-requires : tie.Need-to-words-requires Inv-loop μ-loop
-to-words-requires c κs = search needs
-
-to-words-requires-2 : tie.Need-to-words-requires-2 Inv-loop μ-loop
-to-words-requires-2 c κs = search needs
-
 loop-holds : tie.Need-loop-holds Inv-loop μ-loop
 loop-holds c = (omega arith, ored-none _)
-
-mul-apart : tie.Need-mul-apart Inv-loop μ-loop
-mul-apart c = search needs
-
-array-read-apart : tie.Need-array-read-apart Inv-loop μ-loop
-array-read-apart c = search needs
-
-mul-apart-2 : tie.Need-mul-apart-2 Inv-loop μ-loop
-mul-apart-2 c = search needs
-
-array-read-apart-2 : tie.Need-array-read-apart-2 Inv-loop μ-loop
-array-read-apart-2 c = search needs
-
-add-w : tie.Need-add-w Inv-loop μ-loop
-add-w c = search needs
-
-loop-less : tie.Need-loop-less Inv-loop μ-loop
-loop-less c = search needs
 
 loop-again : tie.Need-loop-again Inv-loop μ-loop
 loop-again c = (omega arith, ored-more _ _ _ (c .before .loop .inv .1))
@@ -70,14 +46,14 @@ same-bytes-spec =
     (tie.spec
     Inv-loop
     μ-loop
-    to-words-requires
-    to-words-requires-2
+    (λ c κs. search needs)
+    (λ c κs. search needs)
     loop-holds
-    mul-apart
-    array-read-apart
-    mul-apart-2
-    array-read-apart-2
-    add-w
-    loop-less
+    (λ c. search needs)
+    (λ c. search needs)
+    (λ c. search needs)
+    (λ c. search needs)
+    (λ c. search needs)
+    (λ c. search needs)
     loop-again
     returns)

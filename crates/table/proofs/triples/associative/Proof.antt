@@ -14,9 +14,6 @@ left-product-requires c κs = c .before .pre
 right-product-requires : tie.Need-right-product-requires
 right-product-requires c κs = let p = c .before .before .pre in (p .0, p .2, p .3)
 
-same-bytes-requires : tie.Need-same-bytes-requires
-same-bytes-requires c κs = search needs
-
 returns : tie.Need-returns
 unfolding associates
 returns c =
@@ -27,4 +24,4 @@ returns c =
 
 pub associative-spec : {M : Type 1} → statement M
 associative-spec =
-    tie.close (tie.spec left-product-requires right-product-requires same-bytes-requires returns)
+    tie.close (tie.spec left-product-requires right-product-requires (λ c κs. search needs) returns)

@@ -13,12 +13,6 @@ use borrow.Author.Needs.{needs}
 use Rattle.table.proofs.triples.check.Statement.{statement}
 use Rattle.table.proofs.triples.check.Tie as tie
 
-judge-symmetry-requires : tie.Need-judge-symmetry-requires
-judge-symmetry-requires c κs = search needs
-
-is-none-requires : tie.Need-is-none-requires
-is-none-requires c κs = search needs
-
 -- what is judged when 1 to 5 give no fault
 none : (c : tie.Else1) → isNone (symmetryFault (c .before .before .before .before .args .width) (c .before .before .before .before .args .table .now)) ≡ true
 none c = judged (c .before .before .judge-symmetry .ensures) (c .before .is-none .ensures) (not-false _ (c .if1 .left))
@@ -35,9 +29,6 @@ returns c =
 
 judge-triples-requires : tie.Need-judge-triples-requires
 judge-triples-requires c κs = symmetric c
-
-is-none-requires-2 : tie.Need-is-none-requires-2
-is-none-requires-2 c κs = search needs
 
 returns-2 : tie.Need-returns-2
 unfolding checkFault
@@ -60,11 +51,11 @@ pub check-spec : {M : Type 1} → statement M
 check-spec =
     tie.close
     (tie.spec
-    judge-symmetry-requires
-    is-none-requires
+    (λ c κs. search needs)
+    (λ c κs. search needs)
     returns
     judge-triples-requires
-    is-none-requires-2
+    (λ c κs. search needs)
     returns-2
     judge-row-sum-requires
     returns-3)

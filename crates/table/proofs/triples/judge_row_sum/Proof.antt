@@ -18,9 +18,6 @@ sum-of-rows-requires c κs = c .before .pre
 basis-bytes-requires : tie.Need-basis-bytes-requires
 basis-bytes-requires c κs = let s = c .before .before .before .pre in (omega arith, omega (arith, s .least), s .greatest)
 
-same-bytes-requires : tie.Need-same-bytes-requires
-same-bytes-requires c κs = search needs
-
 -- what the test of the carried bytes says of the table's
 tested : (c : tie.After-same-bytes) → let a = c .before .before .before .before .before .args in
     c .same-bytes .result ≡ same (rowSum (a .width) (a .table .now)) (basis (a .width) 0)
@@ -44,6 +41,6 @@ judge-row-sum-spec =
     (tie.spec
     sum-of-rows-requires
     basis-bytes-requires
-    same-bytes-requires
+    (λ c κs. search needs)
     returns
     returns-2)

@@ -14,9 +14,6 @@ returns c = let p = c .before .before .before .pre in sym (first-passes _ _ (p .
 search-triples-requires : tie.Need-search-triples-requires
 search-triples-requires c κs = c .before .before .before .pre
 
-returns-2 : tie.Need-returns-2
-returns-2 c = search needs
-
 pub judge-triples-spec : {M : Type 1} → statement M
 judge-triples-spec =
-    tie.close (tie.spec all-act-twice-requires returns search-triples-requires returns-2)
+    tie.close (tie.spec all-act-twice-requires returns search-triples-requires (λ c. search needs))

@@ -12,9 +12,6 @@ use borrow.Author.Needs.{needs}
 use Rattle.table.proofs.triples.left_product.Statement.{statement}
 use Rattle.table.proofs.triples.left_product.Tie as tie
 
-sub-wrapped : tie.Need-sub-wrapped
-sub-wrapped c = search needs
-
 wrapped-requires : tie.Need-wrapped-requires
 wrapped-requires c κs = let p = c .before .pre in omega (arith, p .0 .least)
 
@@ -58,7 +55,7 @@ pub left-product-spec : {M : Type 1} → statement M
 left-product-spec =
     tie.close
     (tie.spec
-    sub-wrapped
+    (λ c. search needs)
     wrapped-requires
     row-bytes-requires
     turned-requires

@@ -12,9 +12,6 @@ use borrow.Author.Needs.{needs}
 use Rattle.table.proofs.triples.right_product.Statement.{statement}
 use Rattle.table.proofs.triples.right_product.Tie as tie
 
-sub-wrapped : tie.Need-sub-wrapped
-sub-wrapped c = search needs
-
 add-wrapped : tie.Need-add-wrapped
 add-wrapped c = let p = c .before .pre in omega (arith, p .0 .greatest, p .2)
 
@@ -53,7 +50,7 @@ pub right-product-spec : {M : Type 1} → statement M
 right-product-spec =
     tie.close
     (tie.spec
-    sub-wrapped
+    (λ c. search needs)
     add-wrapped
     wrapped-requires
     row-bytes-requires

@@ -33,23 +33,11 @@ loop-holds c = (c .before .search .inv .0, first-start _ _)
 associative-requires : tie.Need-associative-requires Inv-loop μ-loop Inv-search μ-search
 associative-requires c κs = let s = c .before .before .before .before .before .pre in (s .0, s .1, c .before .before .search-test .taken, c .loop-test .taken)
 
-add-j : tie.Need-add-j Inv-loop μ-loop Inv-search μ-search
-add-j c = search needs
-
-loop-less : tie.Need-loop-less Inv-loop μ-loop Inv-search μ-search
-loop-less c = search needs
-
 loop-again : tie.Need-loop-again Inv-loop μ-loop Inv-search μ-search
 loop-again c =
     let l = c .before .before .before .loop in
     let e = when-passes _ (Triple (c .before .before .before .before .before .search .i) (l .j)) (sym (c .before .associative .ensures) ∙ not-false _ (c .if1 .left)) in
     (l .inv .0, l .inv .1 ∙ first-miss _ _ _ (c .before .before .loop-test .taken) (none-true e))
-
-add-i : tie.Need-add-i Inv-loop μ-loop Inv-search μ-search
-add-i c = search needs
-
-search-less : tie.Need-search-less Inv-loop μ-loop Inv-search μ-search
-search-less c = search needs
 
 search-again : tie.Need-search-again Inv-loop μ-loop Inv-search μ-search
 search-again c =
@@ -80,11 +68,11 @@ search-triples-spec =
     search-holds
     loop-holds
     associative-requires
-    add-j
-    loop-less
+    (λ c. search needs)
+    (λ c. search needs)
     loop-again
-    add-i
-    search-less
+    (λ c. search needs)
+    (λ c. search needs)
     search-again
     returns
     returns-2)

@@ -4,27 +4,6 @@ use borrow.Author.Needs.{needs}
 use Rattle.vectors.proofs.answers.changed_bit.Statement.{statement}
 use Rattle.vectors.proofs.answers.changed_bit.Tie as tie
 
-operand-requires : tie.Need-operand-requires
-operand-requires c κs = search needs
-
-operand-requires-2 : tie.Need-operand-requires-2
-operand-requires-2 c κs = search needs
-
-slice-aggregate-operand : tie.Need-slice-aggregate-operand
-slice-aggregate-operand c = search needs
-
-operand-requires-3 : tie.Need-operand-requires-3
-operand-requires-3 c κs = search needs
-
-sum-requires : tie.Need-sum-requires
-sum-requires c κs = search needs
-
-on-curve-requires : tie.Need-on-curve-requires
-on-curve-requires c κs = search needs
-
-bit-requires : tie.Need-bit-requires
-bit-requires c κs = search needs
-
 returns : tie.Need-returns
 unfolding changedBit
 returns c =
@@ -41,11 +20,11 @@ pub changed-bit-spec : {M : Type 1} → statement M
 changed-bit-spec =
     tie.close
     (tie.spec
-    operand-requires
-    operand-requires-2
-    slice-aggregate-operand
-    operand-requires-3
-    sum-requires
-    on-curve-requires
-    bit-requires
+    (λ c κs. search needs)
+    (λ c κs. search needs)
+    (λ c. search needs)
+    (λ c κs. search needs)
+    (λ c κs. search needs)
+    (λ c κs. search needs)
+    (λ c κs. search needs)
     returns)

@@ -4,18 +4,6 @@ use borrow.Author.Needs.{needs}
 use Rattle.vectors.proofs.answers.point_bit.Statement.{statement}
 use Rattle.vectors.proofs.answers.point_bit.Tie as tie
 
-operand-requires : tie.Need-operand-requires
-operand-requires c κs = search needs
-
-operand-requires-2 : tie.Need-operand-requires-2
-operand-requires-2 c κs = search needs
-
-on-curve-requires : tie.Need-on-curve-requires
-on-curve-requires c κs = search needs
-
-bit-requires : tie.Need-bit-requires
-bit-requires c κs = search needs
-
 returns : tie.Need-returns
 unfolding pointBit
 returns c =
@@ -25,8 +13,8 @@ pub point-bit-spec : {M : Type 1} → statement M
 point-bit-spec =
     tie.close
     (tie.spec
-    operand-requires
-    operand-requires-2
-    on-curve-requires
-    bit-requires
+    (λ c κs. search needs)
+    (λ c κs. search needs)
+    (λ c κs. search needs)
+    (λ c κs. search needs)
     returns)

@@ -4,33 +4,6 @@ use borrow.Author.Needs.{needs}
 use Rattle.vectors.proofs.answers.put_turns.Statement.{statement}
 use Rattle.vectors.proofs.answers.put_turns.Tie as tie
 
-one-requires : tie.Need-one-requires
-one-requires c κs = search needs
-
-sub-turn : tie.Need-sub-turn
-sub-turn c = search needs
-
-turn-requires : tie.Need-turn-requires
-turn-requires c κs = search needs
-
-turn-requires-2 : tie.Need-turn-requires-2
-turn-requires-2 c κs = search needs
-
-number-requires : tie.Need-number-requires
-number-requires c κs = search needs
-
-put-requires : tie.Need-put-requires
-put-requires c κs = search needs
-
-number-requires-2 : tie.Need-number-requires-2
-number-requires-2 c κs = search needs
-
-put-requires-2 : tie.Need-put-requires-2
-put-requires-2 c κs = search needs
-
-same-length : tie.Need-same-length
-same-length c = search needs
-
 returns : tie.Need-returns
 returns c =
     stored-as
@@ -41,13 +14,13 @@ pub put-turns-spec : {M : Type 1} → statement M
 put-turns-spec =
     tie.close
     (tie.spec
-    one-requires
-    sub-turn
-    turn-requires
-    turn-requires-2
-    number-requires
-    put-requires
-    number-requires-2
-    put-requires-2
-    same-length
+    (λ c κs. search needs)
+    (λ c. search needs)
+    (λ c κs. search needs)
+    (λ c κs. search needs)
+    (λ c κs. search needs)
+    (λ c κs. search needs)
+    (λ c κs. search needs)
+    (λ c κs. search needs)
+    (λ c. search needs)
     returns)

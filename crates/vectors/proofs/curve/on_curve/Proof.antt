@@ -8,21 +8,9 @@ use borrow.Author.Needs.{needs}
 use Rattle.vectors.proofs.curve.on_curve.Statement.{statement}
 use Rattle.vectors.proofs.curve.on_curve.Tie as tie
 
-left-side-requires : tie.Need-left-side-requires
-left-side-requires c κs = search needs
-
-right-side-requires : tie.Need-right-side-requires
-right-side-requires c κs = search needs
-
-is-none-requires : tie.Need-is-none-requires
-is-none-requires c κs = search needs
-
 returns : tie.Need-returns
 unfolding onCurve
 returns c = rw (judged (ap (λ a. a .fault) (c .before .before .before .left-side .ensures)) (c .before .is-none .ensures) (not-true _ (c .if1 .taken)))
-
-is-none-requires-2 : tie.Need-is-none-requires-2
-is-none-requires-2 c κs = search needs
 
 returns-2 : tie.Need-returns-2
 unfolding onCurve
@@ -31,9 +19,6 @@ returns-2 c =
       judged (ap (λ a. a .fault) (c .before .before .before .before .before .left-side .ensures)) (c .before .before .before .is-none .ensures) (not-false _ (c .before .before .if1 .left)),
       judged (ap (λ a. a .fault) (c .before .before .before .before .right-side .ensures)) (c .before .is-none2 .ensures) (not-true _ (c .if2 .taken)),
     )
-
-equal-requires : tie.Need-equal-requires
-equal-requires c κs = search needs
 
 returns-3 : tie.Need-returns-3
 unfolding onCurve
@@ -50,11 +35,11 @@ pub on-curve-spec : {M : Type 1} → statement M
 on-curve-spec =
     tie.close
     (tie.spec
-    left-side-requires
-    right-side-requires
-    is-none-requires
+    (λ c κs. search needs)
+    (λ c κs. search needs)
+    (λ c κs. search needs)
     returns
-    is-none-requires-2
+    (λ c κs. search needs)
     returns-2
-    equal-requires
+    (λ c κs. search needs)
     returns-3)

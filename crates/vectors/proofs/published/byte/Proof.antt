@@ -26,33 +26,12 @@ loop-holds : tie.Need-loop-holds Inv-loop μ-loop
 unfolding value sum
 loop-holds c = (omega arith, omega arith)
 
-mul-coordinate : tie.Need-mul-coordinate Inv-loop μ-loop
-mul-coordinate c = search needs
-
-add-coordinate : tie.Need-add-coordinate Inv-loop μ-loop
-add-coordinate c = search needs
-
-coordinate-requires : tie.Need-coordinate-requires Inv-loop μ-loop
-coordinate-requires c κs = search needs
-
-cast-out : tie.Need-cast-out Inv-loop μ-loop
-cast-out c = search needs
-
-shl-out : tie.Need-shl-out Inv-loop μ-loop
-shl-out c = search needs
-
 add-out : tie.Need-add-out Inv-loop μ-loop
 add-out c =
     let s = c .before .before .before .before .args in
     let w = c .before .before .loop in
     let b = byte-more (bits (s .width) (s .digits .now) (s .b)) (w .j) (w .out) (c .coordinate .result) (w .inv .1) (c .coordinate .ensures) (omega arith) in
     omega (arith, b .0, b .2)
-
-add-j : tie.Need-add-j Inv-loop μ-loop
-add-j c = search needs
-
-loop-less : tie.Need-loop-less Inv-loop μ-loop
-loop-less c = search needs
 
 loop-again : tie.Need-loop-again Inv-loop μ-loop
 loop-again c =
@@ -75,13 +54,13 @@ byte-spec =
     Inv-loop
     μ-loop
     loop-holds
-    mul-coordinate
-    add-coordinate
-    coordinate-requires
-    cast-out
-    shl-out
+    (λ c. search needs)
+    (λ c. search needs)
+    (λ c κs. search needs)
+    (λ c. search needs)
+    (λ c. search needs)
     add-out
-    add-j
-    loop-less
+    (λ c. search needs)
+    (λ c. search needs)
     loop-again
     returns)

@@ -11,15 +11,6 @@ returns c =
     let a = c .before .before .args in
     rw (below-out (a .width) (publishedCoord (a .width) (a .digits .now)) (a .i) (c .if1 .taken))
 
-sub-number-bit : tie.Need-sub-number-bit
-sub-number-bit c = search needs
-
-sub-number-bit-2 : tie.Need-sub-number-bit-2
-sub-number-bit-2 c = search needs
-
-number-bit-requires : tie.Need-number-bit-requires
-number-bit-requires c κs = search needs
-
 returns-2 : tie.Need-returns-2
 unfolding publishedCoord
 returns-2 c =
@@ -28,4 +19,4 @@ returns-2 c =
 
 pub coordinate-spec : {M : Type 1} → statement M
 coordinate-spec =
-    tie.close (tie.spec returns sub-number-bit sub-number-bit-2 number-bit-requires returns-2)
+    tie.close (tie.spec returns (λ c. search needs) (λ c. search needs) (λ c κs. search needs) returns-2)

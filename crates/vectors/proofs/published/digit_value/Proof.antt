@@ -4,9 +4,6 @@ use borrow.Author.Needs.{needs}
 use Rattle.vectors.proofs.published.digit_value.Statement.{statement}
 use Rattle.vectors.proofs.published.digit_value.Tie as tie
 
-sub-result : tie.Need-sub-result
-sub-result c = search needs
-
 returns : tie.Need-returns
 returns c = rw (lt-ltb _ _ (c .if1 .taken))
 
@@ -14,4 +11,4 @@ returns-2 : tie.Need-returns-2
 returns-2 c = rw (le-ltb _ _ (c .if1 .left))
 
 pub digit-value-spec : {M : Type 1} → statement M
-digit-value-spec = tie.close (tie.spec sub-result returns returns-2)
+digit-value-spec = tie.close (tie.spec (λ c. search needs) returns returns-2)

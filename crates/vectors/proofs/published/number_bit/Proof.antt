@@ -10,24 +10,6 @@ use Rattle.vectors.proofs.published.number_bit.Tie as tie
 returns : tie.Need-returns
 returns c = sym (digit-past _ _ (c .if1 .taken))
 
-sub-digit-value : tie.Need-sub-digit-value
-sub-digit-value c = search needs
-
-sub-digit-value-2 : tie.Need-sub-digit-value-2
-sub-digit-value-2 c = search needs
-
-shared-slice-read-digit-value : tie.Need-shared-slice-read-digit-value
-shared-slice-read-digit-value c = search needs
-
-digit-value-requires : tie.Need-digit-value-requires
-digit-value-requires c κs = search needs
-
-cast-result : tie.Need-cast-result
-cast-result c = search needs
-
-shr-result : tie.Need-shr-result
-shr-result c = search needs
-
 returns-2 : tie.Need-returns-2
 returns-2 c =
     let a = c .before .before .before .before .args in
@@ -38,10 +20,10 @@ number-bit-spec =
     tie.close
     (tie.spec
     returns
-    sub-digit-value
-    sub-digit-value-2
-    shared-slice-read-digit-value
-    digit-value-requires
-    cast-result
-    shr-result
+    (λ c. search needs)
+    (λ c. search needs)
+    (λ c. search needs)
+    (λ c κs. search needs)
+    (λ c. search needs)
+    (λ c. search needs)
     returns-2)

@@ -8,15 +8,6 @@ use borrow.Author.Needs.{needs}
 use Rattle.reporting.proofs.text.Text.append_line.Statement.{statement}
 use Rattle.reporting.proofs.text.Text.append_line.Tie as tie
 
-append-requires : tie.Need-append-requires
-append-requires c κs = search needs
-
-append-number-requires : tie.Need-append-number-requires
-append-number-requires c κs = search needs
-
-push-requires : tie.Need-push-requires
-push-requires c κs = search needs
-
 returns : tie.Need-returns
 returns c =
     let n = c .before .before .before .before .args .n in
@@ -24,4 +15,4 @@ returns c =
 
 pub append-line-spec : {M : Type 1} → statement M
 append-line-spec =
-    tie.close (tie.spec append-requires append-number-requires push-requires returns)
+    tie.close (tie.spec (λ c κs. search needs) (λ c κs. search needs) (λ c κs. search needs) returns)

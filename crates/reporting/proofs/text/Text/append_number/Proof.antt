@@ -5,21 +5,6 @@ use borrow.Author.Needs.{needs}
 use Rattle.reporting.proofs.text.Text.append_number.Statement.{statement}
 use Rattle.reporting.proofs.text.Text.append_number.Tie as tie
 
-decimal-requires : tie.Need-decimal-requires
-decimal-requires c κs = search needs
-
-push-requires : tie.Need-push-requires
-push-requires c κs = search needs
-
-array-share-prefix-digits : tie.Need-array-share-prefix-digits
-array-share-prefix-digits c = search needs
-
-slice-aggregate-append : tie.Need-slice-aggregate-append
-slice-aggregate-append c = search needs
-
-append-requires : tie.Need-append-requires
-append-requires c κs = search needs
-
 returns : tie.Need-returns
 returns c =
     let d = c .before .before .before .decimal in
@@ -29,9 +14,9 @@ pub append-number-spec : {M : Type 1} → statement M
 append-number-spec =
     tie.close
     (tie.spec
-    decimal-requires
-    push-requires
-    array-share-prefix-digits
-    slice-aggregate-append
-    append-requires
+    (λ c κs. search needs)
+    (λ c κs. search needs)
+    (λ c. search needs)
+    (λ c. search needs)
+    (λ c κs. search needs)
     returns)

@@ -8,18 +8,6 @@ use borrow.Author.Needs.{needs}
 use Rattle.reporting.proofs.text.Text.append_pair.Statement.{statement}
 use Rattle.reporting.proofs.text.Text.append_pair.Tie as tie
 
-append-requires : tie.Need-append-requires
-append-requires c κs = search needs
-
-append-number-requires : tie.Need-append-number-requires
-append-number-requires c κs = search needs
-
-append-number-requires-2 : tie.Need-append-number-requires-2
-append-number-requires-2 c κs = search needs
-
-push-requires : tie.Need-push-requires
-push-requires c κs = search needs
-
 returns : tie.Need-returns
 returns c =
     let a = c .before .before .before .before .before .args in
@@ -32,8 +20,8 @@ pub append-pair-spec : {M : Type 1} → statement M
 append-pair-spec =
     tie.close
     (tie.spec
-    append-requires
-    append-number-requires
-    append-number-requires-2
-    push-requires
+    (λ c κs. search needs)
+    (λ c κs. search needs)
+    (λ c κs. search needs)
+    (λ c κs. search needs)
     returns)
