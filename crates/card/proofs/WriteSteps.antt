@@ -20,8 +20,8 @@ use Rattle.gf2.specs.Operands.{maxWidth, carriedBytes, bytesFor}
 use Rattle.gf2.specs.Tables.{row}
 use Rattle.gf2.proofs.Coordinates.{coord-lt, coord-pack}
 use Rattle.gf2.proofs.TrailingZeros.{trailing-low, trailing-one, one-below}
-use Rattle.operand.specs.Words.{carriedWords, wordCoord, packWords}
-use Rattle.operand.proofs.WordCoords.{word-digit, word-pack}
+use Rattle.limbs.specs.Limbs.{carriedLimbs, limbCoord, packLimbs}
+use Rattle.limbs.proofs.LimbCoords.{limb-digit, limb-pack}
 use Rattle.operand.specs.declared.fault.Fault.{Fault}
 use Rattle.operand.specs.declared.fault.Fault.the-variants.{None, OutputShort}
 use Rattle.operand.specs.Faults.{isNone, when}
@@ -77,21 +77,21 @@ places-skip m f i (suc n) z = ap (λ k. places f k (m - k)) (omega arith) ∙ la
       | no h ↦ left-none m f (i + n + 1) (omega arith) ∙ sym (left-none m f (i + n) (omega arith))
     ]
 
--- what is left of the word that place i stands in
+-- what is left of the limb that place i stands in
 module _ (row : List ℕ) (i : ℕ) where
   abbrev pub leftOf : ℕ
   leftOf = getD row (i / 64) 0 / 2 ^ (i % 64)
 
-  left-bit : (j : ℕ) → i % 64 + j < 64 → leftOf / 2 ^ j % 2 ≡ wordCoord row (i + j)
+  left-bit : (j : ℕ) → i % 64 + j < 64 → leftOf / 2 ^ j % 2 ≡ limbCoord row (i + j)
   left-bit j l =
       let e : i / 64 * 64 + (i % 64 + j) ≡ i + j = omega arith in
-      ap (λ y. y % 2) (shr-shr (getD row (i / 64) 0) (i % 64) j) ∙ sym (word-digit row (i / 64) (i % 64 + j) l) ∙ ap (wordCoord row) e
+      ap (λ y. y % 2) (shr-shr (getD row (i / 64) 0) (i % 64) j) ∙ sym (limb-digit row (i / 64) (i % 64 + j) l) ∙ ap (limbCoord row) e
 
-  pub left-skip : (m : ℕ) → leftOf ≡ 0 → places (wordCoord row) ((i / 64 + 1) * 64) (m - (i / 64 + 1) * 64) ≡ places (wordCoord row) i (m - i)
+  pub left-skip : (m : ℕ) → leftOf ≡ 0 → places (limbCoord row) ((i / 64 + 1) * 64) (m - (i / 64 + 1) * 64) ≡ places (limbCoord row) i (m - i)
   left-skip m z =
       let e : (i / 64 + 1) * 64 ≡ i + (64 - i % 64) = omega arith in
-      ap (λ k. places (wordCoord row) k (m - k)) e
-      ∙ places-skip m (wordCoord row) i (64 - i % 64) (λ j l. sym (left-bit j (omega arith)) ∙ ap (λ y. y / 2 ^ j % 2) z ∙ ap (λ y. y % 2) (zero-div (2 ^ j)))
+      ap (λ k. places (limbCoord row) k (m - k)) e
+      ∙ places-skip m (limbCoord row) i (64 - i % 64) (λ j l. sym (left-bit j (omega arith)) ∙ ap (λ y. y / 2 ^ j % 2) z ∙ ap (λ y. y % 2) (zero-div (2 ^ j)))
 
   module _ (small : (w : ℕ) → getD row w 0 < 2 ^ 64) (some : leftOf ≡ 0 → ⊥) where
     abbrev pub zeros : ℕ
@@ -107,10 +107,10 @@ module _ (row : List ℕ) (i : ℕ) where
     pub zeros-lt : i % 64 + zeros < 64
     zeros-lt = one-below (getD row (i / 64) 0) 64 (i % 64 + zeros) (small (i / 64)) (sym (ap (λ y. y % 2) (shr-shr (getD row (i / 64) 0) (i % 64) zeros)) ∙ first-one)
 
-    pub begins-here : (m : ℕ) → Begins m (wordCoord row) i (i + zeros)
+    pub begins-here : (m : ℕ) → Begins m (limbCoord row) i (i + zeros)
     begins-here m = record {
       above = omega arith;
-      same = places-skip m (wordCoord row) i zeros (λ j l. sym (left-bit j (omega (arith, zeros-lt))) ∙ trailing-low 64 leftOf j l);
+      same = places-skip m (limbCoord row) i zeros (λ j l. sym (left-bit j (omega (arith, zeros-lt))) ∙ trailing-low 64 leftOf j l);
       isOne = λ l z. apart _ (sym (left-bit zeros zeros-lt) ∙ first-one) z;
     }
       where
@@ -191,9 +191,9 @@ places-ext f g start (suc count) e = go (e start (omega arith) (omega arith)) (p
     go : f start ≡ g start → places f (start + 1) count ≡ places g (start + 1) count → places f start (suc count) ≡ places g start (suc count)
     go here rest = unfold places in rw (here, rest)
 
-pub row-places : (m : ℕ) (x : List ℕ) → m ≤ maxWidth → {y words : List ℕ} → y ≡ pack carriedBytes (coord x) → words ≡ packWords carriedWords (coord y)
-    → places (wordCoord words) 0 m ≡ onesOf m x
-row-places m x h {y} p q = places-ext _ (coord x) 0 m (λ i a l. ap (λ s. wordCoord s i) q ∙ word-pack carriedWords (coord y) i (omega arith)
+pub row-places : (m : ℕ) (x : List ℕ) → m ≤ maxWidth → {y limbs : List ℕ} → y ≡ pack carriedBytes (coord x) → limbs ≡ packLimbs carriedLimbs (coord y)
+    → places (limbCoord limbs) 0 m ≡ onesOf m x
+row-places m x h {y} p q = places-ext _ (coord x) 0 m (λ i a l. ap (λ s. limbCoord s i) q ∙ limb-pack carriedLimbs (coord y) i (omega arith)
     ∙ ap (λ s. coord s i % 2) p ∙ ap (λ k. k % 2) (coord-pack carriedBytes (coord x) i (omega arith)) ∙ twice (coord x i) (coord-lt x i))
   where
     twice : (k : ℕ) → k < 2 → k % 2 % 2 ≡ k

@@ -5,7 +5,7 @@ ghost use lib.ListN.{length};
 ghost use lib.Seq.{sets};
 ghost use Rattle.gf2.specs.Operands.{maxWidth, bytesFor};
 ghost use Rattle.card.specs.Numbers.{number, numberLimit};
-ghost use Rattle.operand.specs.Words.{wordCoord};
+ghost use Rattle.limbs.specs.Limbs.{limbCoord};
 ghost use Rattle.card.specs.Rows.{places, steps, rowCard, rowsCard};
 ghost use Rattle.card.specs.Cards.{card, longest};
 ghost use Rattle.card.specs.Calls.{writeCall, writeCard};
@@ -28,10 +28,10 @@ fn put_number(out: &mut [u8], at: usize, n: usize) -> usize
     at + 2
 }
 
-// The first place from `from` on whose coordinate isn't 0, or one at the width or above. Words of zeros are passed over at once.
+// The first place from `from` on whose coordinate isn't 0, or one at the width or above. Limbs of zeros are passed over at once.
 fn next_place(row: &[u64], from: usize, width: usize) -> usize
     requires { ⌜ (from ≤ width) × (width ≤ maxWidth) × (width ≤ 64 * length (now row)) ⌝ }
-    ensures { λ r. ⌜ Begins width (wordCoord (now (row .entry))) from r ⌝ }
+    ensures { λ r. ⌜ Begins width (limbCoord (now (row .entry))) from r ⌝ }
 {
     let mut i = from;
     while i < width {
@@ -46,7 +46,7 @@ fn next_place(row: &[u64], from: usize, width: usize) -> usize
 
 fn ones(row: &[u64], width: usize) -> usize
     requires { ⌜ (width ≤ maxWidth) × (width ≤ 64 * length (now row)) ⌝ }
-    ensures { λ r. ⌜ r ≡ length (places (wordCoord (now (row .entry))) 0 width) ⌝ }
+    ensures { λ r. ⌜ r ≡ length (places (limbCoord (now (row .entry))) 0 width) ⌝ }
 {
     let mut n = 0;
     let mut i = next_place(row, 0, width);
@@ -58,8 +58,8 @@ fn ones(row: &[u64], width: usize) -> usize
 }
 
 fn put_places(out: &mut [u8], at: usize, row: &[u64], width: usize) -> usize
-    requires { ⌜ (width ≤ maxWidth) × (width ≤ 64 * length (now row)) × (at + length (steps 0 (places (wordCoord (now row)) 0 width)) ≤ longest maxWidth) ⌝ }
-    ensures { λ r. ⌜ (r ≡ at + length (steps 0 (places (wordCoord (now (row .entry))) 0 width))) × (now (out .exit) ≡ sets (now (out .entry)) at (steps 0 (places (wordCoord (now (row .entry))) 0 width))) ⌝ }
+    requires { ⌜ (width ≤ maxWidth) × (width ≤ 64 * length (now row)) × (at + length (steps 0 (places (limbCoord (now row)) 0 width)) ≤ longest maxWidth) ⌝ }
+    ensures { λ r. ⌜ (r ≡ at + length (steps 0 (places (limbCoord (now (row .entry))) 0 width))) × (now (out .exit) ≡ sets (now (out .entry)) at (steps 0 (places (limbCoord (now (row .entry))) 0 width))) ⌝ }
 {
     let mut next = at;
     let mut free = 0;
@@ -77,10 +77,10 @@ fn put_row(out: &mut [u8], at: usize, row: &[u8], width: usize) -> usize
     requires { ⌜ (width ≤ 8 * length (now row)) × (width ≤ maxWidth) × (at + length (rowCard width (now row)) ≤ longest maxWidth) ⌝ }
     ensures { λ r. ⌜ (r ≡ at + length (rowCard width (now (row .entry)))) × (now (out .exit) ≡ sets (now (out .entry)) at (rowCard width (now (row .entry)))) ⌝ }
 {
-    let words = operand::to_words(operand::carried(row));
-    let n = ones(&words, width);
+    let limbs = limbs::to_limbs(limbs::carried(row));
+    let n = ones(&limbs, width);
     let next = put_number(out, at, n);
-    put_places(out, next, &words, width)
+    put_places(out, next, &limbs, width)
 }
 
 // The rows from `start` on, `count` of them.

@@ -14,7 +14,7 @@ use Rattle.gf2.proofs.Chain.{products-made}
 use Rattle.operand.specs.declared.fault.Fault.{Fault}
 use Rattle.operand.specs.Faults.{isNone, firstOf}
 use Rattle.operand.specs.Judgements.{widthFault, bytesFault}
-use Rattle.operand.proofs.ByteLists.{Bytes}
+use Rattle.limbs.proofs.ByteLists.{Bytes}
 use Rattle.operand.proofs.FaultLaws.{or-both, width-fine, none-is}
 use Rattle.table.specs.declared.OnesAnswer.{OnesAnswer}
 use Rattle.table.specs.Judgements.{symmetryFault}

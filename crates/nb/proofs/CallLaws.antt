@@ -28,7 +28,7 @@ use Rattle.operand.specs.Judgements.{widthFault, lengthFault, highFault, turnFa
 use Rattle.operand.specs.Calls.{noOperand, chooseOperand, chooseBytes, answer, readCall, writeCall, turnCall, sumCall, traceCall, solveCall}
 use Rattle.operand.proofs.FaultLaws.{judged, or-first, or-second, or-none, or-both, or-cong, or-assoc, two-fine as both-fine, width-fine, length-fine, high-fine}
 use Rattle.operand.proofs.FaultFree.{IsWidth, carry, width-none, length-none, high-none}
-use Rattle.operand.proofs.ByteLists.{Bytes}
+use Rattle.limbs.proofs.ByteLists.{Bytes}
 use Rattle.table.specs.Rows.{carriedBy}
 use Rattle.table.specs.Judgements.{same, rowsFault, rowZeroFault, rowPairFault}
 use Rattle.table.proofs.Searches.{none-true}

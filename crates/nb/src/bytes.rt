@@ -48,7 +48,7 @@ fn narrow(m: usize) -> u16
 pub(crate) fn carry(m: usize, s: &[u8]) -> Operand
     ensures { λ r. ⌜ r ≡ carriedAs m (now (s .entry)) ⌝ }
 {
-    let bytes = operand::carried(s);
+    let bytes = limbs::carried(s);
     Operand {
         bytes,
         width: narrow(m),
@@ -63,7 +63,7 @@ pub(crate) fn settle(answer: OperandAnswer, result: &mut [u8]) -> Fault
     let value = answer.value;
     let x = value.bytes;
     if operand::is_none(fault) {
-        operand::copy_out(x, result);
+        limbs::copy_out(x, result);
     }
     fault
 }

@@ -8,7 +8,6 @@ ghost use Rattle.gf2.specs.Operands.{bytesFor, carriedBytes};
 ghost use Rattle.operand.specs.Faults.{firstOf};
 ghost use Rattle.operand.specs.Judgements.{widthFault, lengthFault, highFault, turnFault, traceFault, operandFault, pairFault, bytesFault, roomFault};
 use crate::Operand;
-use crate::bytes;
 use crate::fault;
 use crate::fault::Fault;
 use crate::quadratic;
@@ -48,7 +47,7 @@ pub(crate) fn judge_turn(width: usize, k: usize) -> Fault
 pub fn judge_high(x: [u8; Operand::BYTES], width: usize) -> Fault
     ensures { λ r. ⌜ r ≡ highFault width x ⌝ }
 {
-    if bytes::is_clear(x, width) {
+    if limbs::is_clear(x, width) {
         Fault::None
     } else {
         Fault::HighBit

@@ -9,15 +9,11 @@ ghost use Rattle.operand.specs.Faults.{isNone};
 ghost use Rattle.operand.specs.Judgements.{roomFault};
 ghost use Rattle.operand.specs.Calls.{noOperand, answer, zeroCall, oneCall, turnCall, squareCall, sumCall, traceCall, solveCall, readCall, writeCall};
 
-mod bytes;
 mod fault;
 mod judge;
 mod quadratic;
 mod turn;
-mod words;
 
-pub use bytes::carried;
-pub use bytes::copy_out;
 pub use fault::Fault;
 pub use fault::FaultNumber;
 pub use fault::is_none;
@@ -29,14 +25,6 @@ pub use judge::judge_length;
 pub use judge::judge_operand;
 pub use judge::judge_pair;
 pub use judge::judge_width;
-pub use words::low_words;
-pub use words::lower_pair;
-pub use words::raise_pair;
-pub use words::to_bytes;
-pub use words::to_words;
-pub use words::word_at;
-pub use words::word_below;
-pub use words::xored_words;
 
 // Coordinate i is bit i % 8 of byte i / 8, and bits at the width and above are 0.
 pub struct Operand {
@@ -87,11 +75,9 @@ fn answered(fault: Fault, width: usize, bytes: [u8; Operand::BYTES]) -> OperandA
 }
 
 impl Operand {
-    pub const BYTES: usize = 32;
+    pub const BYTES: usize = limbs::BYTES;
 
-    pub const WORDS: usize = Operand::BYTES / 8;
-
-    pub const MAX_WIDTH: usize = 255;
+    pub const MAX_WIDTH: usize = limbs::MAX_WIDTH;
 
     pub fn zero(width: usize) -> OperandAnswer
         ensures { λ r. ⌜ r ≡ zeroCall width ⌝ }
@@ -106,7 +92,7 @@ impl Operand {
         answered(
             judge::judge_width(width),
             width,
-            bytes::cleared(full, width),
+            limbs::cleared(full, width),
         )
     }
 
@@ -135,7 +121,7 @@ impl Operand {
         let m = self.width as usize;
         let x = self.bytes;
         let y = other.bytes;
-        answered(judge::judge_pair(self, other), m, bytes::xored(x, y))
+        answered(judge::judge_pair(self, other), m, limbs::xored(x, y))
     }
 
     pub fn trace(self) -> TraceAnswer
@@ -161,13 +147,13 @@ impl Operand {
         let c = self.bytes;
         let z = quadratic::root(c);
         let fault = judge::judge_solving(self);
-        answered(fault, m, bytes::cleared(z, m))
+        answered(fault, m, limbs::cleared(z, m))
     }
 
     pub fn read(width: usize, s: &[u8]) -> OperandAnswer
         ensures { λ r. ⌜ r ≡ readCall width (now (s .entry)) ⌝ }
     {
-        let x = bytes::carried(s);
+        let x = limbs::carried(s);
         answered(judge::judge_bytes(width, s, x), width, x)
     }
 
@@ -178,7 +164,7 @@ impl Operand {
         let x = self.bytes;
         let judged = judge::judge_room(self, out.len());
         if fault::is_none(judged) {
-            bytes::copy_out(x, out);
+            limbs::copy_out(x, out);
         }
         judged
     }

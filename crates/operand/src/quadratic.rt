@@ -5,24 +5,23 @@ ghost use Rattle.gf2.specs.Sums.{sum};
 ghost use Rattle.gf2.specs.Coordinates.{coord, value, pack};
 ghost use Rattle.gf2.specs.Operands.{carriedBytes};
 ghost use Rattle.gf2.specs.Quadratic.{rootCoord};
-ghost use Rattle.operand.specs.Words.{carriedWords, wordCoord, packWords};
+ghost use Rattle.limbs.specs.Limbs.{carriedLimbs, limbCoord, packLimbs};
 use crate::Operand;
-use crate::words;
 
-// The sum of the words, bit by bit modulo 2.
-fn folded(x: [u64; Operand::WORDS]) -> u64
-    ensures { λ r. ⌜ r ≡ value 64 (λ j. sum carriedWords (λ w. wordCoord x (w * 64 + j))) ⌝ }
+// The sum of the limbs, bit by bit modulo 2.
+fn folded(x: [u64; limbs::LIMBS]) -> u64
+    ensures { λ r. ⌜ r ≡ value 64 (λ j. sum carriedLimbs (λ w. limbCoord x (w * 64 + j))) ⌝ }
 {
     let mut total: u64 = 0;
     let mut w = 0;
-    while w < Operand::WORDS {
+    while w < limbs::LIMBS {
         total = total ^ x[w];
         w += 1;
     }
     total
 }
 
-// The sum of the bits of a word, modulo 2.
+// The sum of the bits of a limb, modulo 2.
 fn parity(x: u64) -> u8
     ensures { λ r. ⌜ r ≡ sum 64 (λ j. x / 2 ^ j % 2) % 2 ⌝ }
 {
@@ -38,7 +37,7 @@ fn parity(x: u64) -> u8
 pub(crate) fn trace(x: [u8; Operand::BYTES]) -> u8
     ensures { λ r. ⌜ r ≡ sum (8 * carriedBytes) (coord x) % 2 ⌝ }
 {
-    parity(folded(words::to_words(x)))
+    parity(folded(limbs::to_limbs(x)))
 }
 
 // Bit j of the result is the sum of `carry` and the bits 0 to j of x, modulo 2.
@@ -56,15 +55,15 @@ fn prefix_sums(x: u64, carry: u64) -> u64
 }
 
 // The solution's coordinates. It starts from coordinate 0 as the carry, so that its own coordinate 0 is 0.
-fn root_words(c: [u64; Operand::WORDS]) -> [u64; Operand::WORDS]
-    ensures { λ r. ⌜ r ≡ packWords carriedWords (λ i. wordCoord c 0 + sum (suc i) (wordCoord c)) ⌝ }
+fn root_limbs(c: [u64; limbs::LIMBS]) -> [u64; limbs::LIMBS]
+    ensures { λ r. ⌜ r ≡ packLimbs carriedLimbs (λ i. limbCoord c 0 + sum (suc i) (limbCoord c)) ⌝ }
 {
-    let mut out = [0u64; Operand::WORDS];
+    let mut out = [0u64; limbs::LIMBS];
     let mut carry = c[0] % 2;
     let mut w = 0;
-    while w < Operand::WORDS {
-        let word = c[w];
-        let sums = prefix_sums(word, carry);
+    while w < limbs::LIMBS {
+        let limb = c[w];
+        let sums = prefix_sums(limb, carry);
         out[w] = sums;
         carry = sums >> 63;
         w += 1;
@@ -75,5 +74,5 @@ fn root_words(c: [u64; Operand::WORDS]) -> [u64; Operand::WORDS]
 pub(crate) fn root(c: [u8; Operand::BYTES]) -> [u8; Operand::BYTES]
     ensures { λ r. ⌜ r ≡ pack carriedBytes (rootCoord c) ⌝ }
 {
-    words::to_bytes(root_words(words::to_words(c)))
+    limbs::to_bytes(root_limbs(limbs::to_limbs(c)))
 }

@@ -1,14 +1,13 @@
 // The turn of a carried operand: its coordinates moved up, and those that leave at the width moved to the front.
-// A move is one of whole words, by steps that the count's binary digits choose, and one of bits, over two words at a time.
+// A move is one of whole limbs, by steps that the count's binary digits choose, and one of bits, over two limbs at a time.
 ghost use mathlib.Core.Path.{_≡_};
 ghost use mathlib.Core.Bool.{true};
 ghost use Prim.Native.Nat.{_+_, _*_, _<_, _≤_};
 ghost use lib.ListN.{getD};
 ghost use Rattle.gf2.specs.Coordinates.{tabulate};
 ghost use Rattle.gf2.specs.Operands.{maxWidth, choose, isClear, turned};
-ghost use Rattle.operand.specs.Words.{carriedWords, wordCoord, packWords, raised};
+ghost use Rattle.limbs.specs.Limbs.{carriedLimbs, limbCoord, packLimbs, raised};
 use crate::Operand;
-use crate::words;
 
 fn pick(c: bool, yes: u64, no: u64) -> u64
     ensures { λ r. ⌜ r ≡ choose c yes no ⌝ }
@@ -16,43 +15,43 @@ fn pick(c: bool, yes: u64, no: u64) -> u64
     if c { yes } else { no }
 }
 
-// The words moved n down where c holds.
-fn lower_if(c: bool, x: [u64; Operand::WORDS], n: usize) -> [u64; Operand::WORDS]
-    requires { ⌜ n < carriedWords ⌝ }
-    ensures { λ r. ⌜ r ≡ tabulate carriedWords (λ w. choose c (getD x (w + n) 0) (getD x w 0)) ⌝ }
+// The limbs moved n down where c holds.
+fn lower_if(c: bool, x: [u64; limbs::LIMBS], n: usize) -> [u64; limbs::LIMBS]
+    requires { ⌜ n < carriedLimbs ⌝ }
+    ensures { λ r. ⌜ r ≡ tabulate carriedLimbs (λ w. choose c (getD x (w + n) 0) (getD x w 0)) ⌝ }
 {
-    let mut out = [0u64; Operand::WORDS];
+    let mut out = [0u64; limbs::LIMBS];
     let mut w = 0;
-    while w < Operand::WORDS {
-        let word = x[w];
-        out[w] = pick(c, words::word_at(x, w + n), word);
+    while w < limbs::LIMBS {
+        let limb = x[w];
+        out[w] = pick(c, limbs::limb_at(x, w + n), limb);
         w += 1;
     }
     out
 }
 
-// The words moved n up where c holds.
-fn raise_if(c: bool, x: [u64; Operand::WORDS], n: usize) -> [u64; Operand::WORDS]
-    ensures { λ r. ⌜ r ≡ tabulate carriedWords (λ w. choose c (raised n (λ v. getD x v 0) w) (getD x w 0)) ⌝ }
+// The limbs moved n up where c holds.
+fn raise_if(c: bool, x: [u64; limbs::LIMBS], n: usize) -> [u64; limbs::LIMBS]
+    ensures { λ r. ⌜ r ≡ tabulate carriedLimbs (λ w. choose c (raised n (λ v. getD x v 0) w) (getD x w 0)) ⌝ }
 {
-    let mut out = [0u64; Operand::WORDS];
+    let mut out = [0u64; limbs::LIMBS];
     let mut w = 0;
-    while w < Operand::WORDS {
-        let word = x[w];
-        out[w] = pick(c, words::word_below(x, w, n), word);
+    while w < limbs::LIMBS {
+        let limb = x[w];
+        out[w] = pick(c, limbs::limb_below(x, w, n), limb);
         w += 1;
     }
     out
 }
 
-// The words moved n down, by 1, 2, 4, .. where n has that binary digit.
-fn lower_words(x: [u64; Operand::WORDS], n: usize) -> [u64; Operand::WORDS]
-    requires { ⌜ n < carriedWords ⌝ }
-    ensures { λ r. ⌜ r ≡ tabulate carriedWords (λ w. getD x (w + n) 0) ⌝ }
+// The limbs moved n down, by 1, 2, 4, .. where n has that binary digit.
+fn lower_limbs(x: [u64; limbs::LIMBS], n: usize) -> [u64; limbs::LIMBS]
+    requires { ⌜ n < carriedLimbs ⌝ }
+    ensures { λ r. ⌜ r ≡ tabulate carriedLimbs (λ w. getD x (w + n) 0) ⌝ }
 {
     let mut out = x;
     let mut step = 1;
-    while step < Operand::WORDS {
+    while step < limbs::LIMBS {
         let next = lower_if(n / step % 2 == 1, out, step);
         out = next;
         step = 2 * step;
@@ -60,14 +59,14 @@ fn lower_words(x: [u64; Operand::WORDS], n: usize) -> [u64; Operand::WORDS]
     out
 }
 
-// The words moved n up, in the same steps.
-fn raise_words(x: [u64; Operand::WORDS], n: usize) -> [u64; Operand::WORDS]
-    requires { ⌜ n < carriedWords ⌝ }
-    ensures { λ r. ⌜ r ≡ tabulate carriedWords (raised n (λ v. getD x v 0)) ⌝ }
+// The limbs moved n up, in the same steps.
+fn raise_limbs(x: [u64; limbs::LIMBS], n: usize) -> [u64; limbs::LIMBS]
+    requires { ⌜ n < carriedLimbs ⌝ }
+    ensures { λ r. ⌜ r ≡ tabulate carriedLimbs (raised n (λ v. getD x v 0)) ⌝ }
 {
     let mut out = x;
     let mut step = 1;
-    while step < Operand::WORDS {
+    while step < limbs::LIMBS {
         let next = raise_if(n / step % 2 == 1, out, step);
         out = next;
         step = 2 * step;
@@ -76,32 +75,32 @@ fn raise_words(x: [u64; Operand::WORDS], n: usize) -> [u64; Operand::WORDS]
 }
 
 // The coordinates moved k down.
-fn lower(x: [u64; Operand::WORDS], k: usize) -> [u64; Operand::WORDS]
-    requires { ⌜ k < 64 * carriedWords ⌝ }
-    ensures { λ r. ⌜ r ≡ packWords carriedWords (λ i. wordCoord x (i + k)) ⌝ }
+fn lower(x: [u64; limbs::LIMBS], k: usize) -> [u64; limbs::LIMBS]
+    requires { ⌜ k < 64 * carriedLimbs ⌝ }
+    ensures { λ r. ⌜ r ≡ packLimbs carriedLimbs (λ i. limbCoord x (i + k)) ⌝ }
 {
-    let moved = lower_words(x, k / 64);
-    let mut out = [0u64; Operand::WORDS];
+    let moved = lower_limbs(x, k / 64);
+    let mut out = [0u64; limbs::LIMBS];
     let mut w = 0;
-    while w < Operand::WORDS {
-        let word = moved[w];
-        out[w] = words::lower_pair(word, words::word_at(moved, w + 1), k);
+    while w < limbs::LIMBS {
+        let limb = moved[w];
+        out[w] = limbs::lower_pair(limb, limbs::limb_at(moved, w + 1), k);
         w += 1;
     }
     out
 }
 
 // The coordinates moved k up.
-fn raise(x: [u64; Operand::WORDS], k: usize) -> [u64; Operand::WORDS]
-    requires { ⌜ k < 64 * carriedWords ⌝ }
-    ensures { λ r. ⌜ r ≡ packWords carriedWords (raised k (wordCoord x)) ⌝ }
+fn raise(x: [u64; limbs::LIMBS], k: usize) -> [u64; limbs::LIMBS]
+    requires { ⌜ k < 64 * carriedLimbs ⌝ }
+    ensures { λ r. ⌜ r ≡ packLimbs carriedLimbs (raised k (limbCoord x)) ⌝ }
 {
-    let moved = raise_words(x, k / 64);
-    let mut out = [0u64; Operand::WORDS];
+    let moved = raise_limbs(x, k / 64);
+    let mut out = [0u64; limbs::LIMBS];
     let mut w = 0;
-    while w < Operand::WORDS {
-        let word = moved[w];
-        out[w] = words::raise_pair(words::word_below(moved, w, 1), word, k);
+    while w < limbs::LIMBS {
+        let limb = moved[w];
+        out[w] = limbs::raise_pair(limbs::limb_below(moved, w, 1), limb, k);
         w += 1;
     }
     out
@@ -112,8 +111,8 @@ pub(crate) fn turned(x: [u8; Operand::BYTES], m: usize, k: usize) -> [u8; Operan
     requires { ⌜ (m ≤ maxWidth) × (k < m) × (isClear m x ≡ true) ⌝ }
     ensures { λ r. ⌜ r ≡ turned m k x ⌝ }
 {
-    let all = words::to_words(x);
+    let all = limbs::to_limbs(x);
     let back = m - k;
-    let both = words::xored_words(raise(all, k), lower(all, back));
-    words::to_bytes(words::low_words(both, m))
+    let both = limbs::xored_limbs(raise(all, k), lower(all, back));
+    limbs::to_bytes(limbs::low_limbs(both, m))
 }

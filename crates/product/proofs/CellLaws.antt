@@ -1,6 +1,6 @@
--- What the kernels on words make.
--- Word by word: products and sums of coordinates.
--- Places: words added at one place, one after another.
+-- What the kernels on limbs make.
+-- Limb by limb: products and sums of coordinates.
+-- Places: limbs added at one place, one after another.
 use mathlib.Core.Path.{_≡_, refl, sym, ap, ap₂, _∙_}
 use mathlib.Core.List.{List}
 use Prim.Native.Nat.{ℕ, zero, suc, _+_, _-_, _*_, _/_, _%_, _^_, _<_, _≤_}
@@ -16,9 +16,9 @@ use Rattle.gf2.specs.Coordinates.{tabulate}
 use Rattle.gf2.specs.Operands.{choose, below}
 use Rattle.gf2.proofs.Coordinates.{and-bit, xor-bit}
 use Rattle.gf2.proofs.Operands.{below-in, below-out}
-use Rattle.operand.specs.Words.{carriedWords, wordCoord, packWords}
-use Rattle.operand.proofs.WordCoords.{word-lt, word-digit, words-of}
-use Rattle.operand.proofs.WordLoops.{Words}
+use Rattle.limbs.specs.Limbs.{carriedLimbs, limbCoord, packLimbs}
+use Rattle.limbs.proofs.LimbCoords.{limb-lt, limb-digit, limbs-of}
+use Rattle.limbs.proofs.LimbLoops.{Limbs}
 use Rattle.product.specs.Cells.{places, HasPlaces, cell, Added}
 
 pub bit-mul : (x y : ℕ) → x < 2 → y < 2 → x * y ≡ x * y % 2
@@ -26,33 +26,33 @@ bit-mul zero y h l = omega arith
 bit-mul (suc zero) y h l = omega arith
 bit-mul (suc (suc x)) y h l = absurd (omega arith)
 
-pub masked-words : (n : ℕ) (x y : List ℕ) → Words x → Words y → tabulate n (λ w. bitAnd (getD x w 0) (getD y w 0)) ≡ packWords n (λ i. wordCoord x i * wordCoord y i)
-masked-words n x y sx sy = words-of n _ (λ i. wordCoord x i * wordCoord y i) (λ w h. and-lt 64 (getD x w 0) (getD y w 0) (sx w) (sy w)) (λ w j h l.
-    rw (word-digit x w j l, word-digit y w j l) (and-bit (getD x w 0) (getD y w 0) j ∙ bit-mul _ _ (omega arith) (omega arith)))
+pub masked-limbs : (n : ℕ) (x y : List ℕ) → Limbs x → Limbs y → tabulate n (λ w. bitAnd (getD x w 0) (getD y w 0)) ≡ packLimbs n (λ i. limbCoord x i * limbCoord y i)
+masked-limbs n x y sx sy = limbs-of n _ (λ i. limbCoord x i * limbCoord y i) (λ w h. and-lt 64 (getD x w 0) (getD y w 0) (sx w) (sy w)) (λ w j h l.
+    rw (limb-digit x w j l, limb-digit y w j l) (and-bit (getD x w 0) (getD y w 0) j ∙ bit-mul _ _ (omega arith) (omega arith)))
 
--- a sum word by word, where the words have the bits b and c
-pub xored-words : (n : ℕ) (u v b c : ℕ → ℕ) → ((w : ℕ) → w < n → u w < 2 ^ 64) → ((w : ℕ) → w < n → v w < 2 ^ 64)
+-- a sum limb by limb, where the limbs have the bits b and c
+pub xored-limbs : (n : ℕ) (u v b c : ℕ → ℕ) → ((w : ℕ) → w < n → u w < 2 ^ 64) → ((w : ℕ) → w < n → v w < 2 ^ 64)
     → ((w j : ℕ) → w < n → j < 64 → u w / 2 ^ j % 2 ≡ b (w * 64 + j)) → ((w j : ℕ) → w < n → j < 64 → v w / 2 ^ j % 2 ≡ c (w * 64 + j))
-    → tabulate n (λ w. bitXor (u w) (v w)) ≡ packWords n (λ i. b i + c i)
-xored-words n u v b c su sv eb ec = words-of n _ (λ i. b i + c i) (λ w h. xor-lt 64 (u w) (v w) (su w h) (sv w h)) (λ w j h l.
+    → tabulate n (λ w. bitXor (u w) (v w)) ≡ packLimbs n (λ i. b i + c i)
+xored-limbs n u v b c su sv eb ec = limbs-of n _ (λ i. b i + c i) (λ w h. xor-lt 64 (u w) (v w) (su w h) (sv w h)) (λ w j h l.
     xor-bit (u w) (v w) j ∙ ap₂ (λ p q. (p + q) % 2) (eb w j h l) (ec w j h l))
 
--- the bits of word s * carriedWords + w are coordinates at place s
-pub cell-digit : (g : List ℕ) (s w j : ℕ) → j < 64 → getD g (s * carriedWords + w) 0 / 2 ^ j % 2 ≡ cell g s (w * 64 + j)
-cell-digit g s w j l = sym (word-digit g (s * carriedWords + w) j l) ∙ ap (wordCoord g) (omega arith)
+-- the bits of limb s * carriedLimbs + w are coordinates at place s
+pub cell-digit : (g : List ℕ) (s w j : ℕ) → j < 64 → getD g (s * carriedLimbs + w) 0 / 2 ^ j % 2 ≡ cell g s (w * 64 + j)
+cell-digit g s w j l = sym (limb-digit g (s * carriedLimbs + w) j l) ∙ ap (limbCoord g) (omega arith)
 
--- one word changed
+-- one limb changed
 pub set-coord : (g : List ℕ) (p x k : ℕ) → p < length g →
-    wordCoord (set g p (bitXor (getD g p 0) x)) k ≡ (wordCoord g k + choose (eqb (k / 64) p) (x / 2 ^ (k % 64) % 2) 0) % 2
-unfolding wordCoord
+    limbCoord (set g p (bitXor (getD g p 0) x)) k ≡ (limbCoord g k + choose (eqb (k / 64) p) (x / 2 ^ (k % 64) % 2) 0) % 2
+unfolding limbCoord
 set-coord g p x k h = elim (ℕ-discrete (k / 64) p) [
   | yes e ↦ rw (eq-eqb (k / 64) p e, e, getD-set-same g p (bitXor (getD g p 0) x) 0 h) (xor-bit (getD g p 0) x (k % 64))
   | no n ↦ rw (ne-eqb (k / 64) p n, getD-set-other g p (k / 64) (bitXor (getD g p 0) x) 0 n) (omega arith)
 ]
 
--- one word more
-pub word-more : (w i : ℕ) (c : ℕ → ℕ) → below (w * 64) c i + choose (eqb (i / 64) w) (c i) 0 ≡ below ((w + 1) * 64) c i
-word-more w i c = elim (ℕ-discrete (i / 64) w) [
+-- one limb more
+pub limb-more : (w i : ℕ) (c : ℕ → ℕ) → below (w * 64) c i + choose (eqb (i / 64) w) (c i) 0 ≡ below ((w + 1) * 64) c i
+limb-more w i c = elim (ℕ-discrete (i / 64) w) [
   | yes e ↦ rw (eq-eqb (i / 64) w e, below-out (w * 64) c i (omega arith), below-in ((w + 1) * 64) c i (omega arith)) (omega arith)
   | no n ↦ rw (ne-eqb (i / 64) w n) (elim (decLt i (w * 64)) [
     | yes h ↦ rw (below-in (w * 64) c i h, below-in ((w + 1) * 64) c i (omega arith)) (omega arith)
@@ -62,7 +62,7 @@ word-more w i c = elim (ℕ-discrete (i / 64) w) [
 
 -- nothing added, one thing after another, and the same in other words
 pub added-none : (f : ℕ → ℕ → ℕ) (g : List ℕ) → ((s i : ℕ) → f s i ≡ 0) → Added f g g
-added-none f g z = record { size = refl; coords = λ s i l. omega (arith, z s i, word-lt g (s * places + i)) }
+added-none f g z = record { size = refl; coords = λ s i l. omega (arith, z s i, limb-lt g (s * places + i)) }
 
 sum-more : (x y z f h k : ℕ) → y ≡ (x + f) % 2 → z ≡ (y + h) % 2 → (f + h) % 2 ≡ k % 2 → z ≡ (x + k) % 2
 sum-more x y z f h k p q e = omega arith
@@ -73,39 +73,39 @@ added-more f h k p q same = record { size = q .size ∙ p .size; coords = λ s i
 pub added-same : (f k : ℕ → ℕ → ℕ) {a b : List ℕ} → Added f a b → ((s i : ℕ) → i < places → f s i % 2 ≡ k s i % 2) → Added k a b
 added-same f k p same = record { size = p .size; coords = λ s i l. omega (arith, p .coords s i l, same s i l) }
 
--- the first w words of e at place s
+-- the first w limbs of e at place s
 abbrev pub atPlace : ℕ → List ℕ → ℕ → ℕ → ℕ → ℕ
-atPlace s e w t i = choose (eqb t s) 1 0 * below (w * 64) (wordCoord e) i
+atPlace s e w t i = choose (eqb t s) 1 0 * below (w * 64) (limbCoord e) i
 
-set-added : (g : List ℕ) (s w x : ℕ) (e : List ℕ) → s < places → w < carriedWords → HasPlaces g → x ≡ getD e w 0 →
-    Added (λ t i. choose (eqb t s) 1 0 * choose (eqb (i / 64) w) (wordCoord e i) 0) g (set g (s * carriedWords + w) (bitXor (getD g (s * carriedWords + w) 0) x))
+set-added : (g : List ℕ) (s w x : ℕ) (e : List ℕ) → s < places → w < carriedLimbs → HasPlaces g → x ≡ getD e w 0 →
+    Added (λ t i. choose (eqb t s) 1 0 * choose (eqb (i / 64) w) (limbCoord e i) 0) g (set g (s * carriedLimbs + w) (bitXor (getD g (s * carriedLimbs + w) 0) x))
 set-added g s w x e h l size q = record {
-  size = length-set g (s * carriedWords + w) _;
-  coords = λ t i b. set-coord g (s * carriedWords + w) x (t * places + i) (omega arith) ∙ ap (λ y. (cell g t i + y) % 2) (here t i b);
+  size = length-set g (s * carriedLimbs + w) _;
+  coords = λ t i b. set-coord g (s * carriedLimbs + w) x (t * places + i) (omega arith) ∙ ap (λ y. (cell g t i + y) % 2) (here t i b);
 }
   where
-    here : (t i : ℕ) → i < places → choose (eqb ((t * places + i) / 64) (s * carriedWords + w)) (x / 2 ^ ((t * places + i) % 64) % 2) 0
-        ≡ choose (eqb t s) 1 0 * choose (eqb (i / 64) w) (wordCoord e i) 0
+    here : (t i : ℕ) → i < places → choose (eqb ((t * places + i) / 64) (s * carriedLimbs + w)) (x / 2 ^ ((t * places + i) % 64) % 2) 0
+        ≡ choose (eqb t s) 1 0 * choose (eqb (i / 64) w) (limbCoord e i) 0
     here t i b = elim (ℕ-discrete t s) [
       | yes p ↦ elim (ℕ-discrete (i / 64) w) [
         | yes r ↦ let z : (t * places + i) % 64 ≡ i % 64 = omega arith in
-            rw (eq-eqb t s p, eq-eqb (i / 64) w r, eq-eqb ((t * places + i) / 64) (s * carriedWords + w) (omega arith), z, q, ← r) (unfold wordCoord in omega arith)
-        | no r ↦ rw (eq-eqb t s p, ne-eqb (i / 64) w r, ne-eqb ((t * places + i) / 64) (s * carriedWords + w) (λ z. r (omega arith)))
+            rw (eq-eqb t s p, eq-eqb (i / 64) w r, eq-eqb ((t * places + i) / 64) (s * carriedLimbs + w) (omega arith), z, q, ← r) (unfold limbCoord in omega arith)
+        | no r ↦ rw (eq-eqb t s p, ne-eqb (i / 64) w r, ne-eqb ((t * places + i) / 64) (s * carriedLimbs + w) (λ z. r (omega arith)))
       ]
-      | no p ↦ rw (ne-eqb t s p, ne-eqb ((t * places + i) / 64) (s * carriedWords + w) (λ z. p (omega arith))) (omega arith)
+      | no p ↦ rw (ne-eqb t s p, ne-eqb ((t * places + i) / 64) (s * carriedLimbs + w) (λ z. p (omega arith))) (omega arith)
     ]
 
 module _ (s : ℕ) (e : List ℕ) where
   pub place-none : (g : List ℕ) → Added (atPlace s e 0) g g
-  place-none g = added-none (atPlace s e 0) g (λ t i. rw (below-out (0 * 64) (wordCoord e) i (omega arith)) (omega arith))
+  place-none g = added-none (atPlace s e 0) g (λ t i. rw (below-out (0 * 64) (limbCoord e) i (omega arith)) (omega arith))
 
-  pub place-more : (w x : ℕ) {g₀ g : List ℕ} → Added (atPlace s e w) g₀ g → HasPlaces g₀ → s < places → w < carriedWords → x ≡ getD e w 0 →
-      Added (atPlace s e (w + 1)) g₀ (set g (s * carriedWords + w) (bitXor (getD g (s * carriedWords + w) 0) x))
+  pub place-more : (w x : ℕ) {g₀ g : List ℕ} → Added (atPlace s e w) g₀ g → HasPlaces g₀ → s < places → w < carriedLimbs → x ≡ getD e w 0 →
+      Added (atPlace s e (w + 1)) g₀ (set g (s * carriedLimbs + w) (bitXor (getD g (s * carriedLimbs + w) 0) x))
   place-more w x {g₀} {g} p size h l q = added-more _ _ _ p (set-added g s w x e h l (p .size ∙ size) q)
-      (λ t i b. ap (λ y. y % 2) (times (choose (eqb t s) 1 0) _ _ ∙ ap (λ y. choose (eqb t s) 1 0 * y) (word-more w i (wordCoord e))))
+      (λ t i b. ap (λ y. y % 2) (times (choose (eqb t s) 1 0) _ _ ∙ ap (λ y. choose (eqb t s) 1 0 * y) (limb-more w i (limbCoord e))))
     where
       times : (c a b : ℕ) → c * a + c * b ≡ c * (a + b)
       times c a b = sym (mul-add c a b)
 
-  pub place-all : {g₀ g : List ℕ} (w : ℕ) → carriedWords ≤ w → Added (atPlace s e w) g₀ g → Added (λ t i. choose (eqb t s) 1 0 * wordCoord e i) g₀ g
-  place-all w h p = added-same _ _ p (λ t i l. ap (λ y. choose (eqb t s) 1 0 * y % 2) (below-in (w * 64) (wordCoord e) i (omega arith)))
+  pub place-all : {g₀ g : List ℕ} (w : ℕ) → carriedLimbs ≤ w → Added (atPlace s e w) g₀ g → Added (λ t i. choose (eqb t s) 1 0 * limbCoord e i) g₀ g
+  place-all w h p = added-same _ _ p (λ t i l. ap (λ y. choose (eqb t s) 1 0 * y % 2) (below-in (w * 64) (limbCoord e) i (omega arith)))

@@ -20,7 +20,7 @@ use Rattle.operand.specs.declared.fault.Fault.the-variants.{None, Length, HighB
 use Rattle.operand.specs.Faults.{isNone, when, orElse, firstOf}
 use Rattle.operand.specs.Judgements.{widthFault, lengthFault, highFault, operandFault, pairFault}
 use Rattle.operand.specs.Calls.{noOperand, answer}
-use Rattle.operand.proofs.ByteLists.{Bytes}
+use Rattle.limbs.proofs.ByteLists.{Bytes}
 use Rattle.operand.proofs.CallLaws.{zero-bytes}
 use Rattle.operand.proofs.FaultLaws.{none-is, or-second, or-none, or-both, or-cong, or-assoc, width-fine, length-fine, high-fine}
 use Rattle.operand.proofs.FaultFree.{length-none}

@@ -13,12 +13,12 @@ use Rattle.gf2.proofs.Sums.{sum-ext, sum-plus, sum-none, sum-split, sum-swap, s
 use Rattle.gf2.proofs.Operands.{minus-below, minus-round, below-in, below-out, from-ext}
 use Rattle.operand.specs.declared.Operand.{Operand}
 use Rattle.operand.specs.declared.OperandAnswer.{OperandAnswer}
-use Rattle.operand.specs.Words.{carriedWords, wordCoord, packWords}
+use Rattle.limbs.specs.Limbs.{carriedLimbs, limbCoord, packLimbs}
 use Rattle.operand.specs.Calls.{sumCall}
-use Rattle.operand.proofs.WordCoords.{word-pack}
-use Rattle.operand.proofs.TurnWords.{raised-in, raised-out}
+use Rattle.limbs.proofs.LimbCoords.{limb-pack}
+use Rattle.limbs.proofs.TurnLimbs.{raised-in, raised-out}
 use Rattle.product.specs.Kernels.{carried}
-use Rattle.product.specs.Cells.{twiceWords, places, cell, cellRaised, Within, IsWidth}
+use Rattle.product.specs.Cells.{twiceLimbs, places, cell, cellRaised, Within, IsWidth}
 use Rattle.product.proofs.SoundOperands.{made, sum-parts, sum-made}
 
 -- place by place: of the two parts, one has the coordinate that comes to place i and the other has 0 there
@@ -63,23 +63,23 @@ module _ (m : ℕ) (g : List ℕ) (fits : m ≤ places) (within : Within m g) wh
 
 -- and as operands
 pub gathered-made : {m : ℕ} {g : List ℕ} → IsWidth m → Within m g → {all l h : List ℕ} {low round : Operand} {r : OperandAnswer}
-    → all ≡ packWords twiceWords (λ i. sum places (λ s. cellRaised g s s i))
-    → l ≡ packWords carriedWords (λ i. wordCoord all (0 + i)) → low ≡ made m (wordCoord l)
-    → h ≡ packWords carriedWords (λ i. wordCoord all (m + i)) → round ≡ made m (wordCoord h)
+    → all ≡ packLimbs twiceLimbs (λ i. sum places (λ s. cellRaised g s s i))
+    → l ≡ packLimbs carriedLimbs (λ i. limbCoord all (0 + i)) → low ≡ made m (limbCoord l)
+    → h ≡ packLimbs carriedLimbs (λ i. limbCoord all (m + i)) → round ≡ made m (limbCoord h)
     → r ≡ sumCall low round → r .value ≡ made m (λ i. sum m (λ s. cell g s (minus m i s)))
 gathered-made {m} {g} width within {all} {l} {h} ea el eo eh er e =
-    sum-made (width .0) (width .1) (wordCoord l) (wordCoord h) eo er e
+    sum-made (width .0) (width .1) (limbCoord l) (limbCoord h) eo er e
     ∙ ap (carried m) (from-ext carriedBytes m _ _ (λ i k. sum-parts _ _ (from 0 i (omega arith) k el ∙ ap (λ n. spread n % 2) (zero-add i)) (from m i (omega arith) k eh)
     ∙ ap (λ y. y % 2) (all-turned m g (omega (arith, width .1)) within i k)))
   where
     spread : ℕ → ℕ
     spread i = sum places (λ s. cellRaised g s s i)
 
-    from : (n i : ℕ) → n ≤ m → i < m → {x : List ℕ} → x ≡ packWords carriedWords (λ i. wordCoord all (n + i)) → wordCoord x i ≡ spread (n + i) % 2
+    from : (n i : ℕ) → n ≤ m → i < m → {x : List ℕ} → x ≡ packLimbs carriedLimbs (λ i. limbCoord all (n + i)) → limbCoord x i ≡ spread (n + i) % 2
     from n i q k p =
         let big = width .1 in
-        ap (λ z. wordCoord z i) p ∙ word-pack carriedWords (λ i. wordCoord all (n + i)) i (omega arith)
-        ∙ ap (λ y. y % 2) (ap (λ z. wordCoord z (n + i)) ea ∙ word-pack twiceWords spread (n + i) (omega arith)) ∙ mod-mod (spread (n + i)) 2
+        ap (λ z. limbCoord z i) p ∙ limb-pack carriedLimbs (λ i. limbCoord all (n + i)) i (omega arith)
+        ∙ ap (λ y. y % 2) (ap (λ z. limbCoord z (n + i)) ea ∙ limb-pack twiceLimbs spread (n + i) (omega arith)) ∙ mod-mod (spread (n + i)) 2
 
 -- n rows that add e d at the places of their ones, gathered, are n rows that spread e d
 pub gathered-rows : (m n : ℕ) (line : ℕ → List ℕ) (e : ℕ → ℕ → ℕ) (g : List ℕ) → ((s i : ℕ) → i < m → cell g s i ≡ sum n (λ d. coord (line d) s * e d i) % 2)

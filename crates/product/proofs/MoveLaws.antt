@@ -1,4 +1,4 @@
--- Coordinates moved up: of sums, of packed words, and word by word, by one place and by the width.
+-- Coordinates moved up: of sums, of packed limbs, and limb by limb, by one place and by the width.
 use mathlib.Core.Path.{_≡_, sym, ap, _∙_}
 use mathlib.Core.List.{List, [], _∷_}
 use Prim.Native.Nat.{ℕ, _+_, _-_, _*_, _/_, _%_, _^_, _<_, _≤_}
@@ -12,11 +12,11 @@ use Rattle.gf2.specs.Sums.{sum}
 use Rattle.gf2.specs.Coordinates.{value, tabulate}
 use Rattle.gf2.proofs.Sums.{sum-ext, sum-none}
 use Rattle.gf2.proofs.Coordinates.{value-bit, value-lt, tabulate-ext}
-use Rattle.operand.specs.Words.{wordCoord, packWords, raised}
-use Rattle.operand.proofs.WordCoords.{word-lt, word-digit, word-pack, words-of, words-ext}
-use Rattle.operand.proofs.WordLoops.{Words, raise-pair}
-use Rattle.operand.proofs.TurnWords.{raised-in, raised-out, raised-coord}
-use Rattle.product.proofs.CellLaws.{xored-words}
+use Rattle.limbs.specs.Limbs.{limbCoord, packLimbs, raised}
+use Rattle.limbs.proofs.LimbCoords.{limb-lt, limb-digit, limb-pack, limbs-of, limbs-ext}
+use Rattle.limbs.proofs.LimbLoops.{Limbs, raise-pair}
+use Rattle.limbs.proofs.TurnLimbs.{raised-in, raised-out, raised-coord}
+use Rattle.product.proofs.CellLaws.{xored-limbs}
 
 pub raised-ext : (k : ℕ) (f h : ℕ → ℕ) (i : ℕ) → (k ≤ i → f (i - k) ≡ h (i - k)) → raised k f i ≡ raised k h i
 raised-ext k f h i e = elim (decLt i k) [
@@ -49,33 +49,33 @@ raised-sum k n f i = elim (decLt i k) [
   | no l ↦ raised-in k (λ j. sum n (λ q. f q j)) i (omega arith) ∙ sum-ext n _ _ (λ q h. sym (raised-in k (f q) i (omega arith)))
 ]
 
--- what is made from the coordinates of packed words
-pub packed-plus : (n : ℕ) (f c : ℕ → ℕ) {x r : List ℕ} → x ≡ packWords n f → r ≡ packWords n (λ i. wordCoord x i + c i) → r ≡ packWords n (λ i. f i + c i)
-packed-plus n f c {x} p q = q ∙ words-ext n _ _ (λ i l. ap (λ y. (y + c i) % 2) (ap (λ z. wordCoord z i) p ∙ word-pack n f i l) ∙ first _ _)
+-- what is made from the coordinates of packed limbs
+pub packed-plus : (n : ℕ) (f c : ℕ → ℕ) {x r : List ℕ} → x ≡ packLimbs n f → r ≡ packLimbs n (λ i. limbCoord x i + c i) → r ≡ packLimbs n (λ i. f i + c i)
+packed-plus n f c {x} p q = q ∙ limbs-ext n _ _ (λ i l. ap (λ y. (y + c i) % 2) (ap (λ z. limbCoord z i) p ∙ limb-pack n f i l) ∙ first _ _)
   where
     first : (a b : ℕ) → (a % 2 + b) % 2 ≡ (a + b) % 2
     first a b = omega arith
 
-pub packed-up : (n k : ℕ) (f : ℕ → ℕ) {x r : List ℕ} → x ≡ packWords n f → r ≡ packWords n (raised k (wordCoord x)) → r ≡ packWords n (raised k f)
-packed-up n k f {x} p q = q ∙ words-ext n _ _ (λ i l. elim (decLt i k) [
-  | yes h ↦ ap (λ y. y % 2) (raised-out k (wordCoord x) i h ∙ sym (raised-out k f i h))
-  | no h ↦ ap (λ y. y % 2) (raised-in k (wordCoord x) i (omega arith) ∙ ap (λ z. wordCoord z (i - k)) p ∙ word-pack n f (i - k) (omega arith))
+pub packed-up : (n k : ℕ) (f : ℕ → ℕ) {x r : List ℕ} → x ≡ packLimbs n f → r ≡ packLimbs n (raised k (limbCoord x)) → r ≡ packLimbs n (raised k f)
+packed-up n k f {x} p q = q ∙ limbs-ext n _ _ (λ i l. elim (decLt i k) [
+  | yes h ↦ ap (λ y. y % 2) (raised-out k (limbCoord x) i h ∙ sym (raised-out k f i h))
+  | no h ↦ ap (λ y. y % 2) (raised-in k (limbCoord x) i (omega arith) ∙ ap (λ z. limbCoord z (i - k)) p ∙ limb-pack n f (i - k) (omega arith))
       ∙ twice (f (i - k)) ∙ ap (λ y. y % 2) (sym (raised-in k f i (omega arith)))
 ])
   where
     twice : (a : ℕ) → a % 2 % 2 ≡ a % 2
     twice a = omega arith
 
--- all coordinates moved up by k places: word w is made from two words in a row, those k / 64 + 1 and k / 64 words below
-abbrev pub raisedWord : List ℕ → ℕ → ℕ → ℕ
-raisedWord x k w = value 64 (λ j. wordCoord (raised (k / 64 + 1) (λ n. getD x n 0) w ∷ raised (k / 64) (λ n. getD x n 0) w ∷ []) (64 - k % 64 + j))
+-- all coordinates moved up by k places: limb w is made from two limbs in a row, those k / 64 + 1 and k / 64 limbs below
+abbrev pub raisedLimb : List ℕ → ℕ → ℕ → ℕ
+raisedLimb x k w = value 64 (λ j. limbCoord (raised (k / 64 + 1) (λ n. getD x n 0) w ∷ raised (k / 64) (λ n. getD x n 0) w ∷ []) (64 - k % 64 + j))
 
-raised-bit : (x : List ℕ) (k w j : ℕ) → j < 64 → raisedWord x k w / 2 ^ j % 2 ≡ raised k (wordCoord x) (w * 64 + j)
-raised-bit x k w j l = value-bit 64 _ j l ∙ mod-eq-of-lt (word-lt _ _) ∙ raised-coord 0 k x w j l
+raised-bit : (x : List ℕ) (k w j : ℕ) → j < 64 → raisedLimb x k w / 2 ^ j % 2 ≡ raised k (limbCoord x) (w * 64 + j)
+raised-bit x k w j l = value-bit 64 _ j l ∙ mod-eq-of-lt (limb-lt _ _) ∙ raised-coord 0 k x w j l
 
 -- by one place
-abbrev pub doubledWord : List ℕ → ℕ → ℕ
-doubledWord x w = bitOr (getD x w 0 * 2 % 2 ^ 64) (raised 1 (λ n. getD x n 0) w / 2 ^ 63)
+abbrev pub doubledLimb : List ℕ → ℕ → ℕ
+doubledLimb x w = bitOr (getD x w 0 * 2 % 2 ^ 64) (raised 1 (λ n. getD x n 0) w / 2 ^ 63)
 
 pub before-first : (x : List ℕ) → 0 ≡ raised 1 (λ n. getD x n 0) 0
 before-first x = sym (raised-out 1 (λ n. getD x n 0) 0 (omega arith))
@@ -83,8 +83,8 @@ before-first x = sym (raised-out 1 (λ n. getD x n 0) 0 (omega arith))
 pub before-next : (x : List ℕ) (w : ℕ) → getD x w 0 ≡ raised 1 (λ n. getD x n 0) (w + 1)
 before-next x w = sym (raised-in 1 (λ n. getD x n 0) (w + 1) (omega arith) ∙ ap (λ n. getD x n 0) (omega arith))
 
-pub doubled-words : (n : ℕ) (x : List ℕ) → Words x → tabulate n (doubledWord x) ≡ packWords n (raised 1 (wordCoord x))
-doubled-words n x small = tabulate-ext n _ _ (λ w h. same w) ∙ words-of n (raisedWord x 1) (raised 1 (wordCoord x)) (λ w h. value-lt 64 _) (λ w j h l. raised-bit x 1 w j l ∙ bit w j)
+pub doubled-limbs : (n : ℕ) (x : List ℕ) → Limbs x → tabulate n (doubledLimb x) ≡ packLimbs n (raised 1 (limbCoord x))
+doubled-limbs n x small = tabulate-ext n _ _ (λ w h. same w) ∙ limbs-of n (raisedLimb x 1) (raised 1 (limbCoord x)) (λ w h. value-lt 64 _) (λ w j h l. raised-bit x 1 w j l ∙ bit w j)
   where
     before-lt : (w : ℕ) → raised 1 (λ n. getD x n 0) w < 2 ^ 64
     before-lt w = elim (decLt w 1) [
@@ -95,17 +95,17 @@ doubled-words n x small = tabulate-ext n _ _ (λ w h. same w) ∙ words-of n (ra
     here : (w : ℕ) → getD x w 0 ≡ raised 0 (λ n. getD x n 0) w
     here w = sym (raised-in 0 (λ n. getD x n 0) w (omega arith) ∙ ap (λ n. getD x n 0) (omega arith))
 
-    same : (w : ℕ) → doubledWord x w ≡ raisedWord x 1 w
+    same : (w : ℕ) → doubledLimb x w ≡ raisedLimb x 1 w
     same w =
         ap (bitOr (getD x w 0 * 2 % 2 ^ 64)) (sym (shr-shr (raised 1 (λ n. getD x n 0) w) 1 62)) ∙ raise-pair (raised 1 (λ n. getD x n 0) w) (getD x w 0) 1 (before-lt w) (omega arith)
-        ∙ ap (λ y. value 64 (λ j. wordCoord (raised 1 (λ n. getD x n 0) w ∷ y ∷ []) (63 + j))) (here w)
+        ∙ ap (λ y. value 64 (λ j. limbCoord (raised 1 (λ n. getD x n 0) w ∷ y ∷ []) (63 + j))) (here w)
 
-    bit : (w j : ℕ) → raised 1 (wordCoord x) (w * 64 + j) ≡ raised 1 (wordCoord x) (w * 64 + j) % 2
+    bit : (w j : ℕ) → raised 1 (limbCoord x) (w * 64 + j) ≡ raised 1 (limbCoord x) (w * 64 + j) % 2
     bit w j = elim (decLt (w * 64 + j) 1) [
-      | yes h ↦ rw (raised-out 1 (wordCoord x) (w * 64 + j) h)
-      | no h ↦ rw (raised-in 1 (wordCoord x) (w * 64 + j) (omega arith)) (sym (mod-eq-of-lt (word-lt x _)))
+      | yes h ↦ rw (raised-out 1 (limbCoord x) (w * 64 + j) h)
+      | no h ↦ rw (raised-in 1 (limbCoord x) (w * 64 + j) (omega arith)) (sym (mod-eq-of-lt (limb-lt x _)))
     ]
 
 -- an operand and the same again m places up
-pub twice-words : (n m : ℕ) (x : List ℕ) → Words x → tabulate n (λ w. bitXor (getD x w 0) (raisedWord x m w)) ≡ packWords n (λ i. wordCoord x i + raised m (wordCoord x) i)
-twice-words n m x small = xored-words n _ _ (wordCoord x) (raised m (wordCoord x)) (λ w h. small w) (λ w h. value-lt 64 _) (λ w j h l. sym (word-digit x w j l)) (λ w j h l. raised-bit x m w j l)
+pub twice-limbs : (n m : ℕ) (x : List ℕ) → Limbs x → tabulate n (λ w. bitXor (getD x w 0) (raisedLimb x m w)) ≡ packLimbs n (λ i. limbCoord x i + raised m (limbCoord x) i)
+twice-limbs n m x small = xored-limbs n _ _ (limbCoord x) (raised m (limbCoord x)) (λ w h. small w) (λ w h. value-lt 64 _) (λ w j h l. sym (limb-digit x w j l)) (λ w j h l. raised-bit x m w j l)

@@ -1,4 +1,4 @@
--- The ones of a word, taken off from the lowest on, and of a row word by word; what they add at their places.
+-- The ones of a limb, taken off from the lowest on, and of a row limb by limb; what they add at their places.
 use mathlib.Core.Path.{_≡_, refl, sym, ap, _∙_}
 use mathlib.Core.List.{List}
 use Prim.Native.Nat.{ℕ, _+_, _-_, _*_, _/_, _%_, _^_, _<_, _≤_}
@@ -14,14 +14,14 @@ use borrow.Author.Tests.{eq-eqb, ne-eqb, lt-ltb, le-ltb}
 use Rattle.gf2.specs.Operands.{choose, below}
 use Rattle.gf2.proofs.TrailingZeros.{lowest-off}
 use Rattle.gf2.proofs.Operands.{below-in, below-out}
-use Rattle.operand.specs.Words.{carriedWords, wordCoord}
-use Rattle.operand.proofs.WordCoords.{word-past, word-digit}
-use Rattle.operand.proofs.WordLoops.{Words}
+use Rattle.limbs.specs.Limbs.{carriedLimbs, limbCoord}
+use Rattle.limbs.proofs.LimbCoords.{limb-past, limb-digit}
+use Rattle.limbs.proofs.LimbLoops.{Limbs}
 use Rattle.product.specs.Cells.{Added, bitFrom}
-use Rattle.product.proofs.CellLaws.{word-more, added-none, added-more, added-same}
+use Rattle.product.proofs.CellLaws.{limb-more, added-none, added-more, added-same}
 
--- what is left of a word whose bits stand for the places from `from` on: each step takes off its lowest one
-module _ (word from rest : ℕ) (small : rest < 2 ^ 64) (some : rest ≡ 0 → ⊥) where
+-- what is left of a limb whose bits stand for the places from `from` on: each step takes off its lowest one
+module _ (limb from rest : ℕ) (small : rest < 2 ^ 64) (some : rest ≡ 0 → ⊥) where
   abbrev zeros : ℕ
   zeros = trailingZeros 64 rest
 
@@ -38,23 +38,23 @@ module _ (word from rest : ℕ) (small : rest < 2 ^ 64) (some : rest ≡ 0 → �
         | no q ↦ ne-eqb s (from + zeros) q ∙ sym (ne-eqb (s - from) zeros (λ z. q (omega arith)))
       ]
 
-  -- the ones that are taken off already: those of the word and those left, modulo 2
-  pub ones-added : (x : List ℕ) {a b c : List ℕ} → Added (λ s i. (bitFrom word from s + bitFrom rest from s) * wordCoord x i) a b
-      → Added (λ s i. choose (eqb s (from + zeros)) 1 0 * wordCoord x i) b c → Added (λ s i. (bitFrom word from s + bitFrom (bitAnd rest (rest - 1)) from s) * wordCoord x i) a c
-  ones-added x p q = added-more _ _ _ p q (λ s i l. ap (λ y. ((bitFrom word from s + y) * wordCoord x i + choose (eqb s (from + zeros)) 1 0 * wordCoord x i) % 2) (sym (ones-more s)) ∙ twice _ _ _ _)
+  -- the ones that are taken off already: those of the limb and those left, modulo 2
+  pub ones-added : (x : List ℕ) {a b c : List ℕ} → Added (λ s i. (bitFrom limb from s + bitFrom rest from s) * limbCoord x i) a b
+      → Added (λ s i. choose (eqb s (from + zeros)) 1 0 * limbCoord x i) b c → Added (λ s i. (bitFrom limb from s + bitFrom (bitAnd rest (rest - 1)) from s) * limbCoord x i) a c
+  ones-added x p q = added-more _ _ _ p q (λ s i l. ap (λ y. ((bitFrom limb from s + y) * limbCoord x i + choose (eqb s (from + zeros)) 1 0 * limbCoord x i) % 2) (sym (ones-more s)) ∙ twice _ _ _ _)
     where
       twice : (w r z e : ℕ) → ((w + (r + z)) * e + z * e) % 2 ≡ (w + r) * e % 2
       twice w r z e = omega (arith, add-mul w (r + z) e, add-mul r z e, add-mul w r e)
 
-pub ones-none : (word from : ℕ) (x g : List ℕ) → Added (λ s i. (bitFrom word from s + bitFrom word from s) * wordCoord x i) g g
-ones-none word from x g = added-same (λ s i. 0) _ (added-none (λ s i. 0) g (λ s i. refl)) (λ s i l. even _ _)
+pub ones-none : (limb from : ℕ) (x g : List ℕ) → Added (λ s i. (bitFrom limb from s + bitFrom limb from s) * limbCoord x i) g g
+ones-none limb from x g = added-same (λ s i. 0) _ (added-none (λ s i. 0) g (λ s i. refl)) (λ s i l. even _ _)
   where
     even : (b e : ℕ) → 0 % 2 ≡ (b + b) * e % 2
     even b e = omega (arith, add-mul b b e)
 
-pub ones-all : (word from : ℕ) (x : List ℕ) {rest : ℕ} {a b : List ℕ} → rest ≡ 0 → Added (λ s i. (bitFrom word from s + bitFrom rest from s) * wordCoord x i) a b → Added (λ s i. bitFrom word from s * wordCoord x i) a b
+pub ones-all : (limb from : ℕ) (x : List ℕ) {rest : ℕ} {a b : List ℕ} → rest ≡ 0 → Added (λ s i. (bitFrom limb from s + bitFrom rest from s) * limbCoord x i) a b → Added (λ s i. bitFrom limb from s * limbCoord x i) a b
 unfolding bitFrom
-ones-all word from x {rest} z p = added-same _ _ p (λ s i l. ap (λ y. y * wordCoord x i % 2) (ap (λ r. bitFrom word from s + bitFrom r from s) z ∙ ap (λ y. bitFrom word from s + y) (none s) ∙ add-zero _))
+ones-all limb from x {rest} z p = added-same _ _ p (λ s i l. ap (λ y. y * limbCoord x i % 2) (ap (λ r. bitFrom limb from s + bitFrom r from s) z ∙ ap (λ y. bitFrom limb from s + y) (none s) ∙ add-zero _))
   where
     none : (s : ℕ) → bitFrom 0 from s ≡ 0
     none s = elim (decLt s from) [
@@ -62,34 +62,34 @@ ones-all word from x {rest} z p = added-same _ _ p (λ s i l. ap (λ y. y * word
       | no l ↦ rw (le-ltb s from (omega arith), zero-div)
     ]
 
--- word after word of a row
-abbrev pub wordsTo : List ℕ → List ℕ → ℕ → ℕ → ℕ → ℕ
-wordsTo row x w s i = below (w * 64) (wordCoord row) s * wordCoord x i
+-- limb after limb of a row
+abbrev pub limbsTo : List ℕ → List ℕ → ℕ → ℕ → ℕ → ℕ
+limbsTo row x w s i = below (w * 64) (limbCoord row) s * limbCoord x i
 
 module _ (row x : List ℕ) where
-  pub row-none : (g : List ℕ) → Added (wordsTo row x 0) g g
-  row-none g = added-none _ g (λ s i. ap (λ y. y * wordCoord x i) (below-out (0 * 64) (wordCoord row) s (omega arith)) ∙ omega arith)
+  pub row-none : (g : List ℕ) → Added (limbsTo row x 0) g g
+  row-none g = added-none _ g (λ s i. ap (λ y. y * limbCoord x i) (below-out (0 * 64) (limbCoord row) s (omega arith)) ∙ omega arith)
 
-  word-bits : Words row → (w s : ℕ) → bitFrom (getD row w 0) (w * 64) s ≡ choose (eqb (s / 64) w) (wordCoord row s) 0
+  limb-bits : Limbs row → (w s : ℕ) → bitFrom (getD row w 0) (w * 64) s ≡ choose (eqb (s / 64) w) (limbCoord row s) 0
   unfolding bitFrom
-  word-bits small w s = elim (decLt s (w * 64)) [
+  limb-bits small w s = elim (decLt s (w * 64)) [
     | yes l ↦ rw (lt-ltb s (w * 64) l, ne-eqb (s / 64) w (λ z. omega arith))
     | no l ↦ elim (ℕ-discrete (s / 64) w) [
-      | yes q ↦ rw (le-ltb s (w * 64) (omega arith), eq-eqb (s / 64) w q) (sym (word-digit row w (s - w * 64) (omega arith)) ∙ ap (wordCoord row) (omega arith))
+      | yes q ↦ rw (le-ltb s (w * 64) (omega arith), eq-eqb (s / 64) w q) (sym (limb-digit row w (s - w * 64) (omega arith)) ∙ ap (limbCoord row) (omega arith))
       | no q ↦ rw (le-ltb s (w * 64) (omega arith), ne-eqb (s / 64) w q)
           (ap (λ y. y % 2) (div-eq-of-lt (lt-of-lt-of-le (small w) (pow-mono {i = 64} {j = s - w * 64} (omega arith)))))
     ]
   ]
 
-  pub row-more : Words row → (w : ℕ) {a b c : List ℕ} → Added (wordsTo row x w) a b → Added (λ s i. bitFrom (getD row w 0) (w * 64) s * wordCoord x i) b c → Added (wordsTo row x (w + 1)) a c
+  pub row-more : Limbs row → (w : ℕ) {a b c : List ℕ} → Added (limbsTo row x w) a b → Added (λ s i. bitFrom (getD row w 0) (w * 64) s * limbCoord x i) b c → Added (limbsTo row x (w + 1)) a c
   row-more small w p q = added-more _ _ _ p q (λ s i l. ap (λ y. y % 2)
-      (sym (add-mul _ _ (wordCoord x i)) ∙ ap (λ y. y * wordCoord x i) (ap (λ y. below (w * 64) (wordCoord row) s + y) (word-bits small w s) ∙ word-more w s (wordCoord row))))
+      (sym (add-mul _ _ (limbCoord x i)) ∙ ap (λ y. y * limbCoord x i) (ap (λ y. below (w * 64) (limbCoord row) s + y) (limb-bits small w s) ∙ limb-more w s (limbCoord row))))
 
-  pub row-all : length row ≡ carriedWords → (w : ℕ) → carriedWords ≤ w → {a b : List ℕ} → Added (wordsTo row x w) a b → Added (λ s i. wordCoord row s * wordCoord x i) a b
-  row-all size w h p = added-same _ _ p (λ s i l. ap (λ y. y * wordCoord x i % 2) (all s))
+  pub row-all : length row ≡ carriedLimbs → (w : ℕ) → carriedLimbs ≤ w → {a b : List ℕ} → Added (limbsTo row x w) a b → Added (λ s i. limbCoord row s * limbCoord x i) a b
+  row-all size w h p = added-same _ _ p (λ s i l. ap (λ y. y * limbCoord x i % 2) (all s))
     where
-      all : (s : ℕ) → below (w * 64) (wordCoord row) s ≡ wordCoord row s
+      all : (s : ℕ) → below (w * 64) (limbCoord row) s ≡ limbCoord row s
       all s = elim (decLt s (w * 64)) [
-        | yes l ↦ below-in (w * 64) (wordCoord row) s l
-        | no l ↦ below-out (w * 64) (wordCoord row) s (omega arith) ∙ sym (word-past row s (omega arith))
+        | yes l ↦ below-in (w * 64) (limbCoord row) s l
+        | no l ↦ below-out (w * 64) (limbCoord row) s (omega arith) ∙ sym (limb-past row s (omega arith))
       ]

@@ -2,7 +2,7 @@
 -- Judgements: the faults of a product and of an inverse.
 -- Calls: what each call answers, for every input.
 -- Kernels: operands without fault, as the kernels take and make them.
--- Cells: what the kernels on words make.
+-- Cells: what the kernels on limbs make.
 -- ChainStates: the state that a step of the inverse's chain hands on.
 -- Statements: what is proved of them under an accepted table; the proofs are proofs/Theorems.antt.
 pub mod Judgements

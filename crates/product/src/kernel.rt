@@ -6,11 +6,11 @@ ghost use Rattle.gf2.specs.Sums.{sum};
 ghost use Rattle.gf2.specs.Coordinates.{coord};
 ghost use Rattle.gf2.specs.Operands.{maxWidth, choose};
 ghost use Rattle.gf2.specs.Tables.{row};
-ghost use Rattle.operand.specs.Words.{carriedWords, wordCoord, packWords};
+ghost use Rattle.limbs.specs.Limbs.{carriedLimbs, limbCoord, packLimbs};
 ghost use Rattle.table.specs.Rows.{Shaped};
-ghost use Rattle.product.specs.Cells.{twiceWords, HasPlaces, Added, Clear, isOneWay, metWords};
+ghost use Rattle.product.specs.Cells.{twiceLimbs, HasPlaces, Added, Clear, isOneWay, metLimbs};
 use crate::places;
-use crate::words;
+use crate::windows;
 use operand::Operand;
 
 // What row d meets, where xx and yy are x and y written twice: the products of coordinates i of x and i + d of y,
@@ -20,22 +20,22 @@ fn met(
     both: bool,
     m: usize,
     d: usize,
-    x: [u64; Operand::WORDS],
-    y: [u64; Operand::WORDS],
+    x: [u64; limbs::LIMBS],
+    y: [u64; limbs::LIMBS],
     xx: &[u64],
     yy: &[u64],
-) -> [u64; Operand::WORDS]
-    requires { ⌜ (m ≤ maxWidth) × (d < m) × (length (now xx) ≡ twiceWords) × (length (now yy) ≡ twiceWords) ⌝ }
-    ensures { λ r. ⌜ r ≡ packWords carriedWords (λ i. wordCoord x i * wordCoord (now (yy .entry)) (d + i) + choose (isOneWay both m d) 0 (wordCoord y i * wordCoord (now (xx .entry)) (d + i))) ⌝ }
+) -> [u64; limbs::LIMBS]
+    requires { ⌜ (m ≤ maxWidth) × (d < m) × (length (now xx) ≡ twiceLimbs) × (length (now yy) ≡ twiceLimbs) ⌝ }
+    ensures { λ r. ⌜ r ≡ packLimbs carriedLimbs (λ i. limbCoord x i * limbCoord (now (yy .entry)) (d + i) + choose (isOneWay both m d) 0 (limbCoord y i * limbCoord (now (xx .entry)) (d + i))) ⌝ }
 {
-    let one = words::masked(x, words::window(yy, d));
+    let one = windows::masked(x, windows::window(yy, d));
     if !both {
         return one;
     }
     if 2 * d == m {
         return one;
     }
-    operand::xored_words(one, words::masked(y, words::window(xx, d)))
+    limbs::xored_limbs(one, windows::masked(y, windows::window(xx, d)))
 }
 
 // What `count` rows from row `from` on add at the places of their ones.
@@ -45,15 +45,15 @@ pub(crate) fn add_rows(
     both: bool,
     from: usize,
     count: usize,
-    x: [u64; Operand::WORDS],
-    y: [u64; Operand::WORDS],
+    x: [u64; limbs::LIMBS],
+    y: [u64; limbs::LIMBS],
     g: &mut [u64],
 )
     requires { ⌜ Shaped width (now table) × Clear width x × Clear width y × (from + count ≤ width) × HasPlaces (now g) ⌝ }
-    ensures { λ _. ⌜ Added (λ s i. sum count (λ k. coord (row width (now (table .entry)) (from + k)) s * metWords both width (from + k) x y i)) (now (g .entry)) (now (g .exit)) ⌝ }
+    ensures { λ _. ⌜ Added (λ s i. sum count (λ k. coord (row width (now (table .entry)) (from + k)) s * metLimbs both width (from + k) x y i)) (now (g .entry)) (now (g .exit)) ⌝ }
 {
-    let xx = words::twice(x, width);
-    let yy = words::twice(y, width);
+    let xx = windows::twice(x, width);
+    let yy = windows::twice(y, width);
     let mut k = 0;
     while k < count {
         let e = met(both, width, from + k, x, y, &xx, &yy);

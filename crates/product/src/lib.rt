@@ -12,7 +12,7 @@ mod kernel;
 mod places;
 mod plain;
 mod reduced;
-mod words;
+mod windows;
 
 // A fault, or none and an inverse with the number of products that it took.
 pub struct InverseAnswer {

@@ -1,4 +1,4 @@
-// Places of words, at which what the ones of a row ask for is added up, and which are gathered in the end.
+// Places of limbs, at which what the ones of a row ask for is added up, and which are gathered in the end.
 ghost use mathlib.Core.Path.{_≡_};
 ghost use Prim.Native.Nat.{_+_, _*_, _<_, _≤_};
 ghost use lib.Dec.{eqb};
@@ -6,36 +6,36 @@ ghost use Rattle.gf2.specs.Sums.{sum};
 ghost use Rattle.gf2.specs.Coordinates.{coord};
 ghost use Rattle.gf2.specs.Operands.{carriedBytes, maxWidth, minus, choose, fromCoords};
 ghost use Rattle.gf2.specs.Tables.{row};
-ghost use Rattle.operand.specs.Words.{carriedWords, wordCoord, packWords, raised};
+ghost use Rattle.limbs.specs.Limbs.{carriedLimbs, limbCoord, packLimbs, raised};
 ghost use Rattle.table.specs.Rows.{Shaped};
 ghost use Rattle.product.specs.Kernels.{carried};
-ghost use Rattle.product.specs.Cells.{twiceWords, places, HasPlaces, cell, cellRaised, Added, Within, IsWidth, bitFrom};
-use crate::words;
+ghost use Rattle.product.specs.Cells.{twiceLimbs, places, HasPlaces, cell, cellRaised, Added, Within, IsWidth, bitFrom};
+use crate::windows;
 use operand::Operand;
 
-// The words of a place for each coordinate.
-pub(crate) const ROOM: usize = 8 * Operand::BYTES * Operand::WORDS;
+// The limbs of a place for each coordinate.
+pub(crate) const ROOM: usize = 8 * Operand::BYTES * limbs::LIMBS;
 
 // e is added at place s.
-pub(crate) fn add_at(g: &mut [u64], s: usize, e: [u64; Operand::WORDS])
+pub(crate) fn add_at(g: &mut [u64], s: usize, e: [u64; limbs::LIMBS])
     requires { ⌜ HasPlaces (now g) × (s < places) ⌝ }
-    ensures { λ _. ⌜ Added (λ t i. choose (eqb t s) 1 0 * wordCoord e i) (now (g .entry)) (now (g .exit)) ⌝ }
+    ensures { λ _. ⌜ Added (λ t i. choose (eqb t s) 1 0 * limbCoord e i) (now (g .entry)) (now (g .exit)) ⌝ }
 {
-    let from = s * Operand::WORDS;
+    let from = s * limbs::LIMBS;
     let mut w = 0;
-    while w < Operand::WORDS {
+    while w < limbs::LIMBS {
         g[from + w] = g[from + w] ^ e[w];
         w += 1;
     }
 }
 
-// e is added at the place of each one of a word, whose bits stand for the places from `from` on.
+// e is added at the place of each one of a limb, whose bits stand for the places from `from` on.
 // The lowest one is taken off by an and, for which the next step needn't wait.
-fn add_word(g: &mut [u64], e: [u64; Operand::WORDS], word: u64, from: usize)
+fn add_limb(g: &mut [u64], e: [u64; limbs::LIMBS], limb: u64, from: usize)
     requires { ⌜ HasPlaces (now g) × (from + 64 ≤ places) ⌝ }
-    ensures { λ _. ⌜ Added (λ s i. bitFrom word from s * wordCoord e i) (now (g .entry)) (now (g .exit)) ⌝ }
+    ensures { λ _. ⌜ Added (λ s i. bitFrom limb from s * limbCoord e i) (now (g .entry)) (now (g .exit)) ⌝ }
 {
-    let mut rest = word;
+    let mut rest = limb;
     while rest != 0 {
         let zeros = u64::trailing_zeros(rest) as usize;
         add_at(g, from + zeros, e);
@@ -44,74 +44,68 @@ fn add_word(g: &mut [u64], e: [u64; Operand::WORDS], word: u64, from: usize)
 }
 
 // e is added at the place of each one of a row.
-fn add_row(g: &mut [u64], e: [u64; Operand::WORDS], row: [u64; Operand::WORDS])
+fn add_row(g: &mut [u64], e: [u64; limbs::LIMBS], row: [u64; limbs::LIMBS])
     requires { ⌜ HasPlaces (now g) ⌝ }
-    ensures { λ _. ⌜ Added (λ s i. wordCoord row s * wordCoord e i) (now (g .entry)) (now (g .exit)) ⌝ }
+    ensures { λ _. ⌜ Added (λ s i. limbCoord row s * limbCoord e i) (now (g .entry)) (now (g .exit)) ⌝ }
 {
     let mut w = 0;
-    while w < Operand::WORDS {
-        let word = row[w];
-        add_word(g, e, word, w * 64);
+    while w < limbs::LIMBS {
+        let limb = row[w];
+        add_limb(g, e, limb, w * 64);
         w += 1;
     }
 }
 
 // The same with row d of a table.
-pub(crate) fn add_line(
-    width: usize,
-    table: &[u8],
-    d: usize,
-    e: [u64; Operand::WORDS],
-    g: &mut [u64],
-)
+pub(crate) fn add_line(width: usize, table: &[u8], d: usize, e: [u64; limbs::LIMBS], g: &mut [u64])
     requires { ⌜ Shaped width (now table) × (d < width) × HasPlaces (now g) ⌝ }
-    ensures { λ _. ⌜ Added (λ s i. coord (row width (now (table .entry)) d) s * wordCoord e i) (now (g .entry)) (now (g .exit)) ⌝ }
+    ensures { λ _. ⌜ Added (λ s i. coord (row width (now (table .entry)) d) s * limbCoord e i) (now (g .entry)) (now (g .exit)) ⌝ }
 {
     let size = operand::bytes_for(width);
     let from = d * size;
-    let line = operand::to_words(operand::carried(&table[from..from + size]));
+    let line = limbs::to_limbs(limbs::carried(&table[from..from + size]));
     add_row(g, e, line);
 }
 
 // The coordinates moved up by one place.
-fn doubled(x: [u64; words::TWICE]) -> [u64; words::TWICE]
-    ensures { λ r. ⌜ r ≡ packWords twiceWords (raised 1 (wordCoord x)) ⌝ }
+fn doubled(x: [u64; windows::TWICE]) -> [u64; windows::TWICE]
+    ensures { λ r. ⌜ r ≡ packLimbs twiceLimbs (raised 1 (limbCoord x)) ⌝ }
 {
-    let mut out = [0u64; words::TWICE];
+    let mut out = [0u64; windows::TWICE];
     let mut previous: u64 = 0;
     let mut w = 0;
-    while w < words::TWICE {
-        let word = x[w];
-        out[w] = (word << 1) | (previous >> 63);
-        previous = word;
+    while w < windows::TWICE {
+        let limb = x[w];
+        out[w] = (limb << 1) | (previous >> 63);
+        previous = limb;
         w += 1;
     }
     out
 }
 
-// x and the words at place s, from word q on.
-fn plus_at(x: [u64; words::TWICE], g: &[u64], s: usize, q: usize) -> [u64; words::TWICE]
-    requires { ⌜ HasPlaces (now g) × (s < places) × (q < carriedWords) ⌝ }
-    ensures { λ r. ⌜ r ≡ packWords twiceWords (λ i. wordCoord x i + cellRaised (now (g .entry)) s (q * 64) i) ⌝ }
+// x and the limbs at place s, from limb q on.
+fn plus_at(x: [u64; windows::TWICE], g: &[u64], s: usize, q: usize) -> [u64; windows::TWICE]
+    requires { ⌜ HasPlaces (now g) × (s < places) × (q < carriedLimbs) ⌝ }
+    ensures { λ r. ⌜ r ≡ packLimbs twiceLimbs (λ i. limbCoord x i + cellRaised (now (g .entry)) s (q * 64) i) ⌝ }
 {
-    let from = s * Operand::WORDS;
+    let from = s * limbs::LIMBS;
     let mut out = x;
     let mut w = 0;
-    while w < Operand::WORDS {
+    while w < limbs::LIMBS {
         out[q + w] = out[q + w] ^ g[from + w];
         w += 1;
     }
     out
 }
 
-// x and the words at the places r, 64 + r, .., each from its own word on.
-fn plus_column(x: [u64; words::TWICE], g: &[u64], r: usize) -> [u64; words::TWICE]
+// x and the limbs at the places r, 64 + r, .., each from its own limb on.
+fn plus_column(x: [u64; windows::TWICE], g: &[u64], r: usize) -> [u64; windows::TWICE]
     requires { ⌜ HasPlaces (now g) × (r < 64) ⌝ }
-    ensures { λ out. ⌜ out ≡ packWords twiceWords (λ i. wordCoord x i + sum carriedWords (λ q. cellRaised (now (g .entry)) (q * 64 + r) (q * 64) i)) ⌝ }
+    ensures { λ out. ⌜ out ≡ packLimbs twiceLimbs (λ i. limbCoord x i + sum carriedLimbs (λ q. cellRaised (now (g .entry)) (q * 64 + r) (q * 64) i)) ⌝ }
 {
     let mut out = x;
     let mut q = 0;
-    while q < Operand::WORDS {
+    while q < limbs::LIMBS {
         let next = plus_at(out, g, 64 * q + r, q);
         out = next;
         q += 1;
@@ -119,12 +113,12 @@ fn plus_column(x: [u64; words::TWICE], g: &[u64], r: usize) -> [u64; words::TWIC
     out
 }
 
-// The sum of all places, place s moved up s, by Horner's rule over the bits of a word.
-fn spread(g: &[u64]) -> [u64; words::TWICE]
+// The sum of all places, place s moved up s, by Horner's rule over the bits of a limb.
+fn spread(g: &[u64]) -> [u64; windows::TWICE]
     requires { ⌜ HasPlaces (now g) ⌝ }
-    ensures { λ out. ⌜ out ≡ packWords twiceWords (λ i. sum places (λ s. cellRaised (now (g .entry)) s s i)) ⌝ }
+    ensures { λ out. ⌜ out ≡ packLimbs twiceLimbs (λ i. sum places (λ s. cellRaised (now (g .entry)) s s i)) ⌝ }
 {
-    let mut acc = [0u64; words::TWICE];
+    let mut acc = [0u64; windows::TWICE];
     let mut r = 64;
     while 0 < r {
         r -= 1;
@@ -135,12 +129,12 @@ fn spread(g: &[u64]) -> [u64; words::TWICE]
 }
 
 // The operand of the coordinates below the width.
-fn below_width(x: [u64; Operand::WORDS], width: usize) -> Operand
+fn below_width(x: [u64; limbs::LIMBS], width: usize) -> Operand
     requires { ⌜ width ≤ maxWidth ⌝ }
-    ensures { λ r. ⌜ r ≡ carried width (fromCoords carriedBytes width (wordCoord x)) ⌝ }
+    ensures { λ r. ⌜ r ≡ carried width (fromCoords carriedBytes width (limbCoord x)) ⌝ }
 {
     Operand {
-        bytes: operand::to_bytes(operand::low_words(x, width)),
+        bytes: limbs::to_bytes(limbs::low_limbs(x, width)),
         width: width as u16,
     }
 }
@@ -151,8 +145,8 @@ pub(crate) fn gathered(width: usize, g: &[u64]) -> Operand
     ensures { λ r. ⌜ r ≡ carried width (fromCoords carriedBytes width (λ i. sum width (λ s. cell (now (g .entry)) s (minus width i s)))) ⌝ }
 {
     let all = spread(g);
-    let low = below_width(words::window(&all, 0), width);
-    let round = below_width(words::window(&all, width), width);
+    let low = below_width(windows::window(&all, 0), width);
+    let round = below_width(windows::window(&all, width), width);
     let sum = low.sum(round);
     sum.value
 }

@@ -13,8 +13,8 @@ pub(crate) fn times(width: usize, table: &[u8], a: Operand, b: Operand) -> Opera
 {
     let p = a.bytes;
     let q = b.bytes;
-    let x = operand::to_words(p);
-    let y = operand::to_words(q);
+    let x = limbs::to_limbs(p);
+    let y = limbs::to_limbs(q);
     let mut g = [0u64; places::ROOM];
     kernel::add_rows(width, table, false, 0, width, x, y, &mut g);
     places::gathered(width, &g)

@@ -7,7 +7,7 @@ ghost use Rattle.table.specs.Rows.{Shaped};
 ghost use Rattle.product.specs.Kernels.{Sound, carried};
 use crate::kernel;
 use crate::places;
-use crate::words;
+use crate::windows;
 use operand::Operand;
 
 pub(crate) fn times_reduced(width: usize, table: &[u8], a: Operand, b: Operand) -> Operand
@@ -16,12 +16,12 @@ pub(crate) fn times_reduced(width: usize, table: &[u8], a: Operand, b: Operand) 
 {
     let p = a.bytes;
     let q = b.bytes;
-    let x = operand::to_words(p);
-    let y = operand::to_words(q);
+    let x = limbs::to_limbs(p);
+    let y = limbs::to_limbs(q);
     let mut g = [0u64; places::ROOM];
     kernel::add_rows(width, table, true, 1, width / 2, x, y, &mut g);
     let products = Operand {
-        bytes: operand::to_bytes(words::masked(x, y)),
+        bytes: limbs::to_bytes(windows::masked(x, y)),
         width: a.width,
     };
     let diagonal = products.square();

@@ -39,7 +39,7 @@ abbrev pub Counts : ℕ → List ℕ → Netlist → CountsAnswer → Type 0
 Counts m table list reported =
     Asks (symmetryCauses m table) (symmetryFault m table) (countsAnswer reported) (andGates (list .gates)) (xorGates (list .gates))
 
--- a written list: its words in front, "Words after a written list .. stay"
+-- a written list: its words in front, "Limbs after a written list .. stay"
 abbrev pub Lists : ℕ → List ℕ → Netlist → List ℕ → Type 0
 Lists m table list old =
     Fills

@@ -16,7 +16,7 @@ use Rattle.gf2.proofs.Operands.{turned-operand}
 use Rattle.operand.specs.declared.fault.Fault.{Fault}
 use Rattle.operand.specs.declared.fault.Fault.the-variants.{None, RowPair, Triple}
 use Rattle.operand.specs.Faults.{when, firstFrom}
-use Rattle.operand.proofs.ByteLists.{Bytes}
+use Rattle.limbs.proofs.ByteLists.{Bytes}
 use Rattle.table.specs.Judgements.{rowPairFault, tripleFault}
 use Rattle.table.specs.Rows.{Shaped, mirrors, leftProduct, rightProduct, associates}
 use Rattle.table.proofs.Searches.{same-correct, when-passes, first-none}

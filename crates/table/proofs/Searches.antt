@@ -1,5 +1,5 @@
 -- What `same` and `firstFrom` decide, and the steps of a loop that searches.
--- same-correct: the same bytes are equal lists. same-words: they are compared as words.
+-- same-correct: the same bytes are equal lists. same-limbs: they are compared as limbs.
 -- three-none: no fault of three is given exactly where there is none.
 -- first-none, first-at, first-is: no fault is found exactly where there is none; else it is that of the least number.
 use mathlib.Core.Path.{_≡_, refl, sym, ap, ap₂, _∙_}
@@ -22,10 +22,10 @@ use Rattle.gf2.proofs.Coordinates.{coord-lt, pack-eq}
 use Rattle.operand.specs.declared.fault.Fault.{Fault}
 use Rattle.operand.specs.declared.fault.Fault.the-variants.{None, HighBit}
 use Rattle.operand.specs.Faults.{isNone, when, orElse, firstOf, firstFrom}
-use Rattle.operand.specs.Words.{carriedWords, wordCoord, packWords}
-use Rattle.operand.proofs.ByteLists.{Bytes}
-use Rattle.operand.proofs.WordCoords.{length-words, words-coord}
-use Rattle.operand.proofs.WordLoops.{ored, ored-at, ored-of}
+use Rattle.limbs.specs.Limbs.{carriedLimbs, limbCoord, packLimbs}
+use Rattle.limbs.proofs.ByteLists.{Bytes}
+use Rattle.limbs.proofs.LimbCoords.{length-limbs, limbs-coord}
+use Rattle.limbs.proofs.LimbLoops.{ored, ored-at, ored-of}
 use Rattle.operand.proofs.FaultLaws.{none-is, or-first, or-second, or-both, first-two, first-more}
 use Rattle.table.specs.Judgements.{same}
 
@@ -49,27 +49,27 @@ pub same-both : (a b c d : List ℕ) → (a ≡ b → c ≡ d) → (c ≡ d → 
 same-both a b c d f g =
     bool-ext _ _ (λ e. same-correct c d .1 (f (same-correct a b .0 e))) (λ e. same-correct a b .1 (g (same-correct c d .0 e)))
 
--- where words w of two lists differ
+-- where limbs w of two lists differ
 abbrev pub apart : List ℕ → List ℕ → ℕ → ℕ
 apart p q w = bitXor (getD p w 0) (getD q w 0)
 
 apart-none : (a b : ℕ) → bitXor a b ≡ 0 → a ≡ b
 apart-none a b e = omega (arith, xor-add-and a b, and-le-l a b, and-le-r a b)
 
--- bytes compared as words
-pub same-words : (x y : List ℕ) → length x ≡ carriedBytes → length y ≡ carriedBytes → Bytes x → Bytes y
-    → eqb (ored carriedWords (apart (packWords carriedWords (coord x)) (packWords carriedWords (coord y)))) 0 ≡ same x y
-same-words x y sx sy bx by = bool-ext _ _
-    (λ e. same-correct x y .1 (bytes (ext-getD 0 (words x) (words y) (length-words carriedWords (coord x) ∙ sym (length-words carriedWords (coord y))) (λ w h.
-    apart-none _ _ (ored-at carriedWords _ (eqb-true _ 0 e) w (omega (arith, length-words carriedWords (coord x))))))))
-    (λ e. eq-eqb _ 0 (ored-of carriedWords _ (λ w h. ap (λ l. apart (words x) (words l) w) (sym (same-correct x y .0 e)) ∙ xor-self (getD (words x) w 0))))
+-- bytes compared as limbs
+pub same-limbs : (x y : List ℕ) → length x ≡ carriedBytes → length y ≡ carriedBytes → Bytes x → Bytes y
+    → eqb (ored carriedLimbs (apart (packLimbs carriedLimbs (coord x)) (packLimbs carriedLimbs (coord y)))) 0 ≡ same x y
+same-limbs x y sx sy bx by = bool-ext _ _
+    (λ e. same-correct x y .1 (bytes (ext-getD 0 (limbs x) (limbs y) (length-limbs carriedLimbs (coord x) ∙ sym (length-limbs carriedLimbs (coord y))) (λ w h.
+    apart-none _ _ (ored-at carriedLimbs _ (eqb-true _ 0 e) w (omega (arith, length-limbs carriedLimbs (coord x))))))))
+    (λ e. eq-eqb _ 0 (ored-of carriedLimbs _ (λ w h. ap (λ l. apart (limbs x) (limbs l) w) (sym (same-correct x y .0 e)) ∙ xor-self (getD (limbs x) w 0))))
   where
-    words : List ℕ → List ℕ
-    words l = packWords carriedWords (coord l)
+    limbs : List ℕ → List ℕ
+    limbs l = packLimbs carriedLimbs (coord l)
 
-    bytes : words x ≡ words y → x ≡ y
+    bytes : limbs x ≡ limbs y → x ≡ y
     bytes e =
-        pack-eq carriedBytes (coord y) x sx bx (λ i h. sym (words-coord x sx i) ∙ ap (λ l. wordCoord l i) e ∙ words-coord y sy i ∙ sym (mod-eq-of-lt (coord-lt y i)))
+        pack-eq carriedBytes (coord y) x sx bx (λ i h. sym (limbs-coord x sx i) ∙ ap (λ l. limbCoord l i) e ∙ limbs-coord y sy i ∙ sym (mod-eq-of-lt (coord-lt y i)))
         ∙ sym (pack-eq carriedBytes (coord y) y sy by (λ i h. sym (mod-eq-of-lt (coord-lt y i))))
 
 -- a fault that is given where a test fails

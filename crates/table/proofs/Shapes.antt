@@ -24,8 +24,8 @@ use Rattle.operand.specs.declared.fault.Fault.{Fault}
 use Rattle.operand.specs.declared.fault.Fault.the-variants.{None, HighBit}
 use Rattle.operand.specs.Faults.{isNone, orElse, firstOf}
 use Rattle.operand.specs.Judgements.{widthFault, lengthFault}
-use Rattle.operand.proofs.ByteLists.{Bytes}
-use Rattle.operand.proofs.WordLoops.{ored, ored-at, ored-of, ored-shr}
+use Rattle.limbs.proofs.ByteLists.{Bytes}
+use Rattle.limbs.proofs.LimbLoops.{ored, ored-at, ored-of, ored-shr}
 use Rattle.operand.proofs.CallLaws.{coord-carried}
 use Rattle.operand.proofs.FaultLaws.{or-second, or-assoc, first-two, first-more, two-fine, width-fine, length-fine}
 use Rattle.operand.proofs.FaultFree.{IsWidth, width-none, length-none}

@@ -7,7 +7,7 @@ use Rattle.gf2.specs.Coordinates.{coord, pack}
 use Rattle.gf2.specs.Operands.{maxWidth, carriedBytes, fromCoords, turned}
 use Rattle.gf2.specs.Tables.{row, IsTable, basis}
 use Rattle.gf2.specs.Products.{product}
-use Rattle.operand.specs.Words.{carriedWords, wordCoord, packWords}
+use Rattle.limbs.specs.Limbs.{carriedLimbs, limbCoord, packLimbs}
 use Rattle.table.specs.Judgements.{same}
 
 -- "m is the width, 2 to 255"; "A table is m rows, each an operand of W bytes, m·W in all"
@@ -28,10 +28,10 @@ carriedRow m table d = carriedBy (row m table d)
 unfoldable pub rowsAt : ℕ → List ℕ → List ℕ → List ℕ
 rowsAt m table x = fromCoords carriedBytes m (λ s. sum m (λ k. coord x k * coord (row m table k) s))
 
--- x and the rows at the ones of a word, whose bits stand for the rows from `from` on, in words
+-- x and the rows at the ones of a limb, whose bits stand for the rows from `from` on, in words
 unfoldable pub plusRows : ℕ → List ℕ → List ℕ → ℕ → ℕ → List ℕ
-plusRows m table x word from =
-    packWords carriedWords (λ s. wordCoord x s + sum 64 (λ b. word / 2 ^ b % 2 * coord (row m table (from + b)) s))
+plusRows m table x limb from =
+    packLimbs carriedLimbs (λ s. limbCoord x s + sum 64 (λ b. limb / 2 ^ b % 2 * coord (row m table (from + b)) s))
 
 -- "row d equals row m-d turned d places"
 unfoldable pub mirrors : ℕ → List ℕ → ℕ → Bool

@@ -30,7 +30,7 @@ pub(crate) fn row_bytes(width: usize, table: &[u8], d: usize) -> [u8; Operand::B
 {
     let size = operand::bytes_for(width);
     let from = d * size;
-    operand::carried(&table[from..from + size])
+    limbs::carried(&table[from..from + size])
 }
 
 // Bits at the width and above can stand only in the last byte of a row, and in none where the width is a multiple of 8.

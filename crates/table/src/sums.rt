@@ -5,7 +5,7 @@ ghost use Rattle.gf2.specs.Coordinates.{coord};
 ghost use Rattle.gf2.specs.Operands.{carriedBytes, IsOperand};
 ghost use Rattle.gf2.specs.Tables.{row};
 ghost use Rattle.gf2.specs.Check.{rowSum};
-ghost use Rattle.operand.specs.Words.{carriedWords, wordCoord, packWords};
+ghost use Rattle.limbs.specs.Limbs.{carriedLimbs, limbCoord, packLimbs};
 ghost use Rattle.table.specs.Rows.{Shaped, carriedBy, rowsAt, plusRows};
 use crate::rows;
 use operand::Operand;
@@ -36,32 +36,27 @@ pub(crate) fn wrapped(place: usize, width: usize) -> usize
 }
 
 // The sum of `total` and row d.
-fn plus_row(
-    width: usize,
-    table: &[u8],
-    total: [u64; Operand::WORDS],
-    d: usize,
-) -> [u64; Operand::WORDS]
+fn plus_row(width: usize, table: &[u8], total: [u64; limbs::LIMBS], d: usize) -> [u64; limbs::LIMBS]
     requires { ⌜ (Shaped width (now table)) × (d < width) ⌝ }
-    ensures { λ r. ⌜ r ≡ packWords carriedWords (λ s. wordCoord total s + coord (row width (now (table .entry)) d) s) ⌝ }
+    ensures { λ r. ⌜ r ≡ packLimbs carriedLimbs (λ s. limbCoord total s + coord (row width (now (table .entry)) d) s) ⌝ }
 {
-    operand::xored_words(total, operand::to_words(rows::row_bytes(width, table, d)))
+    limbs::xored_limbs(total, limbs::to_limbs(rows::row_bytes(width, table, d)))
 }
 
-// The sum of `total` and the rows at the ones of a word, whose bits stand for the rows from `from` on.
+// The sum of `total` and the rows at the ones of a limb, whose bits stand for the rows from `from` on.
 // The lowest one is taken off by an and, for which the next step needn't wait.
 fn plus_rows(
     width: usize,
     table: &[u8],
-    total: [u64; Operand::WORDS],
-    word: u64,
+    total: [u64; limbs::LIMBS],
+    limb: u64,
     from: usize,
-) -> [u64; Operand::WORDS]
-    requires { ⌜ (Shaped width (now table)) × ((b : ℕ) → width ≤ from + b → word / 2 ^ b % 2 ≡ 0) ⌝ }
-    ensures { λ r. ⌜ r ≡ plusRows width (now (table .entry)) total word from ⌝ }
+) -> [u64; limbs::LIMBS]
+    requires { ⌜ (Shaped width (now table)) × ((b : ℕ) → width ≤ from + b → limb / 2 ^ b % 2 ≡ 0) ⌝ }
+    ensures { λ r. ⌜ r ≡ plusRows width (now (table .entry)) total limb from ⌝ }
 {
     let mut out = total;
-    let mut rest = word;
+    let mut rest = limb;
     while rest != 0 {
         let zeros = u64::trailing_zeros(rest) as usize;
         let next = plus_row(width, table, out, from + zeros);
@@ -80,14 +75,14 @@ pub(crate) fn times_first(
     requires { ⌜ (Shaped width (now table)) × (IsOperand carriedBytes width x) ⌝ }
     ensures { λ r. ⌜ r ≡ rowsAt width (now (table .entry)) x ⌝ }
 {
-    let words = operand::to_words(x);
-    let mut total = [0u64; Operand::WORDS];
+    let limbs = limbs::to_limbs(x);
+    let mut total = [0u64; limbs::LIMBS];
     let mut w = 0;
-    while w < Operand::WORDS {
-        let word = words[w];
-        let next = plus_rows(width, table, total, word, w * 64);
+    while w < limbs::LIMBS {
+        let limb = limbs[w];
+        let next = plus_rows(width, table, total, limb, w * 64);
         total = next;
         w += 1;
     }
-    operand::to_bytes(total)
+    limbs::to_bytes(total)
 }

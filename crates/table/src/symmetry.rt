@@ -9,15 +9,15 @@ use crate::rows;
 use operand::Fault;
 use operand::Operand;
 
-// Compared as words: bytes just stored word by word are read the same way.
+// Compared as limbs: bytes just stored limb by limb are read the same way.
 pub(crate) fn same_bytes(x: [u8; Operand::BYTES], y: [u8; Operand::BYTES]) -> bool
     ensures { λ r. ⌜ r ≡ same x y ⌝ }
 {
-    let p = operand::to_words(x);
-    let q = operand::to_words(y);
+    let p = limbs::to_limbs(x);
+    let q = limbs::to_limbs(y);
     let mut apart: u64 = 0;
     let mut w = 0;
-    while w < Operand::WORDS {
+    while w < limbs::LIMBS {
         apart = apart | (p[w] ^ q[w]);
         w += 1;
     }

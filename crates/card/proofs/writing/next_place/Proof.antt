@@ -3,7 +3,7 @@ use mathlib.Core.Path.{_≡_, refl, _∙_}
 use Prim.Native.Nat.{_-_, _≤_}
 use native.Mathlib.Omega.{arith}
 use lib.Count.{trailing-le}
-use Rattle.operand.specs.Words.{wordCoord}
+use Rattle.limbs.specs.Limbs.{limbCoord}
 use Rattle.card.specs.Rows.{places}
 use Rattle.card.proofs.WriteSteps.{leftOf, left-skip, begins-here, begins-from}
 use borrow.Author.Needs.{needs}
@@ -11,7 +11,7 @@ use Rattle.card.proofs.writing.next_place.Statement.{statement}
 use Rattle.card.proofs.writing.next_place.Tie as tie
 
 abbrev Inv-loop : tie.InvT-loop
-Inv-loop row from width i₀ i = (from ≤ i) × (places (wordCoord row) i (width - i) ≡ places (wordCoord row) from (width - from))
+Inv-loop row from width i₀ i = (from ≤ i) × (places (limbCoord row) i (width - i) ≡ places (limbCoord row) from (width - from))
 
 abbrev μ-loop : tie.MeasureT-loop
 μ-loop row from width i₀ i = width - i

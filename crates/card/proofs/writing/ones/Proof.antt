@@ -1,14 +1,14 @@
 -- `card::writing::ones` meets its contract.
 use Prim.Native.Nat.{_-_}
 use native.Mathlib.Omega.{arith}
-use Rattle.operand.specs.Words.{wordCoord}
+use Rattle.limbs.specs.Limbs.{limbCoord}
 use Rattle.card.proofs.WriteSteps.{OnesTo, ones-none, ones-more, ones-done}
 use borrow.Author.Needs.{needs}
 use Rattle.card.proofs.writing.ones.Statement.{statement}
 use Rattle.card.proofs.writing.ones.Tie as tie
 
 abbrev Inv-loop : tie.InvT-loop
-Inv-loop row width n₀ i₀ n i = OnesTo width (wordCoord row) n i
+Inv-loop row width n₀ i₀ n i = OnesTo width (limbCoord row) n i
 
 abbrev μ-loop : tie.MeasureT-loop
 μ-loop row width n₀ i₀ n i = width - i

@@ -1,14 +1,14 @@
 -- `card::writing::put_places` meets its contract.
 use Prim.Native.Nat.{_-_}
 use native.Mathlib.Omega.{arith}
-use Rattle.operand.specs.Words.{wordCoord}
+use Rattle.limbs.specs.Limbs.{limbCoord}
 use Rattle.card.proofs.WriteSteps.{StepsTo, steps-none, steps-more, steps-done}
 use borrow.Author.Needs.{needs}
 use Rattle.card.proofs.writing.put_places.Statement.{statement}
 use Rattle.card.proofs.writing.put_places.Tie as tie
 
 abbrev Inv-loop : tie.InvT-loop
-Inv-loop out₀ at row width next₀ free₀ i₀ out next free i = StepsTo width (wordCoord row) at out₀ out next free i
+Inv-loop out₀ at row width next₀ free₀ i₀ out next free i = StepsTo width (limbCoord row) at out₀ out next free i
 
 abbrev μ-loop : tie.MeasureT-loop
 μ-loop out₀ at row width next₀ free₀ i₀ out next free i = width - i

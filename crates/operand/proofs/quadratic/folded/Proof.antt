@@ -5,17 +5,17 @@ use native.Mathlib.Omega.{arith}
 use lib.ListN.{getD}
 use mir.Val.{Fits}
 use mir.Syntax.{w64}
-use Rattle.operand.specs.Words.{carriedWords}
-use Rattle.operand.proofs.QuadraticWords.{foldedTo, folded-none, folded-more}
+use Rattle.limbs.specs.Limbs.{carriedLimbs}
+use Rattle.operand.proofs.QuadraticLimbs.{foldedTo, folded-none, folded-more}
 use borrow.Author.Needs.{needs}
 use Rattle.operand.proofs.quadratic.folded.Statement.{statement}
 use Rattle.operand.proofs.quadratic.folded.Tie as tie
 
 abbrev Inv-loop : tie.InvT-loop
-Inv-loop x total₀ w₀ total w = (w ≤ carriedWords) × (total ≡ foldedTo x w)
+Inv-loop x total₀ w₀ total w = (w ≤ carriedLimbs) × (total ≡ foldedTo x w)
 
 abbrev μ-loop : tie.MeasureT-loop
-μ-loop x total₀ w₀ total w = carriedWords - w
+μ-loop x total₀ w₀ total w = carriedLimbs - w
 
 loop-holds : tie.Need-loop-holds Inv-loop μ-loop
 loop-holds c = (omega arith, folded-none _)
@@ -28,7 +28,7 @@ loop-again c =
 
 returns : tie.Need-returns Inv-loop μ-loop
 returns c =
-    let e : c .before .loop .w ≡ carriedWords = omega arith in
+    let e : c .before .loop .w ≡ carriedLimbs = omega arith in
     c .before .loop .inv .1 ∙ ap (foldedTo (c .before .before .args .t1)) e
 
 pub folded-spec : {M : Type 1} → statement M

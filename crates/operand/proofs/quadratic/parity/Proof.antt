@@ -1,11 +1,11 @@
 -- `operand::quadratic::parity` meets its contract.
-use Rattle.operand.proofs.QuadraticWords.{word-parity}
+use Rattle.operand.proofs.QuadraticLimbs.{limb-parity}
 use borrow.Author.Needs.{needs}
 use Rattle.operand.proofs.quadratic.parity.Statement.{statement}
 use Rattle.operand.proofs.quadratic.parity.Tie as tie
 
 returns : tie.Need-returns
-returns c = word-parity (c .args .x)
+returns c = limb-parity (c .args .x)
 
 pub parity-spec : {M : Type 1} → statement M
 parity-spec = tie.close (tie.spec (λ c. search needs) returns)

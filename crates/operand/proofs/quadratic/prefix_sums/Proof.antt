@@ -1,6 +1,6 @@
 -- `operand::quadratic::prefix_sums` meets its contract.
 use native.Mathlib.Omega.{arith}
-use Rattle.operand.proofs.QuadraticWords.{window-one, window-twice, window-carry}
+use Rattle.operand.proofs.QuadraticLimbs.{window-one, window-twice, window-carry}
 use Rattle.operand.proofs.quadratic.prefix_sums.Statement.{statement}
 use Rattle.operand.proofs.quadratic.prefix_sums.Tie as tie
 

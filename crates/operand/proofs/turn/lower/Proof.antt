@@ -3,26 +3,26 @@ use mathlib.Core.Path.{_∙_}
 use Prim.Native.Nat.{_+_, _-_, _%_}
 use native.Mathlib.Omega.{arith}
 use Rattle.gf2.proofs.Loops.{Filled, filled-none, filled-more, filled-all}
-use Rattle.operand.specs.Words.{carriedWords}
-use Rattle.operand.proofs.TurnWords.{wordOf, pairFrom, lower-bits}
+use Rattle.limbs.specs.Limbs.{carriedLimbs}
+use Rattle.limbs.proofs.TurnLimbs.{limbOf, pairFrom, lower-bits}
 use borrow.Author.Needs.{needs}
 use Rattle.operand.proofs.turn.lower.Statement.{statement}
 use Rattle.operand.proofs.turn.lower.Tie as tie
 
 abbrev Inv-loop : tie.InvT-loop
-Inv-loop k moved out₀ w₀ out w = Filled carriedWords (λ v. pairFrom (k % 64) (wordOf moved v) (wordOf moved (v + 1))) out₀ out w
+Inv-loop k moved out₀ w₀ out w = Filled carriedLimbs (λ v. pairFrom (k % 64) (limbOf moved v) (limbOf moved (v + 1))) out₀ out w
 
 abbrev μ-loop : tie.MeasureT-loop
-μ-loop k moved out₀ w₀ out w = carriedWords - w
+μ-loop k moved out₀ w₀ out w = carriedLimbs - w
 
 loop-holds : tie.Need-loop-holds Inv-loop μ-loop
-loop-holds c = filled-none carriedWords _ _
+loop-holds c = filled-none carriedLimbs _ _
 
 loop-again : tie.Need-loop-again Inv-loop μ-loop
-loop-again c = filled-more (c .before .before .before .loop .inv) (omega arith) (omega arith) (c .lower-pair .ensures ∙ rw (c .before .word-at .ensures))
+loop-again c = filled-more (c .before .before .before .loop .inv) (omega arith) (omega arith) (c .lower-pair .ensures ∙ rw (c .before .limb-at .ensures))
 
 returns : tie.Need-returns Inv-loop μ-loop
-returns c = let s = c .before .before .before in filled-all (c .before .loop .inv) (omega arith) (omega arith) ∙ lower-bits carriedWords (s .args .k) (s .args .x) (omega arith) (c .before .before .lower-words .ensures)
+returns c = let s = c .before .before .before in filled-all (c .before .loop .inv) (omega arith) (omega arith) ∙ lower-bits carriedLimbs (s .args .k) (s .args .x) (omega arith) (c .before .before .lower-limbs .ensures)
 
 pub lower-spec : {M : Type 1} → statement M
 lower-spec =

@@ -4,23 +4,23 @@ use Prim.Native.Nat.{_-_}
 use native.Mathlib.Omega.{arith}
 use Rattle.gf2.specs.Operands.{choose}
 use Rattle.gf2.proofs.Loops.{Filled, filled-none, filled-more, filled-all}
-use Rattle.operand.specs.Words.{carriedWords}
-use Rattle.operand.proofs.TurnWords.{lowered, wordOf}
+use Rattle.limbs.specs.Limbs.{carriedLimbs}
+use Rattle.limbs.proofs.TurnLimbs.{lowered, limbOf}
 use borrow.Author.Needs.{needs}
 use Rattle.operand.proofs.turn.lower_if.Statement.{statement}
 use Rattle.operand.proofs.turn.lower_if.Tie as tie
 
 abbrev Inv-loop : tie.InvT-loop
-Inv-loop c n x out₀ w₀ out w = Filled carriedWords (λ v. choose c (lowered n (wordOf x) v) (wordOf x v)) out₀ out w
+Inv-loop c n x out₀ w₀ out w = Filled carriedLimbs (λ v. choose c (lowered n (limbOf x) v) (limbOf x v)) out₀ out w
 
 abbrev μ-loop : tie.MeasureT-loop
-μ-loop c n x out₀ w₀ out w = carriedWords - w
+μ-loop c n x out₀ w₀ out w = carriedLimbs - w
 
 loop-holds : tie.Need-loop-holds Inv-loop μ-loop
-loop-holds c = filled-none carriedWords _ _
+loop-holds c = filled-none carriedLimbs _ _
 
 loop-again : tie.Need-loop-again Inv-loop μ-loop
-loop-again c = filled-more (c .before .before .before .loop .inv) (omega arith) (omega arith) (c .pick .ensures ∙ rw (c .before .word-at .ensures))
+loop-again c = filled-more (c .before .before .before .loop .inv) (omega arith) (omega arith) (c .pick .ensures ∙ rw (c .before .limb-at .ensures))
 
 returns : tie.Need-returns Inv-loop μ-loop
 returns c = filled-all (c .before .loop .inv) (omega arith) (omega arith)

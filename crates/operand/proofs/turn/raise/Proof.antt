@@ -3,26 +3,26 @@ use mathlib.Core.Path.{_∙_}
 use Prim.Native.Nat.{_-_, _%_}
 use native.Mathlib.Omega.{arith}
 use Rattle.gf2.proofs.Loops.{Filled, filled-none, filled-more, filled-all}
-use Rattle.operand.specs.Words.{carriedWords, raised}
-use Rattle.operand.proofs.TurnWords.{wordOf, pairFrom, raise-bits}
+use Rattle.limbs.specs.Limbs.{carriedLimbs, raised}
+use Rattle.limbs.proofs.TurnLimbs.{limbOf, pairFrom, raise-bits}
 use borrow.Author.Needs.{needs}
 use Rattle.operand.proofs.turn.raise.Statement.{statement}
 use Rattle.operand.proofs.turn.raise.Tie as tie
 
 abbrev Inv-loop : tie.InvT-loop
-Inv-loop k moved out₀ w₀ out w = Filled carriedWords (λ v. pairFrom (64 - k % 64) (raised 1 (wordOf moved) v) (wordOf moved v)) out₀ out w
+Inv-loop k moved out₀ w₀ out w = Filled carriedLimbs (λ v. pairFrom (64 - k % 64) (raised 1 (limbOf moved) v) (limbOf moved v)) out₀ out w
 
 abbrev μ-loop : tie.MeasureT-loop
-μ-loop k moved out₀ w₀ out w = carriedWords - w
+μ-loop k moved out₀ w₀ out w = carriedLimbs - w
 
 loop-holds : tie.Need-loop-holds Inv-loop μ-loop
-loop-holds c = filled-none carriedWords _ _
+loop-holds c = filled-none carriedLimbs _ _
 
 loop-again : tie.Need-loop-again Inv-loop μ-loop
-loop-again c = filled-more (c .before .before .before .loop .inv) (omega arith) (omega arith) (c .raise-pair .ensures ∙ rw (c .before .word-below .ensures))
+loop-again c = filled-more (c .before .before .before .loop .inv) (omega arith) (omega arith) (c .raise-pair .ensures ∙ rw (c .before .limb-below .ensures))
 
 returns : tie.Need-returns Inv-loop μ-loop
-returns c = let s = c .before .before .before in filled-all (c .before .loop .inv) (omega arith) (omega arith) ∙ raise-bits carriedWords (s .args .k) (s .args .x) (c .before .before .raise-words .ensures)
+returns c = let s = c .before .before .before in filled-all (c .before .loop .inv) (omega arith) (omega arith) ∙ raise-bits carriedLimbs (s .args .k) (s .args .x) (c .before .before .raise-limbs .ensures)
 
 pub raise-spec : {M : Type 1} → statement M
 raise-spec =

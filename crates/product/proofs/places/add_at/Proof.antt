@@ -3,7 +3,7 @@ use mathlib.Core.Path.{_≡_, refl}
 use Prim.Native.Nat.{_-_, _≤_}
 use native.Mathlib.Omega.{arith}
 use lib.ListN.{length}
-use Rattle.operand.specs.Words.{carriedWords}
+use Rattle.limbs.specs.Limbs.{carriedLimbs}
 use Rattle.product.specs.Cells.{Added}
 use Rattle.product.proofs.CellLaws.{atPlace, place-none, place-more, place-all}
 use borrow.Author.Needs.{needs}
@@ -11,10 +11,10 @@ use Rattle.product.proofs.places.add_at.Statement.{statement}
 use Rattle.product.proofs.places.add_at.Tie as tie
 
 abbrev Inv-loop : tie.InvT-loop
-Inv-loop g₀ s e from w₀ g w = (w ≤ carriedWords) × Added (atPlace s e w) g₀ g × (length g ≡ length g₀)
+Inv-loop g₀ s e from w₀ g w = (w ≤ carriedLimbs) × Added (atPlace s e w) g₀ g × (length g ≡ length g₀)
 
 abbrev μ-loop : tie.MeasureT-loop
-μ-loop g₀ s e from w₀ g w = carriedWords - w
+μ-loop g₀ s e from w₀ g w = carriedLimbs - w
 
 loop-holds : tie.Need-loop-holds Inv-loop μ-loop
 loop-holds c = (omega arith, place-none _ _ _, refl)

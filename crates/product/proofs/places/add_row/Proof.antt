@@ -5,31 +5,31 @@ use native.Mathlib.Omega.{arith}
 use lib.ListN.{length, getD}
 use mir.Val.{Fits}
 use mir.Syntax.{w64}
-use Rattle.operand.specs.Words.{carriedWords}
+use Rattle.limbs.specs.Limbs.{carriedLimbs}
 use Rattle.product.specs.Cells.{Added}
-use Rattle.product.proofs.OnesLaws.{wordsTo, row-none, row-more, row-all}
+use Rattle.product.proofs.OnesLaws.{limbsTo, row-none, row-more, row-all}
 use borrow.Author.Needs.{needs}
 use Rattle.product.proofs.places.add_row.Statement.{statement}
 use Rattle.product.proofs.places.add_row.Tie as tie
 
 abbrev Inv-loop : tie.InvT-loop
-Inv-loop g₀ e row w₀ g w = (w ≤ carriedWords) × Added (wordsTo row e w) g₀ g × (length g ≡ length g₀)
+Inv-loop g₀ e row w₀ g w = (w ≤ carriedLimbs) × Added (limbsTo row e w) g₀ g × (length g ≡ length g₀)
 
 abbrev μ-loop : tie.MeasureT-loop
-μ-loop g₀ e row w₀ g w = carriedWords - w
+μ-loop g₀ e row w₀ g w = carriedLimbs - w
 
 loop-holds : tie.Need-loop-holds Inv-loop μ-loop
 loop-holds c = (omega arith, row-none _ _ _, refl)
 
-add-word-requires : tie.Need-add-word-requires Inv-loop μ-loop
-add-word-requires c κs = (c .before .before .loop .inv .2 ∙ c .before .before .before .before .pre, omega arith)
+add-limb-requires : tie.Need-add-limb-requires Inv-loop μ-loop
+add-limb-requires c κs = (c .before .before .loop .inv .2 ∙ c .before .before .before .before .pre, omega arith)
 
 loop-again : tie.Need-loop-again Inv-loop μ-loop
 loop-again c =
     let l = c .before .before .before .before .before .loop in
     let s = c .before .before .before .before .before .before .before in
     let small : (k : ℕ) → Fits w64 (getD (s .args .t3) k 0) = λ k. search needs in
-    (omega arith, row-more (s .args .t3) (s .args .e) (λ k. small k .fits) (l .w) (l .inv .1) (c .before .before .add-word .ensures), c .before .before .add-word .ensures .size ∙ l .inv .2)
+    (omega arith, row-more (s .args .t3) (s .args .e) (λ k. small k .fits) (l .w) (l .inv .1) (c .before .before .add-limb .ensures), c .before .before .add-limb .ensures .size ∙ l .inv .2)
 
 same-length : tie.Need-same-length Inv-loop μ-loop
 same-length c = c .before .loop .inv .2
@@ -37,7 +37,7 @@ same-length c = c .before .loop .inv .2
 returns : tie.Need-returns Inv-loop μ-loop
 returns c =
     let s = c .before .before .before in
-    let size : length (s .args .t3) ≡ carriedWords = search needs in
+    let size : length (s .args .t3) ≡ carriedLimbs = search needs in
     row-all (s .args .t3) (s .args .e) size (c .before .loop .w) (omega arith) (c .before .loop .inv .1)
 
 pub add-row-spec : {M : Type 1} → statement M
@@ -50,7 +50,7 @@ add-row-spec =
     (λ c. search needs)
     (λ c. search needs)
     (λ c. search needs)
-    add-word-requires
+    add-limb-requires
     (λ c. search needs)
     (λ c. search needs)
     loop-again

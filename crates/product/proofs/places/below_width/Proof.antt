@@ -2,8 +2,8 @@
 use mathlib.Core.Path.{ap, _∙_}
 use Rattle.gf2.specs.Coordinates.{pack}
 use Rattle.gf2.specs.Operands.{carriedBytes, fromCoords}
-use Rattle.operand.specs.Words.{wordCoord}
-use Rattle.operand.proofs.WordCoords.{bytes-words}
+use Rattle.limbs.specs.Limbs.{limbCoord}
+use Rattle.limbs.proofs.LimbCoords.{bytes-limbs}
 use Rattle.product.specs.Kernels.{carried}
 use borrow.Author.Needs.{needs}
 use Rattle.product.proofs.places.below_width.Statement.{statement}
@@ -12,7 +12,7 @@ use Rattle.product.proofs.places.below_width.Tie as tie
 returns : tie.Need-returns
 unfolding fromCoords
 returns c =
-    ap (carried (c .before .before .args .width)) (c .to-bytes .ensures ∙ ap (λ z. pack carriedBytes (wordCoord z)) (c .before .low-words .ensures) ∙ bytes-words _)
+    ap (carried (c .before .before .args .width)) (c .to-bytes .ensures ∙ ap (λ z. pack carriedBytes (limbCoord z)) (c .before .low-limbs .ensures) ∙ bytes-limbs _)
 
 pub below-width-spec : {M : Type 1} → statement M
 below-width-spec = tie.close (tie.spec (λ c κs. search needs) (λ c κs. search needs) (λ c. search needs) returns)

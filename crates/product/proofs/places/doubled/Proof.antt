@@ -7,21 +7,21 @@ use lib.Bits.{bitOr}
 use mir.Val.{Fits}
 use mir.Syntax.{w64}
 use Rattle.gf2.proofs.Loops.{Filled, filled-none, filled-more, filled-all}
-use Rattle.operand.specs.Words.{raised}
-use Rattle.product.specs.Cells.{twiceWords}
-use Rattle.product.proofs.MoveLaws.{doubledWord, before-first, before-next, doubled-words}
+use Rattle.limbs.specs.Limbs.{raised}
+use Rattle.product.specs.Cells.{twiceLimbs}
+use Rattle.product.proofs.MoveLaws.{doubledLimb, before-first, before-next, doubled-limbs}
 use borrow.Author.Needs.{needs}
 use Rattle.product.proofs.places.doubled.Statement.{statement}
 use Rattle.product.proofs.places.doubled.Tie as tie
 
 abbrev Inv-loop : tie.InvT-loop
-Inv-loop x out₀ previous₀ w₀ out previous w = (previous ≡ raised 1 (λ n. getD x n 0) w) × Filled twiceWords (doubledWord x) out₀ out w
+Inv-loop x out₀ previous₀ w₀ out previous w = (previous ≡ raised 1 (λ n. getD x n 0) w) × Filled twiceLimbs (doubledLimb x) out₀ out w
 
 abbrev μ-loop : tie.MeasureT-loop
-μ-loop x out₀ previous₀ w₀ out previous w = twiceWords - w
+μ-loop x out₀ previous₀ w₀ out previous w = twiceLimbs - w
 
 loop-holds : tie.Need-loop-holds Inv-loop μ-loop
-loop-holds c = (before-first (c .args .t1), filled-none twiceWords _ _)
+loop-holds c = (before-first (c .args .t1), filled-none twiceLimbs _ _)
 
 loop-again : tie.Need-loop-again Inv-loop μ-loop
 loop-again c =
@@ -33,7 +33,7 @@ returns : tie.Need-returns Inv-loop μ-loop
 returns c =
     let x = c .before .before .args .t1 in
     let small : (k : ℕ) → Fits w64 (getD x k 0) = λ k. search needs in
-    filled-all (c .before .loop .inv .1) (omega arith) (omega arith) ∙ doubled-words twiceWords x (λ k. small k .fits)
+    filled-all (c .before .loop .inv .1) (omega arith) (omega arith) ∙ doubled-limbs twiceLimbs x (λ k. small k .fits)
 
 pub doubled-spec : {M : Type 1} → statement M
 doubled-spec =

@@ -4,8 +4,8 @@ use native.Mathlib.Omega.{arith}
 use lib.ListN.{getD}
 use mir.Val.{Fits}
 use mir.Syntax.{w64}
-use Rattle.operand.specs.Words.{carriedWords}
-use Rattle.product.specs.Cells.{twiceWords}
+use Rattle.limbs.specs.Limbs.{carriedLimbs}
+use Rattle.product.specs.Cells.{twiceLimbs}
 use Rattle.product.proofs.SpreadLaws.{Plus, plus-none, plus-more, plus-all}
 use borrow.Author.Needs.{needs}
 use Rattle.product.proofs.places.plus_at.Statement.{statement}
@@ -15,7 +15,7 @@ abbrev Inv-loop : tie.InvT-loop
 Inv-loop g s q from out₀ w₀ out w = Plus g s q out₀ w out
 
 abbrev μ-loop : tie.MeasureT-loop
-μ-loop g s q from out₀ w₀ out w = carriedWords - w
+μ-loop g s q from out₀ w₀ out w = carriedLimbs - w
 
 loop-holds : tie.Need-loop-holds Inv-loop μ-loop
 loop-holds c =
@@ -29,7 +29,7 @@ loop-again c = plus-more _ _ _ _ (c .before .before .loop .inv) (omega arith) (o
 returns : tie.Need-returns Inv-loop μ-loop
 returns c =
     let l = c .before .loop in
-    plus-all _ _ _ twiceWords (l .w) (l .inv) (omega arith) (omega arith)
+    plus-all _ _ _ twiceLimbs (l .w) (l .inv) (omega arith) (omega arith)
 
 pub plus-at-spec : {M : Type 1} → statement M
 plus-at-spec =

@@ -5,37 +5,37 @@ use native.Mathlib.Omega.{arith}
 use lib.ListN.{length, getD}
 use mir.Val.{Fits}
 use mir.Syntax.{w64}
-use Rattle.operand.specs.Words.{carriedWords, wordCoord, packWords}
-use Rattle.product.specs.Cells.{twiceWords}
+use Rattle.limbs.specs.Limbs.{carriedLimbs, limbCoord, packLimbs}
+use Rattle.product.specs.Cells.{twiceLimbs}
 use Rattle.product.proofs.SpreadLaws.{columnTo, column-none, column-more}
 use borrow.Author.Needs.{needs}
 use Rattle.product.proofs.places.plus_column.Statement.{statement}
 use Rattle.product.proofs.places.plus_column.Tie as tie
 
 abbrev Inv-loop : tie.InvT-loop
-Inv-loop g r out₀ q₀ out q = (q ≤ carriedWords) × (out ≡ packWords twiceWords (λ i. wordCoord out₀ i + columnTo g r q i))
+Inv-loop g r out₀ q₀ out q = (q ≤ carriedLimbs) × (out ≡ packLimbs twiceLimbs (λ i. limbCoord out₀ i + columnTo g r q i))
 
 abbrev μ-loop : tie.MeasureT-loop
-μ-loop g r out₀ q₀ out q = carriedWords - q
+μ-loop g r out₀ q₀ out q = carriedLimbs - q
 
 loop-holds : tie.Need-loop-holds Inv-loop μ-loop
 loop-holds c =
     let x = c .before .args .x in
     let small : (k : ℕ) → Fits w64 (getD x k 0) = λ k. search needs in
-    let size : length x ≡ twiceWords = search needs in
-    (omega arith, column-none _ _ twiceWords size (λ k. small k .fits))
+    let size : length x ≡ twiceLimbs = search needs in
+    (omega arith, column-none _ _ twiceLimbs size (λ k. small k .fits))
 
 loop-again : tie.Need-loop-again Inv-loop μ-loop
 loop-again c =
     let l = c .before .before .loop in
-    (omega arith, column-more _ _ twiceWords (l .q) _ _ (omega arith) (l .inv .1) (c .plus-at .ensures))
+    (omega arith, column-more _ _ twiceLimbs (l .q) _ _ (omega arith) (l .inv .1) (c .plus-at .ensures))
 
 returns : tie.Need-returns Inv-loop μ-loop
 returns c =
     let l = c .before .loop in
     let s = c .before .before .before .args in
-    let all : l .q ≡ carriedWords = omega (arith, l .inv .0) in
-    l .inv .1 ∙ ap (λ n. packWords twiceWords (λ i. wordCoord (s .x) i + columnTo (s .g .now) (s .r) n i)) all
+    let all : l .q ≡ carriedLimbs = omega (arith, l .inv .0) in
+    l .inv .1 ∙ ap (λ n. packLimbs twiceLimbs (λ i. limbCoord (s .x) i + columnTo (s .g .now) (s .r) n i)) all
 
 pub plus-column-spec : {M : Type 1} → statement M
 plus-column-spec =

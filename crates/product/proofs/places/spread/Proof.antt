@@ -2,29 +2,29 @@
 use mathlib.Core.Path.{_≡_}
 use Prim.Native.Nat.{_-_, _≤_}
 use native.Mathlib.Omega.{arith}
-use Rattle.operand.specs.Words.{packWords}
-use Rattle.product.specs.Cells.{twiceWords}
+use Rattle.limbs.specs.Limbs.{packLimbs}
+use Rattle.product.specs.Cells.{twiceLimbs}
 use Rattle.product.proofs.SpreadLaws.{columns, spread-none, spread-more, spread-all}
 use borrow.Author.Needs.{needs}
 use Rattle.product.proofs.places.spread.Statement.{statement}
 use Rattle.product.proofs.places.spread.Tie as tie
 
 abbrev Inv-loop : tie.InvT-loop
-Inv-loop g acc₀ r₀ acc r = (r ≤ 64) × (acc ≡ packWords twiceWords (columns g r))
+Inv-loop g acc₀ r₀ acc r = (r ≤ 64) × (acc ≡ packLimbs twiceLimbs (columns g r))
 
 abbrev μ-loop : tie.MeasureT-loop
 μ-loop g acc₀ r₀ acc r = r
 
 loop-holds : tie.Need-loop-holds Inv-loop μ-loop
-loop-holds c = (omega arith, spread-none _ twiceWords)
+loop-holds c = (omega arith, spread-none _ twiceLimbs)
 
 loop-again : tie.Need-loop-again Inv-loop μ-loop
 loop-again c =
     let l = c .before .before .before .loop in
-    (omega arith, spread-more _ twiceWords (l .r - 1) (omega (arith, c .before .before .loop-test .taken)) (omega arith) (l .inv .1) (c .before .doubled .ensures) (c .plus-column .ensures))
+    (omega arith, spread-more _ twiceLimbs (l .r - 1) (omega (arith, c .before .before .loop-test .taken)) (omega arith) (l .inv .1) (c .before .doubled .ensures) (c .plus-column .ensures))
 
 returns : tie.Need-returns Inv-loop μ-loop
-returns c = spread-all _ twiceWords (omega arith) (c .before .loop .inv .1)
+returns c = spread-all _ twiceLimbs (omega arith) (c .before .loop .inv .1)
 
 pub spread-spec : {M : Type 1} → statement M
 spread-spec =

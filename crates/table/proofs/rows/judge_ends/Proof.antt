@@ -5,7 +5,7 @@ use native.Mathlib.Omega.{arith}
 use lib.Bits.{bitOr}
 use lib.ListN.{length, getD}
 use Rattle.gf2.proofs.Sums.{every-of}
-use Rattle.operand.proofs.WordLoops.{ored, ored-none, ored-more}
+use Rattle.limbs.proofs.LimbLoops.{ored, ored-none, ored-more}
 use Rattle.table.proofs.Shapes.{row-length, rows-done, clear-whole, lastByte, last-within, ends-clear, ends-broken}
 use borrow.Author.Needs.{needs}
 use Rattle.table.proofs.rows.judge_ends.Statement.{statement}

@@ -1,7 +1,7 @@
 -- `table::sums::plus_row` meets its contract.
 use mathlib.Core.Path.{ap, _∙_}
 use Rattle.gf2.specs.Coordinates.{coord}
-use Rattle.operand.specs.Words.{carriedWords, packWords}
+use Rattle.limbs.specs.Limbs.{carriedLimbs, packLimbs}
 use Rattle.table.proofs.RowsAtOnes.{plus-row}
 use borrow.Author.Needs.{needs}
 use Rattle.table.proofs.sums.plus_row.Statement.{statement}
@@ -13,8 +13,8 @@ row-bytes-requires c κs = let p = c .before .pre in (p .0 .greatest, p .0 .isTa
 returns : tie.Need-returns
 returns c =
     let p = c .before .before .before .before in
-    c .xored-words .ensures
-    ∙ plus-row (p .pre .0) (p .args .d) (p .pre .1) (p .args .total) (c .before .to-words .ensures ∙ ap (λ x. packWords carriedWords (coord x)) (c .before .before .row-bytes .ensures))
+    c .xored-limbs .ensures
+    ∙ plus-row (p .pre .0) (p .args .d) (p .pre .1) (p .args .total) (c .before .to-limbs .ensures ∙ ap (λ x. packLimbs carriedLimbs (coord x)) (c .before .before .row-bytes .ensures))
 
 pub plus-row-spec : {M : Type 1} → statement M
 plus-row-spec =

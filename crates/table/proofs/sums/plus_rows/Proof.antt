@@ -7,25 +7,25 @@ use lib.Count.{trailingZeros, trailing-le}
 use mir.Val.{Fits}
 use mir.Syntax.{w64}
 use Rattle.gf2.proofs.TrailingZeros.{lowest-less}
-use Rattle.operand.specs.Words.{carriedWords}
+use Rattle.limbs.specs.Limbs.{carriedLimbs}
 use Rattle.table.specs.Rows.{plusRows}
-use Rattle.table.proofs.RowsAtOnes.{Packed, packed-words, packed-made, Within, ones-none, ones-step, ones-within, ones-clear}
+use Rattle.table.proofs.RowsAtOnes.{Packed, packed-limbs, packed-made, Within, ones-none, ones-step, ones-within, ones-clear}
 use borrow.Author.Needs.{needs}
 use Rattle.table.proofs.sums.plus_rows.Statement.{statement}
 use Rattle.table.proofs.sums.plus_rows.Tie as tie
 
 abbrev Inv-loop : tie.InvT-loop
-Inv-loop width table word from out₀ rest₀ out rest = (rest < 2 ^ 64) × Within width rest from × Packed out × (plusRows width table out rest from ≡ plusRows width table out₀ word from)
+Inv-loop width table limb from out₀ rest₀ out rest = (rest < 2 ^ 64) × Within width rest from × Packed out × (plusRows width table out rest from ≡ plusRows width table out₀ limb from)
 
 abbrev μ-loop : tie.MeasureT-loop
-μ-loop width table word from out₀ rest₀ out rest = rest
+μ-loop width table limb from out₀ rest₀ out rest = rest
 
 loop-holds : tie.Need-loop-holds Inv-loop μ-loop
 loop-holds c =
     let a = c .before .args in
-    let size : length (a .total) ≡ carriedWords = search needs in
+    let size : length (a .total) ≡ carriedLimbs = search needs in
     let small : (w : ℕ) → Fits w64 (getD (a .total) w 0) = λ w. search needs in
-    (c .before .fits .word .fits, c .before .pre .1, packed-words size (λ w. small w .fits), refl)
+    (c .before .fits .limb .fits, c .before .pre .1, packed-limbs size (λ w. small w .fits), refl)
 
 cast-zeros : tie.Need-cast-zeros Inv-loop μ-loop
 cast-zeros c = omega (arith, trailing-le 64 (c .before .loop .rest))

@@ -1,0 +1,33 @@
+-- `limbs::limbs::eight` meets its contract.
+use mathlib.Core.Path.{_∙_}
+use Rattle.limbs.proofs.LimbCoords.{joined-bytes}
+use borrow.Author.Needs.{needs}
+use Rattle.limbs.proofs.limbs.eight.Statement.{statement}
+use Rattle.limbs.proofs.limbs.eight.Tie as tie
+
+returns : tie.Need-returns
+returns c =
+    let s = c .before .before .before .before .before .before .before .before .before .before in
+    c .joined .ensures ∙ joined-bytes (s .args .s .now) (s .args .b) (λ k. c .before .shared-slice-known9 .given k .fits)
+
+pub eight-spec : {M : Type 1} → statement M
+eight-spec =
+    tie.close
+    (tie.spec
+    (λ c. search needs)
+    (λ c. search needs)
+    (λ c. search needs)
+    (λ c. search needs)
+    (λ c. search needs)
+    (λ c. search needs)
+    (λ c. search needs)
+    (λ c. search needs)
+    (λ c. search needs)
+    (λ c. search needs)
+    (λ c. search needs)
+    (λ c. search needs)
+    (λ c. search needs)
+    (λ c. search needs)
+    (λ c. search needs)
+    (λ c κs. search needs)
+    returns)

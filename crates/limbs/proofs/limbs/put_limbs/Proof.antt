@@ -1,0 +1,53 @@
+-- `limbs::limbs::put_limbs` meets its contract.
+use mathlib.Core.Path.{_≡_, refl, _∙_}
+use mathlib.Core.Logic.{⊎-elim}
+use Prim.Native.Nat.{_-_, _*_, _/_, _≤_}
+use native.Mathlib.Omega.{arith}
+use lib.ListN.{length}
+use Rattle.limbs.specs.Limbs.{carriedLimbs, Stored}
+use Rattle.limbs.proofs.LimbStores.{stored-none, stored-by, stored-limb}
+use borrow.Author.Needs.{needs}
+use Rattle.limbs.proofs.limbs.put_limbs.Statement.{statement}
+use Rattle.limbs.proofs.limbs.put_limbs.Tie as tie
+
+abbrev Inv-loop : tie.InvT-loop
+Inv-loop out₀ x w₀ out w = (w ≤ carriedLimbs) × (length out ≡ length out₀) × Stored x (w * 8) (length out₀ / 8 * 8) out
+
+abbrev μ-loop : tie.MeasureT-loop
+μ-loop out₀ x w₀ out w = carriedLimbs - w
+
+loop-holds : tie.Need-loop-holds Inv-loop μ-loop
+loop-holds c = (omega arith, refl, stored-none _ _ _)
+
+loop-again : tie.Need-loop-again Inv-loop μ-loop
+loop-again c =
+    let s = c .before .before .loop in
+    ⊎-elim
+    (λ x. rw (x .5) (omega arith, x .2 .ensures .size ∙ s .inv .1, stored-limb (s .w) (s .inv .2) (x .2 .ensures) (x .0 .taken)))
+    (λ x. rw (x .1) (omega arith, s .inv .1, stored-by (s .inv .2) _ _ (λ i p q. (omega (arith, s .inv .1, x .0 .left), q))))
+    (c .if1 .came)
+
+same-length : tie.Need-same-length Inv-loop μ-loop
+same-length c = c .before .loop .inv .1
+
+returns : tie.Need-returns Inv-loop μ-loop
+returns c = stored-by (c .before .loop .inv .2) _ _ (λ i p q. (omega arith, q))
+
+pub put-limbs-spec : {M : Type 1} → statement M
+put-limbs-spec =
+    tie.close
+    (tie.spec
+    Inv-loop
+    μ-loop
+    loop-holds
+    (λ c. search needs)
+    (λ c. search needs)
+    (λ c. search needs)
+    (λ c. search needs)
+    (λ c. search needs)
+    (λ c κs. search needs)
+    (λ c. search needs)
+    (λ c. search needs)
+    loop-again
+    same-length
+    returns)

@@ -1,0 +1,48 @@
+-- `limbs::limbs::put_whole` meets its contract.
+use mathlib.Core.Path.{refl}
+use Prim.Native.Nat.{_-_, _≤_}
+use native.Mathlib.Omega.{arith}
+use Rattle.limbs.specs.Limbs.{Put}
+use Rattle.limbs.proofs.LimbStores.{put-none, put-more, put-all}
+use borrow.Author.Needs.{needs}
+use Rattle.limbs.proofs.limbs.put_whole.Statement.{statement}
+use Rattle.limbs.proofs.limbs.put_whole.Tie as tie
+
+abbrev Inv-loop : tie.InvT-loop
+Inv-loop limb b out₀ j₀ out j = (j ≤ 8) × Put j limb b out₀ out
+
+abbrev μ-loop : tie.MeasureT-loop
+μ-loop limb b out₀ j₀ out j = 8 - j
+
+loop-holds : tie.Need-loop-holds Inv-loop μ-loop
+loop-holds c = (omega arith, put-none _ _ _)
+
+slice-write-out : tie.Need-slice-write-out Inv-loop μ-loop
+slice-write-out c = rw (c .before .before .loop .inv .1 .size) (omega arith)
+
+loop-again : tie.Need-loop-again Inv-loop μ-loop
+loop-again c =
+    let s = c .before .before in
+    (omega (arith, s .loop .inv .1 .size), put-more (s .loop .inv .1) refl (omega (arith, s .loop .inv .1 .size)) (c .byte-of .ensures))
+
+same-length : tie.Need-same-length Inv-loop μ-loop
+same-length c = c .before .loop .inv .1 .size
+
+returns : tie.Need-returns Inv-loop μ-loop
+returns c = put-all (c .before .loop .inv .1) (omega arith)
+
+pub put-whole-spec : {M : Type 1} → statement M
+put-whole-spec =
+    tie.close
+    (tie.spec
+    Inv-loop
+    μ-loop
+    loop-holds
+    (λ c κs. search needs)
+    (λ c. search needs)
+    slice-write-out
+    (λ c. search needs)
+    (λ c. search needs)
+    loop-again
+    same-length
+    returns)
