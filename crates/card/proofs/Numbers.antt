@@ -13,9 +13,10 @@ use lib.ListN.{length, getD, drop, drop-of-length-le}
 use lib.Seq.{drop-cons}
 use lib.Dec.{ltb, eqb}
 use borrow.Author.Tests.{lt-ltb, le-ltb, ltb-true, eq-eqb, ne-eqb, eqb-false}
+use Rattle.gf2.specs.Operands.{choose}
 use Rattle.operand.specs.declared.fault.Fault.{Fault}
 use Rattle.operand.specs.declared.fault.Fault.the-variants.{CardEnds, CardNumber}
-use Rattle.card.specs.Numbers.{pick, number, numberLimit, Read, refused, got, andThen, secondGroup, readNumber}
+use Rattle.card.specs.Numbers.{number, numberLimit, Read, refused, got, andThen, secondGroup, readNumber}
 use Rattle.card.specs.Statements.{Bytes}
 
 -- a fault is no value
@@ -29,11 +30,11 @@ parts (refused f) next e = no-value e
 parts (got a s) next e = (a, s, refl, e)
 
 -- a test that has passed
-pub passed : {A : Type 0} (t : Bool) (x : Read A) (f : Fault) {a : A} {rest : List ℕ} → pick t x (refused f) ≡ got a rest → (t ≡ true) × (x ≡ got a rest)
+pub passed : {A : Type 0} (t : Bool) (x : Read A) (f : Fault) {a : A} {rest : List ℕ} → choose t x (refused f) ≡ got a rest → (t ≡ true) × (x ≡ got a rest)
 passed true x f e = (refl, e)
 passed false x f e = no-value e
 
-pub spared : {A : Type 0} (t : Bool) (x : Read A) (f : Fault) {a : A} {rest : List ℕ} → pick t (refused f) x ≡ got a rest → (t ≡ false) × (x ≡ got a rest)
+pub spared : {A : Type 0} (t : Bool) (x : Read A) (f : Fault) {a : A} {rest : List ℕ} → choose t (refused f) x ≡ got a rest → (t ≡ false) × (x ≡ got a rest)
 spared true x f e = no-value e
 spared false x f e = (refl, e)
 

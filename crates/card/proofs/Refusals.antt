@@ -5,10 +5,11 @@ use mathlib.Core.Bool.{Bool, true, false}
 use mathlib.Core.List.{List, [], _∷_}
 use Prim.Native.Nat.{ℕ, zero, suc, _+_, _-_, _*_}
 use lib.Dec.{ltb, leb, eqb}
+use Rattle.gf2.specs.Operands.{choose}
 use Rattle.operand.specs.declared.fault.Fault.{Fault}
 use Rattle.operand.specs.declared.fault.Fault.the-variants.{CardEnds, CardNumber, CardForm, CardPlace, CardTail}
 use Rattle.operand.specs.Faults.{isNone}
-use Rattle.card.specs.Numbers.{pick, Read, refused, got, andThen, secondGroup, readNumber}
+use Rattle.card.specs.Numbers.{Read, refused, got, andThen, secondGroup, readNumber}
 use Rattle.card.specs.Rows.{after, readPlaces, readRow, rowOf, readRows}
 use Rattle.card.specs.Cards.{lentFault, readWidth, readHead, ended, readCard}
 
@@ -31,7 +32,7 @@ module _ (test : Fault → Bool) where
   then-apart (refused f) next b h = b
   then-apart (got a s) next b h = h a s
 
-  pick-apart : {A : Type 0} (t : Bool) (x y : Read A) → meets test x ≡ false → meets test y ≡ false → meets test (pick t x y) ≡ false
+  pick-apart : {A : Type 0} (t : Bool) (x y : Read A) → meets test x ≡ false → meets test y ≡ false → meets test (choose t x y) ≡ false
   pick-apart true x y hx hy = hx
   pick-apart false x y hx hy = hy
 
@@ -70,7 +71,7 @@ module _ (test : Fault → Bool) (room : ℕ) (apart : Apart test room) where
   unfolding readWidth
   width-apart s = then-apart test (readNumber s) _ (number-apart s) (λ m r. go m r (isNone (lentFault room m)) refl)
     where
-      go : (m : ℕ) (r : List ℕ) (b : Bool) → isNone (lentFault room m) ≡ b → meets test (pick (isNone (lentFault room m)) (got m r) (refused (lentFault room m))) ≡ false
+      go : (m : ℕ) (r : List ℕ) (b : Bool) → isNone (lentFault room m) ≡ b → meets test (choose (isNone (lentFault room m)) (got m r) (refused (lentFault room m))) ≡ false
       go m r true e = rw e
       go m r false e = rw e (apart .lent m e)
 

@@ -13,7 +13,7 @@ use lib.ListN.{length, take, drop, length-append}
 use lib.Seq.{take-add, take-all, take-take, take-at, drop-at, drop-drop, drop-append-add}
 use lib.Dec.{ltb, eqb}
 use borrow.Author.Tests.{lt-ltb, le-ltb, ltb-false, eqb-true}
-use Rattle.gf2.specs.Operands.{maxWidth, bytesFor, IsOperand}
+use Rattle.gf2.specs.Operands.{maxWidth, bytesFor, IsOperand, choose}
 use Rattle.gf2.specs.Tables.{row, IsTable}
 use Rattle.gf2.proofs.Operands.{from-operand, length-from}
 use Rattle.operand.specs.declared.fault.Fault.{Fault}
@@ -22,7 +22,7 @@ use Rattle.operand.specs.Faults.{isNone, when}
 use Rattle.operand.specs.Judgements.{widthFault}
 use Rattle.operand.proofs.FaultLaws.{width-fine, two-fine, two-first, two-second}
 use Rattle.operand.proofs.FaultFree.{IsWidth, width-none}
-use Rattle.card.specs.Numbers.{pick, number, Read, refused, got, readNumber}
+use Rattle.card.specs.Numbers.{number, Read, refused, got, readNumber}
 use Rattle.card.specs.Rows.{rowsCard, rowRange, after, readRow, rowOf, isPlace, readRows}
 use Rattle.card.specs.Cards.{card, lentFault, readWidth, readHead, Table, ended, readCard}
 use Rattle.card.specs.Statements.{Bytes}
@@ -195,9 +195,9 @@ pub record HeadParts (room : ℕ) (s : List ℕ) (m : ℕ) (rest : List ℕ) : T
 pub head-parts : (room : ℕ) (s : List ℕ) (m : ℕ) (rest : List ℕ) → readHead room s ≡ got m rest → HeadParts room s m rest
 unfolding readHead readWidth
 head-parts room s m rest e =
-    let (f, q, e1, e2) = parts (readNumber s) (λ form r. pick (eqb form 1) (readWidth room r) (refused CardForm)) e in
+    let (f, q, e1, e2) = parts (readNumber s) (λ form r. choose (eqb form 1) (readWidth room r) (refused CardForm)) e in
     let t = passed (eqb f 1) _ CardForm e2 in
-    let (k, r, e3, e4) = parts (readNumber q) (λ m rest. pick (isNone (lentFault room m)) (got m rest) (refused (lentFault room m))) (t .1) in
+    let (k, r, e3, e4) = parts (readNumber q) (λ m rest. choose (isNone (lentFault room m)) (got m rest) (refused (lentFault room m))) (t .1) in
     let u = passed (isNone (lentFault room k)) (got k r) (lentFault room k) e4 in
     let em : k ≡ m = cc (u .1) in
     let er : r ≡ rest = cc (u .1) in

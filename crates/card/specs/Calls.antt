@@ -9,7 +9,7 @@ use Rattle.operand.specs.declared.fault.Fault.the-variants.{None, OutputShort}
 use Rattle.operand.specs.Faults.{isNone, when, firstOf}
 use Rattle.table.specs.Judgements.{shapeFault}
 use Rattle.card.specs.declared.CardAnswer.{CardAnswer}
-use Rattle.card.specs.Numbers.{pick, Read, refused, got}
+use Rattle.card.specs.Numbers.{Read, refused, got}
 use Rattle.card.specs.Cards.{card, Table, readCard}
 
 -- a fault beside 0, or none and a value
@@ -46,4 +46,4 @@ abbrev pub writeCall : ℕ → List ℕ → List ℕ → CardAnswer
 writeCall m table old = answer (writeFault m table (length old)) (length (card m table))
 
 abbrev pub writeCard : ℕ → List ℕ → List ℕ → List ℕ
-writeCard m table old = pick (isNone (writeFault m table (length old))) (inFront (card m table) old) old
+writeCard m table old = choose (isNone (writeFault m table (length old))) (inFront (card m table) old) old

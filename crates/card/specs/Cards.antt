@@ -3,12 +3,12 @@
 use mathlib.Core.List.{List, [], _∷_, _++_}
 use Prim.Native.Nat.{ℕ, _+_, _*_}
 use lib.Dec.{ltb, eqb}
-use Rattle.gf2.specs.Operands.{bytesFor}
+use Rattle.gf2.specs.Operands.{bytesFor, choose}
 use Rattle.operand.specs.declared.fault.Fault.{Fault}
 use Rattle.operand.specs.declared.fault.Fault.the-variants.{OutputShort, CardForm, CardTail}
 use Rattle.operand.specs.Faults.{isNone, when, firstOf}
 use Rattle.operand.specs.Judgements.{widthFault}
-use Rattle.card.specs.Numbers.{pick, number, Read, refused, got, andThen, readNumber}
+use Rattle.card.specs.Numbers.{number, Read, refused, got, andThen, readNumber}
 use Rattle.card.specs.Rows.{rowsCard, readRows}
 
 -- "A card: form 1, m, then for each row .."
@@ -26,11 +26,11 @@ lentFault room m = firstOf (widthFault m ∷ when (ltb room (m * bytesFor m)) Ou
 -- the width, for a lent table of `room` bytes
 unfoldable pub readWidth : ℕ → List ℕ → Read ℕ
 readWidth room s =
-    andThen (readNumber s) (λ m rest. pick (isNone (lentFault room m)) (got m rest) (refused (lentFault room m)))
+    andThen (readNumber s) (λ m rest. choose (isNone (lentFault room m)) (got m rest) (refused (lentFault room m)))
 
 -- 14: "form not 1"
 unfoldable pub readHead : ℕ → List ℕ → Read ℕ
-readHead room s = andThen (readNumber s) (λ form rest. pick (eqb form 1) (readWidth room rest) (refused CardForm))
+readHead room s = andThen (readNumber s) (λ form rest. choose (eqb form 1) (readWidth room rest) (refused CardForm))
 
 -- what a card holds
 pub record Table : Type 0 where

@@ -3,17 +3,13 @@ use mathlib.Core.Bool.{Bool, true, false}
 use mathlib.Core.List.{List, [], _∷_}
 use Prim.Native.Nat.{ℕ, _+_, _-_, _*_, _/_, _%_}
 use lib.Dec.{ltb, eqb}
+use Rattle.gf2.specs.Operands.{choose}
 use Rattle.operand.specs.declared.fault.Fault.{Fault}
 use Rattle.operand.specs.declared.fault.Fault.the-variants.{CardEnds, CardNumber}
 
--- x where the test is true, else y
-abbrev pub pick : {A : Type 0} → Bool → A → A → A
-pick true x y = x
-pick false x y = y
-
 -- "Numbers are in seven-bit groups, low group first, high bit set when another follows, shortest form, at most two groups"
 unfoldable pub number : ℕ → List ℕ
-number n = pick (ltb n 128) (n ∷ []) ((128 + n % 128) ∷ (n / 128) ∷ [])
+number n = choose (ltb n 128) (n ∷ []) ((128 + n % 128) ∷ (n / 128) ∷ [])
 
 -- the numbers that two groups hold are those below 2^14
 abbrev pub numberLimit : ℕ
@@ -33,9 +29,9 @@ andThen (got a rest) next = next a rest
 unfoldable pub secondGroup : ℕ → List ℕ → Read ℕ
 secondGroup low [] = refused CardEnds
 secondGroup low (g ∷ rest) =
-    pick (eqb g 0) (refused CardNumber) (pick (ltb g 128) (got (low + g * 128) rest) (refused CardNumber))
+    choose (eqb g 0) (refused CardNumber) (choose (ltb g 128) (got (low + g * 128) rest) (refused CardNumber))
 
 -- 12: "card ends early"; "low group first, high bit set when another follows"
 unfoldable pub readNumber : List ℕ → Read ℕ
 readNumber [] = refused CardEnds
-readNumber (g ∷ rest) = pick (ltb g 128) (got g rest) (secondGroup (g - 128) rest)
+readNumber (g ∷ rest) = choose (ltb g 128) (got g rest) (secondGroup (g - 128) rest)

@@ -7,13 +7,13 @@ use Rattle.gf2.specs.Coordinates.{coord}
 use Rattle.gf2.specs.Operands.{bytesFor, choose, fromCoords}
 use Rattle.gf2.specs.Tables.{row}
 use Rattle.operand.specs.declared.fault.Fault.the-variants.{CardPlace}
-use Rattle.card.specs.Numbers.{pick, number, Read, refused, got, andThen, readNumber}
+use Rattle.card.specs.Numbers.{number, Read, refused, got, andThen, readNumber}
 
 -- the places where f isn't 0 among start, start + 1, .., `count` of them
 unfoldable pub places : (ℕ → ℕ) → ℕ → ℕ → List ℕ
 places f start zero = []
 places f start (suc count) =
-    pick (eqb (f start) 0) (places f (start + 1) count) (start ∷ places f (start + 1) count)
+    choose (eqb (f start) 0) (places f (start + 1) count) (start ∷ places f (start + 1) count)
 
 -- "the first place, and for each further one its place minus the previous minus 1": `free` is 0, then the previous place plus 1
 unfoldable pub steps : ℕ → List ℕ → List ℕ
@@ -47,11 +47,11 @@ unfoldable pub readPlaces : ℕ → ℕ → ℕ → List ℕ → Read (List ℕ)
 readPlaces m free zero s = got [] s
 readPlaces m free (suc count) s =
     andThen (readNumber s) (λ step rest.
-    pick (ltb (free + step) m) (after ((free + step) ∷ []) (readPlaces m (free + step + 1) count rest)) (refused CardPlace))
+    choose (ltb (free + step) m) (after ((free + step) ∷ []) (readPlaces m (free + step + 1) count rest)) (refused CardPlace))
 
 -- 15: "count above m"
 unfoldable pub readRow : ℕ → List ℕ → Read (List ℕ)
-readRow m s = andThen (readNumber s) (λ count rest. pick (leb count m) (readPlaces m 0 count rest) (refused CardPlace))
+readRow m s = andThen (readNumber s) (λ count rest. choose (leb count m) (readPlaces m 0 count rest) (refused CardPlace))
 
 -- 1 at the places of a list, 0 elsewhere
 unfoldable pub isPlace : List ℕ → ℕ → ℕ

@@ -8,7 +8,6 @@ use Rattle.operand.specs.declared.fault.Fault.{Fault}
 use Rattle.operand.specs.declared.fault.Fault.the-variants.{NoType}
 use Rattle.operand.specs.Faults.{isNone, when, firstOf}
 use Rattle.operand.specs.Judgements.{widthFault, lengthFault}
-use Rattle.operand.specs.Calls.{chooseBytes}
 use Rattle.gaussian.specs.declared.TypeAnswer.{TypeAnswer}
 use Rattle.gaussian.specs.Types.{typeOf}
 use Rattle.gaussian.specs.Table.{drawn}
@@ -35,4 +34,4 @@ drawCall m size = answer (drawFault m size) m
 
 -- the table of m and its type; on a fault the buffer as it was
 abbrev pub drawnInto : ℕ → List ℕ → List ℕ
-drawnInto m old = chooseBytes (isNone (drawFault m (length old))) (drawn m (typeOf m)) old
+drawnInto m old = choose (isNone (drawFault m (length old))) (drawn m (typeOf m)) old

@@ -36,7 +36,7 @@ unfoldable pub isClear : ℕ → List ℕ → Bool
 isClear m a = every (8 * length a) (λ i. ltb i m || eqb (coord a i) 0)
 
 -- x where the test is true, else y
-abbrev pub choose : Bool → ℕ → ℕ → ℕ
+abbrev pub choose : {A : Type 0} → Bool → A → A → A
 choose true x y = x
 choose false x y = y
 

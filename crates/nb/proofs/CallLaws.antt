@@ -25,7 +25,7 @@ use Rattle.operand.specs.declared.fault.Fault.{Fault}
 use Rattle.operand.specs.declared.fault.Fault.the-variants.{None, Width, InverseOfZero, TraceOne}
 use Rattle.operand.specs.Faults.{isNone, when, orElse, firstOf}
 use Rattle.operand.specs.Judgements.{widthFault, lengthFault, highFault, turnFault, traceFault, operandFault, pairFault, bytesFault, roomFault}
-use Rattle.operand.specs.Calls.{noOperand, chooseOperand, chooseBytes, answer, readCall, writeCall, turnCall, sumCall, traceCall, solveCall}
+use Rattle.operand.specs.Calls.{noOperand, answer, readCall, writeCall, turnCall, sumCall, traceCall, solveCall}
 use Rattle.operand.proofs.FaultLaws.{judged, or-first, or-second, or-none, or-both, or-cong, or-assoc, two-fine as both-fine, width-fine, length-fine, high-fine}
 use Rattle.operand.proofs.FaultFree.{IsWidth, carry, width-none, length-none, high-none}
 use Rattle.limbs.proofs.ByteLists.{Bytes}
@@ -66,8 +66,8 @@ module _ {sizes own : List Fault} {f s : Fault} {b : Bool} (call : Begins sizes 
   none : isNone f ≡ false
   none = judged refused t (not-true b q)
 
-  pub kept : (z old : List ℕ) → old ≡ chooseBytes (isNone f) z old
-  kept z old = sym (ap (λ b. chooseBytes b z old) none)
+  pub kept : (z old : List ℕ) → old ≡ choose (isNone f) z old
+  kept z old = sym (ap (λ b. choose b z old) none)
 
   pub refuses : {n : ℕ} (first second : ℕ) → n ≡ packedAnswer s 0 0 → n ≡ packedAnswer f first second
   unfolding packedAnswer
@@ -133,7 +133,7 @@ pub record Works (m : ℕ) (own : List Fault) (z old : List ℕ) (f : Fault) (v 
 
 -- what a call does with the fault f and the operand v of the call below
 abbrev Settled : List ℕ → Fault → Operand → Fault → List ℕ → Type 0
-Settled old f v fault new = (fault ≡ f) × (new ≡ chooseBytes (isNone fault) (pack (length old) (coord (v .bytes))) old)
+Settled old f v fault new = (fault ≡ f) × (new ≡ choose (isNone fault) (pack (length old) (coord (v .bytes))) old)
 
 -- an operand is written as its W bytes
 writes : {m : ℕ} {z : List ℕ} (old : List ℕ) → IsWidth m → IsOperand (bytesFor m) m z → length old ≡ bytesFor m → pack (length old) (coord (carriedBy z)) ≡ z
@@ -141,20 +141,20 @@ writes {m} {z} old w o size =
     ap₂ pack (size ∙ sym (o .size)) (same-coord (record { greatest = w .greatest; size = o .size })) ∙ sym (pack-coord z (o .byte))
 
 -- bytes that count only where there is no fault
-chosen : (b : Bool) {x y : List ℕ} (old : List ℕ) → (b ≡ true → x ≡ y) → chooseBytes b x old ≡ chooseBytes b y old
+chosen : (b : Bool) {x y : List ℕ} (old : List ℕ) → (b ≡ true → x ≡ y) → choose b x old ≡ choose b y old
 chosen true old e = e refl
 chosen false old e = refl
 
 -- the call has the fault `judged`, and leaves z in its result where that is none
 pub record Done (judged : Fault) (z old : List ℕ) (given : Fault) (new : List ℕ) : Type 0 where
   pub fault : given ≡ judged
-  pub bytes : new ≡ chooseBytes (isNone judged) z old
+  pub bytes : new ≡ choose (isNone judged) z old
 
 done : {m : ℕ} {sizes own : List Fault} {judged : Fault} {z old : List ℕ} {s f fault : Fault} {b : Bool} {v : Operand} {new : List ℕ}
     → Begins sizes own judged → s ≡ firstOf sizes → b ≡ isNone s → not b ≡ false → Works m own z old f v → Settled old f v fault new → Done judged z old fault new
 done {sizes = sizes} {own} {judged} {z} {old} {f = f} {fault} {v = v} call e t q w (p, r) = record {
   fault = whole;
-  bytes = r ∙ chosen (isNone fault) old written ∙ ap (λ f. chooseBytes (isNone f) z old) whole;
+  bytes = r ∙ chosen (isNone fault) old written ∙ ap (λ f. choose (isNone f) z old) whole;
 }
   where
     whole : fault ≡ judged
@@ -165,7 +165,7 @@ done {sizes = sizes} {own} {judged} {z} {old} {f = f} {fault} {v = v} call e t q
 
 -- a call that returns nothing beside its fault
 pub answered : {judged given : Fault} {z old new : List ℕ} {n : ℕ} → Done judged z old given new → n ≡ packedAnswer given 0 0
-    → (n ≡ packedAnswer judged 0 0) × (new ≡ chooseBytes (isNone judged) z old)
+    → (n ≡ packedAnswer judged 0 0) × (new ≡ choose (isNone judged) z old)
 answered d e = (e ∙ ap (λ f. packedAnswer f 0 0) (d .fault), d .bytes)
 
 -- what stands in the answer of a call below
@@ -357,7 +357,7 @@ module _ (m : ℕ) (f : ℕ → ℕ) (old : List ℕ) {r : OperandAnswer} (e : r
   unfolding answer roomFault constantBytesFault firstOf
   constant-fault = ap (λ (r : OperandAnswer). roomFault (r .value) (length old)) e ∙ go (isNone (widthFault m)) refl
     where
-      go : (b : Bool) → isNone (widthFault m) ≡ b → roomFault (chooseOperand b (carry m (fromCoords carriedBytes m f)) noOperand) (length old) ≡ constantBytesFault m old
+      go : (b : Bool) → isNone (widthFault m) ≡ b → roomFault (choose b (carry m (fromCoords carriedBytes m f)) noOperand) (length old) ≡ constantBytesFault m old
       go true n = ap (λ g. orElse (widthFault m) (orElse (lengthFault (length old) (bytesFor m)) g)) (or-second _ _ (none-true (high-none m _ (from-operand carriedBytes m f))))
       go false n = bad-room (length old) ∙ sym (or-first _ _ n ∙ bad-width m n)
 
@@ -374,7 +374,7 @@ module _ (m : ℕ) (f : ℕ → ℕ) (old : List ℕ) {r : OperandAnswer} (e : r
       Done (constantBytesFault m old) (fromCoords (bytesFor m) m f) old fault new
   constant-done p q = record {
     fault = p ∙ constant-fault;
-    bytes = q ∙ ap (λ g. chooseBytes (isNone g) (pack (length old) (coord (r .value .bytes))) old) constant-fault ∙ chosen _ old constant-value;
+    bytes = q ∙ ap (λ g. choose (isNone g) (pack (length old) (coord (r .value .bytes))) old) constant-fault ∙ chosen _ old constant-value;
   }
 
 -- the trace of an operand that is read

@@ -5,11 +5,11 @@ use mathlib.Core.List.{List, [], _∷_}
 use Prim.Native.Nat.{ℕ, zero, suc, _+_, _-_, _*_}
 use lib.ListN.{length}
 use lib.Dec.{ltb, leb, eqb}
-use Rattle.gf2.specs.Operands.{bytesFor}
+use Rattle.gf2.specs.Operands.{bytesFor, choose}
 use Rattle.operand.specs.declared.fault.Fault.{Fault}
 use Rattle.operand.specs.declared.fault.Fault.the-variants.{None, CardEnds, CardNumber, CardForm, CardPlace, CardTail}
 use Rattle.operand.specs.Faults.{isNone}
-use Rattle.card.specs.Numbers.{pick, Read, refused, got, andThen, secondGroup, readNumber}
+use Rattle.card.specs.Numbers.{Read, refused, got, andThen, secondGroup, readNumber}
 use Rattle.card.specs.Rows.{after, readPlaces, readRow, rowOf, readRows}
 use Rattle.card.specs.Cards.{lentFault, readWidth, readHead, Table, ended, readCard}
 use Rattle.card.specs.Calls.{readAnswer, readCall}
@@ -26,7 +26,7 @@ SmallIn x = Small (faultIn x)
 no-fault : Small None
 no-fault = bare None refl refl
 
-small-pick : {A : Type 0} (b : Bool) (x y : Read A) → SmallIn x → SmallIn y → SmallIn (pick b x y)
+small-pick : {A : Type 0} (b : Bool) (x y : Read A) → SmallIn x → SmallIn y → SmallIn (choose b x y)
 small-pick true x y p q = p
 small-pick false x y p q = q
 

@@ -5,13 +5,12 @@ use mathlib.Core.List.{List, [], _∷_, _++_}
 use Prim.Native.Nat.{ℕ, _+_, _*_}
 use lib.ListN.{length, getD}
 use Rattle.gf2.specs.Coordinates.{tabulate}
-use Rattle.gf2.specs.Operands.{bytesFor, fromCoords}
+use Rattle.gf2.specs.Operands.{bytesFor, fromCoords, choose}
 use Rattle.operand.specs.declared.Operand.{Operand}
 use Rattle.operand.specs.declared.fault.Fault.{Fault}
 use Rattle.operand.specs.declared.fault.Fault.the-variants.{None}
 use Rattle.operand.specs.Faults.{isNone, orElse, firstOf}
 use Rattle.operand.specs.Judgements.{lengthFault, highFault}
-use Rattle.operand.specs.Calls.{chooseBytes}
 use Rattle.operand.proofs.FaultLaws.{or-second}
 use Rattle.operand.proofs.FaultFree.{carry, width-none, length-none}
 use Rattle.table.specs.Rows.{carriedBy}
@@ -72,10 +71,10 @@ module _ (m : ℕ) (list a b old ws : List ℕ) where
     run-fault = append-goes (twoSizes m (length a) (length b) (length old)) (runOwn m list a b ws) e t q
         (r ∙ ap₂ (λ x y. runFault m list x y (length old) (length ws)) (two .isLeft) (two .isRight) ∙ own two) ∙ sym (run-begins .all)
 
-    pub run-result : {new : List ℕ} → new ≡ runResult f m list x y old → new ≡ chooseBytes (isNone (runBytesFault m list a b old ws)) (result (bytesFor m) m (readList list m) a b) old
+    pub run-result : {new : List ℕ} → new ≡ runResult f m list x y old → new ≡ choose (isNone (runBytesFault m list a b old ws)) (result (bytesFor m) m (readList list m) a b) old
     run-result h = h ∙ ap₂ (λ x y. runResult f m list x y old) (two .isLeft) (two .isRight)
-        ∙ ap₂ (λ f z. chooseBytes (isNone f) z old) run-fault (result-carried (two .left) (two .right) (readList list m) (bytesFor m))
+        ∙ ap₂ (λ f z. choose (isNone f) z old) run-fault (result-carried (two .left) (two .right) (readList list m) (bytesFor m))
 
-    pub run-wires : {new : List ℕ} → new ≡ runWires f m list x y ws → new ≡ chooseBytes (isNone (runBytesFault m list a b old ws)) (wires m (readList list m) a b) ws
+    pub run-wires : {new : List ℕ} → new ≡ runWires f m list x y ws → new ≡ choose (isNone (runBytesFault m list a b old ws)) (wires m (readList list m) a b) ws
     run-wires h = h ∙ ap₂ (λ x y. runWires f m list x y ws) (two .isLeft) (two .isRight)
-        ∙ ap₂ (λ f z. chooseBytes (isNone f) z ws) run-fault (wires-carried (two .left) (two .right) (readList list m))
+        ∙ ap₂ (λ f z. choose (isNone f) z ws) run-fault (wires-carried (two .left) (two .right) (readList list m))

@@ -1,9 +1,9 @@
 // W bytes and carried operands: the lengths of a call, an operand as it is carried, a result written.
 ghost use mathlib.Core.Path.{_≡_};
 ghost use lib.ListN.{length};
+ghost use Rattle.gf2.specs.Operands.{choose};
 ghost use Rattle.gf2.specs.Coordinates.{coord, pack};
 ghost use Rattle.operand.specs.Faults.{isNone, firstOf};
-ghost use Rattle.operand.specs.Calls.{chooseBytes};
 ghost use Rattle.nb.specs.Inner.{oneSizes, twoSizes, narrowed, carriedAs};
 use operand::Fault;
 use operand::Operand;
@@ -57,7 +57,7 @@ pub(crate) fn carry(m: usize, s: &[u8]) -> Operand
 
 // The end of a call whose lengths have no fault: the fault of the call below, and its value written where there is none.
 pub(crate) fn settle(answer: OperandAnswer, result: &mut [u8]) -> Fault
-    ensures { λ r. ⌜ (r ≡ answer .fault) × (now (result .exit) ≡ chooseBytes (isNone r) (pack (length (now (result .entry))) (coord (answer .value .bytes))) (now (result .entry))) ⌝ }
+    ensures { λ r. ⌜ (r ≡ answer .fault) × (now (result .exit) ≡ choose (isNone r) (pack (length (now (result .entry))) (coord (answer .value .bytes))) (now (result .entry))) ⌝ }
 {
     let fault = answer.fault;
     let value = answer.value;

@@ -7,13 +7,12 @@ use native.Mathlib.Nat.{mul-le-mul, mul-add, mul-pos}
 use native.Mathlib.Omega.{arith}
 use lib.ListN.{length, drop}
 use lib.Dec.{ltb}
-use Rattle.gf2.specs.Operands.{maxWidth}
+use Rattle.gf2.specs.Operands.{maxWidth, choose}
 use Rattle.gf2.specs.Tables.{IsTable, onesIn}
 use Rattle.gf2.specs.Check.{Symmetric}
 use Rattle.operand.specs.declared.fault.Fault.{Fault}
 use Rattle.operand.specs.declared.fault.Fault.the-variants.{OutputShort}
 use Rattle.operand.specs.Faults.{isNone, when}
-use Rattle.operand.specs.Calls.{chooseBytes}
 use Rattle.operand.proofs.FaultLaws.{none-is, two-first, two-second}
 use Rattle.table.specs.Rows.{Shaped}
 use Rattle.table.specs.declared.OnesAnswer.{OnesAnswer}
@@ -29,7 +28,7 @@ use Rattle.netlist.specs.Gates.{Netlist, words, andGates, xorGates}
 use Rattle.netlist.specs.Lists.{folded, ands, plainTerms, plain, mixes, reducedTerms, reduced, otherTerms, sharing, common, ifNone, fullRows}
 use Rattle.netlist.specs.Counts.{commonXors, plainGates, reducedGates, sharingGates}
 use Rattle.netlist.specs.Judgements.{outputFault}
-use Rattle.netlist.specs.Calls.{answer, refusedWith, countedAs, chooseCounts, countsCall, listFault, listCall, listBuffer}
+use Rattle.netlist.specs.Calls.{answer, refusedWith, countedAs, countsCall, listFault, listCall, listBuffer}
 use Rattle.netlist.specs.Writing.{pairTerms, foldTerms, listOf, listBy, termsBy, xorsBy}
 use Rattle.netlist.proofs.SizeLaws.{ones-most}
 use Rattle.netlist.proofs.ListLaws.{Gates, ones-positive, shared-ones, plain-gates, reduced-gates, sharing-gates, common-gates}
@@ -99,29 +98,29 @@ module _ (m : ℕ) (table : List ℕ) (list : Netlist) (old : List ℕ) where
   pub list-refused : {c : CountsAnswer} → c ≡ countsCall m table list → isNone (symmetryFault m table) ≡ false → Answered c old
   list-refused e n = (
     e ∙ ap (λ f. answer f (andGates (list .gates)) (xorGates (list .gates))) (sym first),
-    sym (ap (λ b. chooseBytes b (words m list ++ drop (length (words m list)) old) old) (ap isNone first ∙ n)),
+    sym (ap (λ b. choose b (words m list ++ drop (length (words m list)) old) old) (ap isNone first ∙ n)),
   )
     where
       first : listFault m table list old ≡ symmetryFault m table
       first = unfold listFault in two-first _ _ n
 
   pub list-delivered : {c r : CountsAnswer} {out : List ℕ} → isNone (symmetryFault m table) ≡ true → c ≡ countedAs (andGates (list .gates)) (xorGates (list .gates)) →
-      r ≡ chooseCounts (ltb (length old) (length (words m list))) (refusedWith OutputShort) c →
-      out ≡ chooseBytes (ltb (length old) (length (words m list))) old (words m list ++ drop (length (words m list)) old) → Answered r out
+      r ≡ choose (ltb (length old) (length (words m list))) (refusedWith OutputShort) c →
+      out ≡ choose (ltb (length old) (length (words m list))) old (words m list ++ drop (length (words m list)) old) → Answered r out
   list-delivered {c} {r} {out} n e h k = (
-    h ∙ ap (chooseCounts (ltb (length old) (length (words m list))) (refusedWith OutputShort)) e ∙ one (ltb (length old) (length (words m list)))
+    h ∙ ap (choose (ltb (length old) (length (words m list))) (refusedWith OutputShort)) e ∙ one (ltb (length old) (length (words m list)))
         ∙ sym (ap (λ f. answer f (andGates (list .gates)) (xorGates (list .gates))) second),
-    k ∙ buffer (ltb (length old) (length (words m list))) ∙ sym (ap (λ f. chooseBytes (isNone f) (words m list ++ drop (length (words m list)) old) old) second),
+    k ∙ buffer (ltb (length old) (length (words m list))) ∙ sym (ap (λ f. choose (isNone f) (words m list ++ drop (length (words m list)) old) old) second),
   )
     where
       second : listFault m table list old ≡ when (ltb (length old) (length (words m list))) OutputShort
       second = unfold listFault outputFault in two-second _ _ n
 
-      one : (b : Bool) → chooseCounts b (refusedWith OutputShort) (countedAs (andGates (list .gates)) (xorGates (list .gates))) ≡ answer (when b OutputShort) (andGates (list .gates)) (xorGates (list .gates))
+      one : (b : Bool) → choose b (refusedWith OutputShort) (countedAs (andGates (list .gates)) (xorGates (list .gates))) ≡ answer (when b OutputShort) (andGates (list .gates)) (xorGates (list .gates))
       one true = unfold answer isNone in refl
       one false = unfold answer isNone in refl
 
-      buffer : (b : Bool) → chooseBytes b old (words m list ++ drop (length (words m list)) old) ≡ chooseBytes (isNone (when b OutputShort)) (words m list ++ drop (length (words m list)) old) old
+      buffer : (b : Bool) → choose b old (words m list ++ drop (length (words m list)) old) ≡ choose (isNone (when b OutputShort)) (words m list ++ drop (length (words m list)) old) old
       buffer true = unfold isNone in refl
       buffer false = unfold isNone in refl
 
@@ -146,13 +145,13 @@ ones-given m table r s e = (same, rw same (ones-most m table))
 -- the answer of a call that has delivered the list l
 pub list-answer : (m : ℕ) (table : List ℕ) (list l : Netlist) (old : List ℕ) {c r : CountsAnswer} {out : List ℕ} → isNone (symmetryFault m table) ≡ true →
     c ≡ countsCall m table list → l ≡ list →
-    (r ≡ chooseCounts (ltb (length old) (length (words m l))) (refusedWith OutputShort) c) × (out ≡ chooseBytes (ltb (length old) (length (words m l))) old (words m l ++ drop (length (words m l)) old)) →
+    (r ≡ choose (ltb (length old) (length (words m l))) (refusedWith OutputShort) c) × (out ≡ choose (ltb (length old) (length (words m l))) old (words m l ++ drop (length (words m l)) old)) →
     Answered m table list old r out
 list-answer m table list l old {c} {r} {out} n e q h =
     list-delivered m table list old n (e ∙ answer-counted _ _ _ n) (moved .0) (moved .1)
   where
-    moved : (r ≡ chooseCounts (ltb (length old) (length (words m list))) (refusedWith OutputShort) c) × (out ≡ chooseBytes (ltb (length old) (length (words m list))) old (words m list ++ drop (length (words m list)) old))
-    moved = subst (λ (z : Netlist). (r ≡ chooseCounts (ltb (length old) (length (words m z))) (refusedWith OutputShort) c) × (out ≡ chooseBytes (ltb (length old) (length (words m z))) old (words m z ++ drop (length (words m z)) old))) q h
+    moved : (r ≡ choose (ltb (length old) (length (words m list))) (refusedWith OutputShort) c) × (out ≡ choose (ltb (length old) (length (words m list))) old (words m list ++ drop (length (words m list)) old))
+    moved = subst (λ (z : Netlist). (r ≡ choose (ltb (length old) (length (words m z))) (refusedWith OutputShort) c) × (out ≡ choose (ltb (length old) (length (words m z))) old (words m z ++ drop (length (words m z)) old))) q h
 
 -- the list, the terms and the gates of each method
 module _ (m : ℕ) (table : List ℕ) where

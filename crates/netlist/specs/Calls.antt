@@ -8,7 +8,6 @@ use Rattle.operand.specs.declared.Operand.{Operand}
 use Rattle.operand.specs.declared.fault.Fault.{Fault}
 use Rattle.operand.specs.declared.fault.Fault.the-variants.{None}
 use Rattle.operand.specs.Faults.{isNone, firstOf}
-use Rattle.operand.specs.Calls.{chooseBytes}
 use Rattle.table.specs.Judgements.{symmetryFault}
 use Rattle.netlist.specs.declared.CountsAnswer.{CountsAnswer}
 use Rattle.netlist.specs.Gates.{Netlist, words, andGates, xorGates}
@@ -27,10 +26,6 @@ refusedWith f = record { fault = f; ands = record { 0 = 0 }; xors = record { 0 =
 
 abbrev pub countedAs : ℕ → ℕ → CountsAnswer
 countedAs ands xors = record { fault = None; ands = record { 0 = ands }; xors = record { 0 = xors } }
-
-abbrev pub chooseCounts : Bool → CountsAnswer → CountsAnswer → CountsAnswer
-chooseCounts true x y = x
-chooseCounts false x y = y
 
 -- "The same two counts can be had without writing the list. They are the numbers of kind 0 and of kind 1 gates among the g."
 abbrev pub countsCall : ℕ → List ℕ → Netlist → CountsAnswer
@@ -59,7 +54,7 @@ listCall m table list old =
 -- "Words after a written list .. stay"; on a fault the buffer as it was
 abbrev pub listBuffer : ℕ → List ℕ → Netlist → List ℕ → List ℕ
 listBuffer m table list old =
-    chooseBytes
+    choose
     (isNone (listFault m table list old))
     (words m list ++ drop (length (words m list)) old)
     old
@@ -67,8 +62,8 @@ listBuffer m table list old =
 -- the runner: "coordinate r of the result is the value of the output wire for r"
 abbrev pub runResult : Fault → ℕ → List ℕ → Operand → Operand → List ℕ → List ℕ
 runResult f m list a b old =
-    chooseBytes (isNone f) (result (bytesFor m) m (readList list m) (a .bytes) (b .bytes)) old
+    choose (isNone f) (result (bytesFor m) m (readList list m) (a .bytes) (b .bytes)) old
 
 -- "afterwards byte n is wire n's value"
 abbrev pub runWires : Fault → ℕ → List ℕ → Operand → Operand → List ℕ → List ℕ
-runWires f m list a b old = chooseBytes (isNone f) (wires m (readList list m) (a .bytes) (b .bytes)) old
+runWires f m list a b old = choose (isNone f) (wires m (readList list m) (a .bytes) (b .bytes)) old

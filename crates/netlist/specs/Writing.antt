@@ -10,7 +10,6 @@ use lib.Seq.{sets}
 use Rattle.gf2.specs.Coordinates.{coord}
 use Rattle.gf2.specs.Operands.{choose, minus}
 use Rattle.gf2.specs.Tables.{row, onesIn}
-use Rattle.operand.specs.Calls.{chooseBytes}
 use Rattle.netlist.specs.declared.fold.Fold.{Fold}
 use Rattle.netlist.specs.declared.counts.Method.{Method}
 use Rattle.netlist.specs.declared.counts.Method.the-variants.{Plain as ByPlain, Reduced as ByReduced, Common as ByCommon}
@@ -30,7 +29,7 @@ pushed m f w =
     record { begun = true; running = choose (f .begun) (gateWire m (f .gates)) w; gates = f .gates + choose (f .begun) 1 0 }
 
 unfoldable pub stored : Fold → ℕ → List ℕ → List ℕ
-stored f w out = chooseBytes (f .begun) (sets out (2 + 3 * f .gates) (1 ∷ f .running ∷ w ∷ [])) out
+stored f w out = choose (f .begun) (sets out (2 + 3 * f .gates) (1 ∷ f .running ∷ w ∷ [])) out
 
 -- several terms more
 unfoldable pub pushedAll : ℕ → Fold → List ℕ → Fold

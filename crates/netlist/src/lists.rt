@@ -6,14 +6,13 @@ ghost use lib.ListN.{length, drop};
 ghost use lib.Seq.{sets};
 ghost use lib.Dec.{ltb};
 ghost use Rattle.gf2.specs.Sums.{sum};
-ghost use Rattle.gf2.specs.Operands.{maxWidth};
+ghost use Rattle.gf2.specs.Operands.{maxWidth, choose};
 ghost use Rattle.gf2.specs.Check.{Symmetric};
 ghost use Rattle.operand.specs.declared.fault.Fault.the-variants.{OutputShort};
-ghost use Rattle.operand.specs.Calls.{chooseBytes};
 ghost use Rattle.table.specs.Rows.{Shaped};
 ghost use Rattle.netlist.specs.Gates.{wordLimit, gateWords, words as wordsOf};
 ghost use Rattle.netlist.specs.Lists.{folds, ends, gateWire, plain, reduced, common};
-ghost use Rattle.netlist.specs.Calls.{refusedWith, chooseCounts, listCall, listBuffer};
+ghost use Rattle.netlist.specs.Calls.{refusedWith, listCall, listBuffer};
 ghost use Rattle.netlist.specs.Writing.{Successors, Put, foldTerms, pairGate, rowGates, pairGates, Started, listOf, termsBy, listBy};
 use crate::CountsAnswer;
 use crate::counts;
@@ -162,7 +161,7 @@ fn deliver(
     counts: CountsAnswer,
 ) -> CountsAnswer
     requires { ⌜ (Shaped width (now table)) × (g ≡ length (listOf terms width (now table) .gates)) × (3 * g + 1000 < wordLimit) ⌝ }
-    ensures { λ r. ⌜ (r ≡ chooseCounts (ltb (length (now (out .entry))) (length (wordsOf width (listOf terms width (now (table .entry)))))) (refusedWith OutputShort) counts) × (now (out .exit) ≡ chooseBytes (ltb (length (now (out .entry))) (length (wordsOf width (listOf terms width (now (table .entry)))))) (now (out .entry)) (wordsOf width (listOf terms width (now (table .entry))) ++ drop (length (wordsOf width (listOf terms width (now (table .entry))))) (now (out .entry)))) ⌝ }
+    ensures { λ r. ⌜ (r ≡ choose (ltb (length (now (out .entry))) (length (wordsOf width (listOf terms width (now (table .entry)))))) (refusedWith OutputShort) counts) × (now (out .exit) ≡ choose (ltb (length (now (out .entry))) (length (wordsOf width (listOf terms width (now (table .entry)))))) (now (out .entry)) (wordsOf width (listOf terms width (now (table .entry))) ++ drop (length (wordsOf width (listOf terms width (now (table .entry))))) (now (out .entry)))) ⌝ }
 {
     let q = 2 + 3 * g;
     if out.len() < q + width {

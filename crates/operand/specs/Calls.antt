@@ -17,13 +17,9 @@ use Rattle.operand.specs.Judgements.{widthFault, turnFault, traceFault, 
 abbrev pub noOperand : Operand
 noOperand = record { bytes = replicate carriedBytes 0; width = 0 }
 
-abbrev pub chooseOperand : Bool → Operand → Operand → Operand
-chooseOperand true a b = a
-chooseOperand false a b = b
-
 -- a fault with no operand, or no fault and the operand of width m with these bytes
 unfoldable pub answer : Fault → ℕ → List ℕ → OperandAnswer
-answer f m bytes = record { fault = f; value = chooseOperand (isNone f) (record { bytes = bytes; width = m }) noOperand }
+answer f m bytes = record { fault = f; value = choose (isNone f) (record { bytes = bytes; width = m }) noOperand }
 
 -- "Zero is a fixed operand of every width"
 abbrev pub zeroCall : ℕ → OperandAnswer
@@ -60,10 +56,6 @@ solveCall c =
 abbrev pub readCall : ℕ → List ℕ → OperandAnswer
 readCall m bytes = answer (bytesFault m bytes) m (pack carriedBytes (coord bytes))
 
-abbrev pub chooseBytes : Bool → List ℕ → List ℕ → List ℕ
-chooseBytes true x y = x
-chooseBytes false x y = y
-
 -- the W bytes with the operand's coordinates; on a fault the buffer as it was
 abbrev pub writeCall : Operand → List ℕ → List ℕ
-writeCall a old = chooseBytes (isNone (roomFault a (length old))) (pack (length old) (coord (a .bytes))) old
+writeCall a old = choose (isNone (roomFault a (length old))) (pack (length old) (coord (a .bytes))) old

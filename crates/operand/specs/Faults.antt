@@ -3,6 +3,7 @@ use mathlib.Core.Bool.{Bool, true, false}
 use mathlib.Core.List.{List, [], _∷_}
 use Prim.Native.Nat.{ℕ, zero, suc, _+_}
 use lib.Dec.{eqb}
+use Rattle.gf2.specs.Operands.{choose}
 use Rattle.operand.specs.declared.fault.Fault.{Fault}
 use Rattle.operand.specs.declared.fault.Fault.the-variants.{None, Width, Length, HighBit, RowZero, RowPair, Triple, RowSum, TurnCount, InverseOfZero, TraceOne, OutputShort, CardEnds, CardNumber, CardForm, CardPlace, CardTail, NoType, BadGate}
 use Rattle.operand.specs.declared.fault.FaultNumber.{FaultNumber}
@@ -38,13 +39,9 @@ abbrev pub when : Bool → Fault → Fault
 when true f = f
 when false f = None
 
-abbrev pub chooseFault : Bool → Fault → Fault → Fault
-chooseFault true f g = f
-chooseFault false f g = g
-
 -- f, or g where f is none
 unfoldable pub orElse : Fault → Fault → Fault
-orElse f g = chooseFault (isNone f) g f
+orElse f g = choose (isNone f) g f
 
 -- "Lowest number first": the first fault of a list whose causes stand in the order in which they are judged
 unfoldable pub firstOf : List Fault → Fault

@@ -7,7 +7,6 @@ use Rattle.gf2.specs.Operands.{choose}
 use Rattle.operand.specs.declared.fault.Fault.{Fault}
 use Rattle.operand.specs.declared.fault.Fault.the-variants.{None}
 use Rattle.operand.specs.Faults.{isNone}
-use Rattle.operand.specs.Calls.{chooseBytes}
 use Rattle.operand.proofs.FaultLaws.{none-is}
 use Rattle.table.proofs.Searches.{none-true}
 use Rattle.nb.specs.Packing.{packedAnswer, Packs, Unpacks}
@@ -39,10 +38,10 @@ plainly room = record { refused = unpack-refused room; answered = unpack-answere
 pub chosen : (f : Fault) (x : ℕ) → f ≡ None → choose (isNone f) x 0 ≡ x
 chosen f x e = rw (none-true e)
 
-pub lent : (f : Fault) (old result : List ℕ) → Lent f (chooseBytes (isNone f) result old) old result
+pub lent : (f : Fault) (old result : List ℕ) → Lent f (choose (isNone f) result old) old result
 lent f old result = record { kept = λ n. rw (some-false f n); written = λ e. rw (none-true e) }
 
 -- a call on bytes whose answer has these values
 pub fills : {causes : List Cause} {f : Fault} → Decided causes f → {first second : ℕ} → Packs f first second → (old result : List ℕ) →
-    Fills causes f (packedAnswer f first second) first second (chooseBytes (isNone f) result old) old result
+    Fills causes f (packedAnswer f first second) first second (choose (isNone f) result old) old result
 fills {causes} {f} d room old result = record { exact = exact d; number = plainly room; buffer = lent f old result }

@@ -11,11 +11,11 @@ use lib.ListN.{length}
 use borrow.Author.Tests.{ltb-true, ltb-false, lt-ltb, le-ltb, leb-true, leb-false, le-leb, lt-leb, eqb-true, eqb-false, eq-eqb, ne-eqb}
 use Rattle.operand.specs.declared.fault.Fault.{Fault}
 use Rattle.operand.specs.declared.fault.Fault.the-variants.{None, Width, OutputShort, CardNumber, CardForm, CardPlace, CardTail}
-use Rattle.gf2.specs.Operands.{maxWidth, bytesFor}
+use Rattle.gf2.specs.Operands.{maxWidth, bytesFor, choose}
 use Rattle.gf2.proofs.Operands.{from-operand}
 use Rattle.operand.specs.Faults.{isNone}
 use Rattle.netlist.specs.Judgements.{outputFault}
-use Rattle.card.specs.Numbers.{pick, Read, refused, got, andThen, secondGroup, readNumber}
+use Rattle.card.specs.Numbers.{Read, refused, got, andThen, secondGroup, readNumber}
 use Rattle.card.specs.Rows.{steps, onesOf, after, readPlaces, readRow, isPlace, rowOf, readRows}
 use Rattle.card.specs.Cards.{lentFault, readWidth, readHead, Table, ended, readCard}
 use Rattle.card.specs.Statements.{Bytes}
@@ -46,7 +46,7 @@ unfolding secondGroup
 second-refused low [] f l e = noSecond low l refl (refused-is e)
 second-refused low (high ∷ rest) f l e = go (eqb high 0) (ltb high 128) refl refl e
   where
-    go : (z t : Bool) → eqb high 0 ≡ z → ltb high 128 ≡ t → pick z (refused CardNumber) (pick t (got (low - 128 + high * 128) rest) (refused CardNumber)) ≡ refused f → BadNumber (low ∷ high ∷ rest) f
+    go : (z t : Bool) → eqb high 0 ≡ z → ltb high 128 ≡ t → choose z (refused CardNumber) (choose t (got (low - 128 + high * 128) rest) (refused CardNumber)) ≡ refused f → BadNumber (low ∷ high ∷ rest) f
     go true t p q e = badSecond low high rest l refl (inl (eqb-true high 0 p)) (refused-is e)
     go false true p q e = no-fault e
     go false false p q e = badSecond low high rest l refl (inr (ltb-false high 128 q)) (refused-is e)
@@ -56,7 +56,7 @@ unfolding readNumber
 number-refused [] f e = noGroup refl (refused-is e)
 number-refused (low ∷ s) f e = go (ltb low 128) refl e
   where
-    go : (t : Bool) → ltb low 128 ≡ t → pick t (got low s) (secondGroup (low - 128) s) ≡ refused f → BadNumber (low ∷ s) f
+    go : (t : Bool) → ltb low 128 ≡ t → choose t (got low s) (secondGroup (low - 128) s) ≡ refused f → BadNumber (low ∷ s) f
     go true p e = no-fault e
     go false p e = second-refused low s f (ltb-false low 128 p) e
 
@@ -81,7 +81,7 @@ fails : {A B : Type 0} (x : Read A) (next : A → List ℕ → Read B) {f : Faul
 fails (refused g) next e = inl (ap refused (sym (refused-is e)))
 fails (got a s) next e = inr (a, s, refl, e)
 
-unpassed : {A : Type 0} (t : Bool) (x : Read A) (g : Fault) {f : Fault} → pick t x (refused g) ≡ refused f →
+unpassed : {A : Type 0} (t : Bool) (x : Read A) (g : Fault) {f : Fault} → choose t x (refused g) ≡ refused f →
     ((t ≡ true) × (x ≡ refused f)) ⊎ ((t ≡ false) × (f ≡ g))
 unpassed true x g e = inl (refl, e)
 unpassed false x g e = inr (refl, refused-is e)
@@ -103,7 +103,7 @@ places-refused : (m free count : ℕ) (s : List ℕ) (f : Fault) → Bytes s →
 unfolding readPlaces steps
 places-refused m free zero s f small e = no-fault e
 places-refused m free (suc count) s f small e =
-    elim (fails (readNumber s) (λ step r. pick (ltb (free + step) m) (after ((free + step) ∷ []) (readPlaces m (free + step + 1) count r)) (refused CardPlace)) e) [
+    elim (fails (readNumber s) (λ step r. choose (ltb (free + step) m) (after ((free + step) ∷ []) (readPlaces m (free + step + 1) count r)) (refused CardPlace)) e) [
       | inl q ↦ record { ps = []; rest = s; fewer = omega arith; ordered = tt; areSteps = refl; bad = noPlace (number-refused s f q) }
       | inr w ↦
           let k = w .0 in
@@ -146,7 +146,7 @@ places-bad m free (suc count) (p ∷ ps) s rest f w l o e b =
 row-refused : (m : ℕ) (s : List ℕ) (f : Fault) → Bytes s → readRow m s ≡ refused f → BadRow m s f
 unfolding readRow
 row-refused m s f small e =
-    elim (fails (readNumber s) (λ count r. pick (leb count m) (readPlaces m 0 count r) (refused CardPlace)) e) [
+    elim (fails (readNumber s) (λ count r. choose (leb count m) (readPlaces m 0 count r) (refused CardPlace)) e) [
       | inl q ↦ noCount (number-refused s f q)
       | inr w ↦
           let k = w .0 in
@@ -255,7 +255,7 @@ lent-short room m least greatest short = go (by-lent room m .decides)
 head-refused : (room : ℕ) (s : List ℕ) (f : Fault) → Bytes s → readHead room s ≡ refused f → BadCard room s f
 unfolding readHead readWidth
 head-refused room s f small e =
-    elim (fails (readNumber s) (λ form r. pick (eqb form 1) (readWidth room r) (refused CardForm)) e) [
+    elim (fails (readNumber s) (λ form r. choose (eqb form 1) (readWidth room r) (refused CardForm)) e) [
       | inl q ↦ noForm (number-refused s f q)
       | inr w ↦
           let form = w .0 in
@@ -264,7 +264,7 @@ head-refused room s f small e =
           elim (unpassed (eqb form 1) (readWidth room middle) CardForm (w .3)) [
             | inl t ↦
                 let one : Stands 1 s middle = rw (eqb-true form 1 (t .0)) at (n .0) in
-                elim (fails (readNumber middle) (λ m r. pick (isNone (lentFault room m)) (got m r) (refused (lentFault room m))) (t .1)) [
+                elim (fails (readNumber middle) (λ m r. choose (isNone (lentFault room m)) (got m r) (refused (lentFault room m))) (t .1)) [
                   | inl q ↦ noWidth middle one (number-refused middle f q)
                   | inr v ↦
                       let m = v .0 in

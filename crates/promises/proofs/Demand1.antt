@@ -3,7 +3,7 @@ use mathlib.Core.Path.{_≡_, refl, ap, subst}
 use mathlib.Core.List.{List, [], _∷_, _++_}
 use Prim.Native.Nat.{ℕ, _+_, _*_}
 use lib.ListN.{length}
-use Rattle.gf2.specs.Operands.{bytesFor}
+use Rattle.gf2.specs.Operands.{bytesFor, choose}
 use Rattle.gf2.specs.Tables.{onesIn}
 use Rattle.operand.specs.declared.fault.Fault.{Fault}
 use Rattle.operand.specs.declared.fault.Fault.the-variants.{None}
@@ -19,7 +19,7 @@ use Rattle.netlist.specs.Judgements.{outputFault}
 use Rattle.netlist.specs.Calls.{answer, listFault, listCall}
 use Rattle.gaussian.specs.Calls.{answer as typeAnswerOf, drawFault}
 use Rattle.card.specs.declared.CardAnswer.{CardAnswer}
-use Rattle.card.specs.Numbers.{pick, Read, refused, got}
+use Rattle.card.specs.Numbers.{Read, refused, got}
 use Rattle.card.specs.Cards.{card, Table, readCard}
 use Rattle.card.specs.Calls.{readAnswer, readInto, readCall, writeFault}
 use Rattle.card.specs.Statements.{Bytes}
@@ -160,5 +160,5 @@ demand1 = record {
   report = reports;
 }
   where
-    wrote : (f : Fault) (old result : List ℕ) → Lent f (pick (isNone f) result old) old result
+    wrote : (f : Fault) (old result : List ℕ) → Lent f (choose (isNone f) result old) old result
     wrote f old result = record { kept = λ n. rw (some-false f n); written = λ e. rw (none-true e) }

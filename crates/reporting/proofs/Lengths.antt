@@ -18,7 +18,7 @@ use Rattle.io.proofs.Counting.{counts}
 use Rattle.table.specs.Rows.{Shaped}
 use Rattle.table.specs.Judgements.{symmetryFault, checkFault}
 use Rattle.table.proofs.Theorems.{acceptance as accepted-table}
-use Rattle.card.specs.Numbers.{pick, Read, refused, got}
+use Rattle.card.specs.Numbers.{Read, refused, got}
 use Rattle.card.specs.Cards.{Table, readCard}
 use Rattle.card.specs.Statements.{Bytes}
 use Rattle.card.proofs.Trips.{card-written}
@@ -81,10 +81,10 @@ module _ (m : ℕ) (table : List ℕ) (shaped : Shaped m table) where
         counts-short (ascii "common") (common m table) (lists .ofCommon .sized),
       ))
 
-  verdict-length : length (pick (isNone (checkFault m table)) (acceptance m table) (refusal (checkFault m table))) ≤ 90
+  verdict-length : length (choose (isNone (checkFault m table)) (acceptance m table) (refusal (checkFault m table))) ≤ 90
   verdict-length = go (isNone (checkFault m table)) refl
     where
-      go : (b : Bool) → isNone (checkFault m table) ≡ b → length (pick b (acceptance m table) (refusal (checkFault m table))) ≤ 90
+      go : (b : Bool) → isNone (checkFault m table) ≡ b → length (choose b (acceptance m table) (refusal (checkFault m table))) ≤ 90
       go true e = acceptance-length (none-is _ e)
       go false e = omega (arith, refusal-length (checkFault m table))
 
@@ -111,7 +111,7 @@ pub report-length : (s : List ℕ) → Bytes s → length (report s) ≤ room
 unfolding report
 report-length s small = go (ltb inputLimit (length s))
   where
-    go : (b : Bool) → length (pick b (refusal Length) (readReport (readCard lent s))) ≤ room
+    go : (b : Bool) → length (choose b (refusal Length) (readReport (readCard lent s))) ≤ room
     go true = omega (arith, refusal-length Length)
     go false = read-length s small (readCard lent s) refl
 

@@ -7,7 +7,7 @@ use native.Mathlib.Nat.{mul-le-mul}
 use native.Mathlib.Omega.{arith}
 use lib.ListN.{length}
 use lib.Dec.{ltb, leb, eqb}
-use Rattle.gf2.specs.Operands.{maxWidth, bytesFor}
+use Rattle.gf2.specs.Operands.{maxWidth, bytesFor, choose}
 use Rattle.gf2.specs.Tables.{row, basis, onesIn}
 use Rattle.operand.specs.declared.fault.Fault.{Fault}
 use Rattle.operand.specs.declared.fault.Fault.the-variants.{None, Width, Length, RowZero, RowPair, Triple}
@@ -20,7 +20,7 @@ use Rattle.table.proofs.Searches.{three-first, three-second, three-third}
 use Rattle.table.proofs.Rules.{mirrorFault, mirror-search, pairFault, rowFault, triple-search}
 use Rattle.table.proofs.Shapes.{shape-none}
 use Rattle.table.proofs.Theorems.{row-sums}
-use Rattle.card.specs.Numbers.{pick, Read, refused, got}
+use Rattle.card.specs.Numbers.{Read, refused, got}
 use Rattle.card.specs.Cards.{Table, lentFault, readCard}
 use Rattle.card.specs.Statements.{Bytes}
 use Rattle.card.proofs.Trips.{lent-width, lent-room, card-written}
@@ -122,7 +122,7 @@ verdict-apart : (s : List ℕ) → Bytes s → barred (verdict s) ≡ false
 unfolding verdict
 verdict-apart s small = go (ltb inputLimit (length s))
   where
-    go : (b : Bool) → barred (pick b Length (readVerdict (readCard lent s))) ≡ false
+    go : (b : Bool) → barred (choose b Length (readVerdict (readCard lent s))) ≡ false
     go true = unfold barred in refl
     go false = read-apart s small (readCard lent s) refl
 
@@ -158,6 +158,6 @@ pub report-ends : (s : List ℕ) → isNone (verdict s) ≡ false → EndsWith (
 unfolding report verdict
 report-ends s e = go (ltb inputLimit (length s)) e
   where
-    go : (b : Bool) → isNone (pick b Length (readVerdict (readCard lent s))) ≡ false → EndsWith (pick b (refusal Length) (readReport (readCard lent s))) (refusal (pick b Length (readVerdict (readCard lent s))))
+    go : (b : Bool) → isNone (choose b Length (readVerdict (readCard lent s))) ≡ false → EndsWith (choose b (refusal Length) (readReport (readCard lent s))) (refusal (choose b Length (readVerdict (readCard lent s))))
     go true h = ([], refl)
     go false h = read-ends (readCard lent s) h

@@ -3,13 +3,13 @@ use mathlib.Core.List.{List, [], _∷_, _++_}
 use Prim.Native.Nat.{ℕ, _*_}
 use lib.ListN.{length}
 use lib.Dec.{ltb}
-use Rattle.gf2.specs.Operands.{maxWidth, bytesFor}
+use Rattle.gf2.specs.Operands.{maxWidth, bytesFor, choose}
 use Rattle.gf2.specs.Tables.{onesIn}
 use Rattle.operand.specs.declared.fault.Fault.{Fault}
 use Rattle.operand.specs.declared.fault.Fault.the-variants.{Length}
 use Rattle.operand.specs.Faults.{numberOf, isNone}
 use Rattle.table.specs.Judgements.{checkFault}
-use Rattle.card.specs.Numbers.{pick, Read, refused, got}
+use Rattle.card.specs.Numbers.{Read, refused, got}
 use Rattle.card.specs.Cards.{Table, readCard}
 use Rattle.netlist.specs.declared.CountsAnswer.{CountsAnswer}
 use Rattle.netlist.specs.Calls.{countsPlainCall, countsReducedCall, countsCommonCall}
@@ -44,7 +44,7 @@ unfoldable pub tableReport : ℕ → List ℕ → List ℕ
 tableReport m table =
     line (ascii "width") (m ∷ [])
     ++ (line (ascii "ones") (onesIn m table ∷ [])
-    ++ pick (isNone (checkFault m table)) (acceptance m table) (refusal (checkFault m table)))
+    ++ choose (isNone (checkFault m table)) (acceptance m table) (refusal (checkFault m table)))
 
 -- "A card fault prints only `refused` and the number"
 abbrev pub readReport : Read Table → List ℕ
@@ -53,7 +53,7 @@ readReport (got t rest) = tableReport (t .width) (t .bytes)
 
 -- what is printed for the bytes s of standard input
 unfoldable pub report : List ℕ → List ℕ
-report s = pick (ltb inputLimit (length s)) (refusal Length) (readReport (readCard lent s))
+report s = choose (ltb inputLimit (length s)) (refusal Length) (readReport (readCard lent s))
 
 -- the fault that is reported: the card's, or the check's
 abbrev pub readVerdict : Read Table → Fault
@@ -64,4 +64,4 @@ readVerdict (got t rest) = checkFault (t .width) (t .bytes)
 -- It is never 3, as reading a card makes no bit at m or above; never 7, as rules 4 to 6 imply rule 7; never 11, as the lent table
 -- has room for the greatest width. `ReportLaws` of Statements states it.
 unfoldable pub verdict : List ℕ → Fault
-verdict s = pick (ltb inputLimit (length s)) Length (readVerdict (readCard lent s))
+verdict s = choose (ltb inputLimit (length s)) Length (readVerdict (readCard lent s))

@@ -3,16 +3,15 @@ use mathlib.Core.List.{List, [], _∷_}
 use Prim.Native.Nat.{ℕ, _+_, _*_, _≤_}
 use lib.ListN.{length, take, set}
 use lib.Dec.{ltb}
-use Rattle.gf2.specs.Operands.{bytesFor}
+use Rattle.gf2.specs.Operands.{bytesFor, choose}
 use Rattle.table.specs.Rows.{Shaped}
-use Rattle.card.specs.Numbers.{pick}
 use Rattle.reporting.specs.declared.text.Text.{Text}
 use Rattle.reporting.specs.Text.{room}
 
 -- a byte more, where there is room
 unfoldable pub pushed : Text → ℕ → Text
 pushed t b =
-    pick (ltb (t .length) room) (record { bytes = set (t .bytes) (t .length) b; length = t .length + 1 }) t
+    choose (ltb (t .length) room) (record { bytes = set (t .bytes) (t .length) b; length = t .length + 1 }) t
 
 -- some bytes more
 unfoldable pub appended : Text → List ℕ → Text
