@@ -7,6 +7,7 @@
 -- TrailingZeros: the zeros below the lowest one of a number.
 -- Loops: the invariant of a loop that fills a list.
 -- Operands: laws of operands as bytes, by their coordinates.
+-- Decisions: each test of the definitions is true exactly when its proposition holds.
 -- Index: the indices 0 .. p, added and subtracted modulo p + 1.
 -- IndexSums: sums over all indices.
 -- Vector: vectors of bits: turn, basis, linear combination, sum.
@@ -28,6 +29,7 @@ pub mod Remainders
 pub mod TrailingZeros
 pub mod Loops
 pub mod Operands
+pub mod Decisions
 pub mod Index
 pub mod IndexSums
 pub mod Vector

@@ -3,6 +3,7 @@
 mod bytes;
 mod limbs;
 
+pub use bytes::bytes_for;
 pub use bytes::carried;
 pub use bytes::cleared;
 pub use bytes::copy_out;
