@@ -8,6 +8,7 @@
 -- Loops: the invariant of a loop that fills a list.
 -- Operands: laws of operands as bytes, by their coordinates.
 -- Decisions: each test of the definitions is true exactly when its proposition holds.
+-- Carrying: operands of W bytes and the same operands carried.
 -- Index: the indices 0 .. p, added and subtracted modulo p + 1.
 -- IndexSums: sums over all indices.
 -- Vector: vectors of bits: turn, basis, linear combination, sum.
@@ -30,6 +31,7 @@ pub mod TrailingZeros
 pub mod Loops
 pub mod Operands
 pub mod Decisions
+pub mod Carrying
 pub mod Index
 pub mod IndexSums
 pub mod Vector

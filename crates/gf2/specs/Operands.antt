@@ -59,6 +59,10 @@ below m f i = choose (ltb i m) (f i) 0
 unfoldable pub fromCoords : ℕ → ℕ → (ℕ → ℕ) → List ℕ
 fromCoords n m f = pack n (below m f)
 
+-- "Inside the program an operand is carried as 32 bytes": the coordinates of W bytes
+abbrev pub carriedBy : List ℕ → List ℕ
+carriedBy a = pack carriedBytes (coord a)
+
 -- "Zero is a fixed operand of every width"
 unfoldable pub zeroes : ℕ → ℕ → List ℕ
 zeroes n m = fromCoords n m (λ i. 0)

@@ -54,6 +54,12 @@ module _ (c : Cause) (cs : List Cause) where
   unfolding faultOf
   head-fails e = rw e
 
+-- causes that are judged alike
+pub same-head : (c d : Cause) (cs ds : List Cause) → c .test ≡ d .test → c .fault ≡ d .fault → (d .test ≡ false → faultOf cs ≡ faultOf ds) → faultOf (c ∷ cs) ≡ faultOf (d ∷ ds)
+same-head c d cs ds e f h = cases (d .test)
+    (λ q. head-holds c cs (e ∙ q) ∙ f ∙ sym (head-holds d ds q))
+    (λ q. head-fails c cs (e ∙ q) ∙ h q ∙ sym (head-fails d ds q))
+
 -- no test holds
 abbrev pub Fine : List Cause → Type 0
 Fine [] = Unit
@@ -96,6 +102,9 @@ module _ (cs ds : List Cause) {f : Fault} {b : Bool} (e : f ≡ faultOf cs) (t :
 
   pub ends : b ≡ false → f ≡ faultOf (cs ++ ds)
   ends q = e ∙ sym (stops cs ds (judged q))
+
+  pub ends-some : b ≡ false → isNone (faultOf (cs ++ ds)) ≡ false
+  ends-some q = ap isNone (stops cs ds (judged q)) ∙ judged q
 
   pub follows : {r : Fault} → b ≡ true → r ≡ faultOf ds → r ≡ faultOf (cs ++ ds)
   follows q h = h ∙ sym (goes-on cs ds (judged q))

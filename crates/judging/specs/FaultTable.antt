@@ -81,10 +81,10 @@ tripleDiffers m table i j =
     record {
       Holds = ¬ Rule6 m table i j;
       test =
-        not
-        (same
-        (product m table (product m table (basis m 0) (basis m i)) (basis m j))
-        (product m table (basis m 0) (product m table (basis m i) (basis m j))));
+          not
+          (same
+          (product m table (product m table (basis m 0) (basis m i)) (basis m j))
+          (product m table (basis m 0) (product m table (basis m i) (basis m j))));
       exact = unlike-decides _ _;
       fault = Triple i j;
       numbered = refl;

@@ -8,6 +8,7 @@ pub use fault::is_none;
 pub use fault::number;
 pub use parts::judge_high;
 pub use parts::judge_length;
+pub use parts::judge_pair_sizes;
 pub use parts::judge_size;
 pub use parts::judge_sizes;
 pub use parts::judge_table_size;

@@ -53,6 +53,17 @@ pub fn judge_sizes(width: usize, a: usize, result: usize) -> Fault
     judge_length(result, limbs::bytes_for(width))
 }
 
+// The lengths of two operands and a result.
+pub fn judge_pair_sizes(width: usize, a: usize, b: usize, result: usize) -> Fault
+    ensures { λ r. ⌜ r ≡ faultOf (badWidth width ∷ badLength a (bytesFor width) ∷ badLength b (bytesFor width) ∷ badLength result (bytesFor width) ∷ []) ⌝ }
+{
+    let first = judge_sizes(width, a, b);
+    if !is_none(first) {
+        return first;
+    }
+    judge_length(result, limbs::bytes_for(width))
+}
+
 // A table's length.
 pub fn judge_table_size(width: usize, size: usize) -> Fault
     ensures { λ r. ⌜ r ≡ faultOf (badWidth width ∷ badLength size (width * bytesFor width) ∷ []) ⌝ }
