@@ -26,15 +26,25 @@ use Rattle.operand.specs.declared.fault.Fault.the-variants.{None, CardPlace, Ca
 use Rattle.operand.specs.Faults.{isNone}
 use Rattle.operand.proofs.CallLaws.{zero-bytes}
 use Rattle.card.specs.declared.CardAnswer.{CardAnswer}
+use Rattle.card.specs.declared.reading.Step.{Step}
+use Rattle.card.specs.declared.reading.Step.the-variants.{Got, Refused}
 use Rattle.card.specs.Numbers.{Read, refused, got, readNumber}
 use Rattle.card.specs.Rows.{after, readPlaces, readRow, isPlace, rowOf, readRows}
 use Rattle.card.specs.Cards.{lentFault, readWidth, readHead, ended, readCard}
 use Rattle.card.specs.Calls.{readCall, readTable, readAnswer, readInto}
-use Rattle.card.specs.Steps.{carriedPlaces, endOf, RowsRead}
+use Rattle.card.specs.Steps.{told, carriedPlaces, endOf, RowsRead}
 use Rattle.card.proofs.Numbers.{no-value}
 use Rattle.card.proofs.Places.{place-here, place-there}
 use Rattle.card.proofs.Stores.{sets-append, sets-front}
 use Rattle.card.proofs.Trips.{head-parts, rows-table}
+
+-- what is to be read, where the code says a step
+module _ (s : List ℕ) {r : Step} {x : Read ℕ} (e : told s r ≡ x) where
+  pub got-of : {v n : ℕ} → r ≡ Got v n → x ≡ got v (drop n s)
+  got-of g = sym e ∙ ap (told s) g
+
+  pub refused-of : {f : Fault} → r ≡ Refused f → x ≡ refused f
+  refused-of g = sym e ∙ ap (told s) g
 
 after-nil : (x : Read (List ℕ)) → x ≡ after [] x
 after-nil (refused f) = refl
@@ -327,18 +337,18 @@ module _ (s old : List ℕ) where
     unfolding readCard
     card-is q = rw (head, q)
 
-    pub card-rows : {f : Fault} → refused f ≡ endOf (readRows m m rows) → Answered s old (record { fault = f; value = 0 }) old
-    card-rows e = refusal (card-is (end-refused (readRows m m rows) (sym e)))
+    pub card-rows : {f : Fault} → endOf (readRows m m rows) ≡ refused f → Answered s old (record { fault = f; value = 0 }) old
+    card-rows e = refusal (card-is (end-refused (readRows m m rows) e))
 
-    pub card-tail : {v end : ℕ} → got v (drop end s) ≡ endOf (readRows m m rows) → end < length s → Answered s old (record { fault = CardTail; value = 0 }) old
+    pub card-tail : {v end : ℕ} → endOf (readRows m m rows) ≡ got v (drop end s) → end < length s → Answered s old (record { fault = CardTail; value = 0 }) old
     card-tail {end = end} e h =
-        let (t, q) = end-got (readRows m m rows) (sym e) in
+        let (t, q) = end-got (readRows m m rows) e in
         refusal (card-is q ∙ ended-more m end t s h)
 
-    pub card-done : {v end : ℕ} {r : Read ℕ} {new : List ℕ} → got v (drop end s) ≡ endOf (readRows m m rows) → length s ≤ end →
+    pub card-done : {v end : ℕ} {r : Read ℕ} {new : List ℕ} → endOf (readRows m m rows) ≡ got v (drop end s) → length s ≤ end →
         RowsRead m 0 m rows r old new → Answered s old (record { fault = None; value = m }) new
     card-done {end = end} e h f =
-        let (t, q) = end-got (readRows m m rows) (sym e) in
+        let (t, q) = end-got (readRows m m rows) e in
         let c : readCard (length old) s ≡ got (record { width = m; bytes = t }) [] = card-is q ∙ ended-all m end t s h in
         let lent = head-parts (length old) s m rows head .lent in
         let fits : length t ≤ length old = omega (arith, rows-table m m rows t (drop end s) q .size, lent .fits) in record {

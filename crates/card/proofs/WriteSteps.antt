@@ -21,7 +21,7 @@ use Rattle.gf2.specs.Tables.{row}
 use Rattle.gf2.proofs.Sums.{sum-ext, sum-split, every-at}
 use Rattle.gf2.proofs.Coordinates.{coord-lt}
 use Rattle.gf2.proofs.Operands.{clear-at}
-use Rattle.limbs.specs.Limbs.{carriedLimbs, limbCoord, packLimbs, nextOne, rowLimbs}
+use Rattle.limbs.specs.Limbs.{carriedLimbs, limbCoord, nextOne, rowLimbs}
 use Rattle.limbs.proofs.LimbCoords.{limb-lt, limb-past, limb-pack, length-limbs}
 use Rattle.limbs.proofs.LimbRows.{next-known, sum-bits, row-limbs}
 use Rattle.operand.specs.declared.fault.Fault.{Fault}

@@ -1,5 +1,5 @@
 -- `card::writing::put_rows` meets its contract.
-use Prim.Native.Nat.{_+_, _-_, _<_}
+use Prim.Native.Nat.{_+_, _-_}
 use native.Mathlib.Omega.{arith}
 use Rattle.card.proofs.WriteSteps.{left-kept, RowsPut, rows-none, rows-fits, rows-more, rows-done}
 use borrow.Author.Needs.{needs}
