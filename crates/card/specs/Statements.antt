@@ -5,6 +5,7 @@ use mathlib.Core.Path.{_≡_}
 use mathlib.Core.List.{List, [], _∷_, _++_}
 use Prim.Native.Nat.{ℕ, zero, suc, _+_, _*_, _<_, _≤_}
 use lib.ListN.{length, take}
+use lib.Seq.{sets}
 pub use Rattle.gf2.specs.Coordinates.{Bytes}
 use Rattle.gf2.specs.Operands.{maxWidth, bytesFor, ones, IsOperand}
 use Rattle.gf2.specs.Tables.{row, IsTable}
@@ -27,6 +28,10 @@ pub record RowTrips (m : ℕ) : Type 0 where
   pub writtenRead : (table : List ℕ) (start count : ℕ) (s rest : List ℕ) → Bytes s →
       readRows m count s ≡ got (rowRange m table start count) rest →
       s ≡ rowsCard m table start count ++ rest
+  -- stored at their own place of a buffer that has it, they are the rows of the table
+  pub inPlace : (table old : List ℕ) (start count : ℕ) → (start + count) * bytesFor m ≤ length table → (start + count) * bytesFor m ≤ length old →
+      (d : ℕ) → start ≤ d → d < start + count →
+      row m (sets old (start * bytesFor m) (rowRange m table start count)) d ≡ row m table d
 
 -- a table of width m and its card
 pub record TableTrip (m : ℕ) (table : List ℕ) : Type 0 where
