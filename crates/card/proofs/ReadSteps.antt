@@ -61,8 +61,12 @@ power-bit s j h l = eqb-true _ _ (every-at 8 (row s) (every-at 8 (λ s. every 8 
     row : ℕ → ℕ → Bool
     row s j = eqb (2 ^ s / 2 ^ j % 2) (choose (eqb j s) 1 0)
 
-pub power-byte : (s : ℕ) → s < 8 → 2 ^ s < 256
+power-byte : (s : ℕ) → s < 8 → 2 ^ s < 256
 power-byte s h = omega (arith, pow-mono {i = s} {j = 7} (omega arith))
+
+-- the bit of place p in its byte
+pub bit-value : (p : ℕ) → 1 * 2 ^ (p % 8) % 256 ≡ 2 ^ (p % 8)
+bit-value p = omega (arith, power-byte (p % 8) (omega arith))
 
 -- bytes with the bit at p turned over
 module _ (n : ℕ) (f : ℕ → ℕ) (p : ℕ) (h : p < 8 * n) where

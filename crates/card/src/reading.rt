@@ -1,6 +1,6 @@
 // Reading a card, in byte order. A part is read from a place in the card on; the code says its value and the place after it, or a fault.
 ghost use mathlib.Core.Path.{_≡_};
-ghost use Prim.Native.Nat.{_+_, _^_, _<_, _≤_};
+ghost use Prim.Native.Nat.{_+_, _≤_};
 ghost use lib.ListN.{drop};
 ghost use Rattle.gf2.specs.Operands.{maxWidth};
 ghost use Rattle.card.specs.Numbers.{readNumber};
@@ -9,7 +9,6 @@ ghost use Rattle.card.specs.Cards.{lentFault, readWidth, readHead};
 ghost use Rattle.card.specs.Calls.{readCall, readTable};
 ghost use Rattle.card.specs.Steps.{told, toldRow, carriedPlaces, RowsRead};
 use crate::CardAnswer;
-use crate::refused;
 use crate::store;
 use operand::Fault;
 use operand::Operand;
@@ -51,14 +50,6 @@ fn number_at(card: &[u8], at: usize) -> Step
     }
 }
 
-// The value of bit j of a byte.
-fn bit_value(j: usize) -> u8
-    requires { ⌜ j < 8 ⌝ }
-    ensures { λ r. ⌜ r ≡ 2 ^ j ⌝ }
-{
-    1u8 << j
-}
-
 // A row of `count` ones. Each place is above the ones before, so that its bit is still 0.
 fn places_at(card: &[u8], at: usize, width: usize, count: usize) -> Row
     requires { ⌜ width ≤ maxWidth ⌝ }
@@ -84,7 +75,7 @@ fn places_at(card: &[u8], at: usize, width: usize, count: usize) -> Row
                     };
                 }
                 let place = free + step;
-                bytes[place / 8] = bytes[place / 8] ^ bit_value(place % 8);
+                bytes[place / 8] = bytes[place / 8] ^ (1u8 << (place % 8));
                 free = place + 1;
                 next = then;
             }
@@ -203,13 +194,16 @@ pub fn read(card: &[u8], table: &mut [u8]) -> CardAnswer
     ensures table { λ _. ⌜ now (table .exit) ≡ readTable (now (card .entry)) (now (table .entry)) ⌝ }
 {
     match head_at(card, table.len()) {
-        Step::Refused(f) => refused(f),
+        Step::Refused(f) => CardAnswer { fault: f, value: 0 },
         Step::Got(width, rows) => {
             let mut spare = [0u8; 1];
             match rows_at(card, rows, width, 0, width, &mut spare) {
-                Step::Refused(f) => refused(f),
+                Step::Refused(f) => CardAnswer { fault: f, value: 0 },
                 Step::Got(_, end) => if end < card.len() {
-                    refused(Fault::CardTail)
+                    CardAnswer {
+                        fault: Fault::CardTail,
+                        value: 0,
+                    }
                 } else {
                     rows_at(card, rows, width, 0, width, table);
                     CardAnswer {

@@ -10,7 +10,6 @@ ghost use Rattle.card.specs.Cards.{card, longest};
 ghost use Rattle.card.specs.Calls.{writeCall, writeCard};
 ghost use Rattle.card.specs.Steps.{Put, InCard, limbOnes, Writable};
 use crate::CardAnswer;
-use crate::refused;
 use crate::store;
 use operand::Fault;
 
@@ -95,12 +94,18 @@ pub fn write(width: usize, table: &[u8], out: &mut [u8]) -> CardAnswer
 {
     let shape = table::judge_shape(width, table);
     if !operand::is_none(shape) {
-        return refused(shape);
+        return CardAnswer {
+            fault: shape,
+            value: 0,
+        };
     }
     let mut spare = [0u8; 1];
     let size = put_card(&mut spare, width, table);
     if out.len() < size {
-        return refused(Fault::OutputShort);
+        return CardAnswer {
+            fault: Fault::OutputShort,
+            value: 0,
+        };
     }
     put_card(out, width, table);
     CardAnswer {

@@ -1,7 +1,7 @@
 -- `card::reading::places_at` meets its contract.
 use lib.ListN.{drop}
 use Rattle.card.specs.Rows.{readPlaces}
-use Rattle.card.proofs.ReadSteps.{got-of, refused-of, PlacesTo, places-none, places-refused, places-far, places-more, places-done}
+use Rattle.card.proofs.ReadSteps.{bit-value, got-of, refused-of, PlacesTo, places-none, places-refused, places-far, places-more, places-done}
 use borrow.Author.Needs.{needs}
 use Rattle.card.proofs.reading.places_at.Statement.{statement}
 use Rattle.card.proofs.reading.places_at.Tie as tie
@@ -27,10 +27,9 @@ returns-2 c =
 
 loop-again : tie.Need-loop-again Inv-loop μ-loop
 loop-again c =
-    let n = c .before .before .before .before .before in
+    let n = c .before .before .before .before in
     let l = n .before .before in
-    rw (c .bit-value .ensures)
-    (places-more (l .loop .inv) (l .before .before .pre) (n .before .loop-test .taken) (got-of _ (n .number-at .ensures) (c .before .before .before .step .given .1)) (c .before .if1 .left))
+    rw bit-value (places-more (l .loop .inv) (l .before .before .pre) (n .before .loop-test .taken) (got-of _ (n .number-at .ensures) (c .before .before .step .given .1)) (c .if1 .left))
 
 returns-3 : tie.Need-returns-3 Inv-loop μ-loop
 returns-3 c = places-done (c .before .loop .inv) (c .loop-test .left)
@@ -50,7 +49,8 @@ places-at-spec =
     returns-2
     (λ c. search needs)
     (λ c. search needs)
-    (λ c κs. search needs)
+    (λ c. search needs)
+    (λ c. search needs)
     (λ c. search needs)
     (λ c. search needs)
     (λ c. search needs)

@@ -1,5 +1,4 @@
 -- `card::reading::read` meets its contract.
-use mathlib.Core.Path.{_∙_}
 use native.Mathlib.Omega.{arith}
 use Rattle.card.proofs.Trips.{head-parts}
 use Rattle.card.proofs.ReadSteps.{got-of, refused-of, card-head, card-rows, card-tail, card-done}
@@ -22,23 +21,23 @@ rows-at-requires-2 c κs =
 
 returns : tie.Need-returns
 returns c =
-    let x = card-head _ _ (refused-of _ (c .before .before .before .before .head-at .ensures) (c .before .before .f .given .1)) in
-    (c .refused .ensures ∙ x .answers, x .leaves)
+    let x = card-head _ _ (refused-of _ (c .before .before .before .head-at .ensures) (c .before .f .given .1)) in
+    (x .answers, x .leaves)
 
 returns-2 : tie.Need-returns-2
 returns-2 c =
-    let r = c .before .before .before .before .before in
+    let r = c .before .before .before .before in
     let w = r .before .before .before in
-    let x = card-rows _ _ (got-of _ (w .before .before .head-at .ensures) (w .width .given .1)) (refused-of _ (r .rows-at .ensures .ends) (c .before .before .f2 .given .1)) in
-    (c .refused2 .ensures ∙ x .answers, x .leaves)
+    let x = card-rows _ _ (got-of _ (w .before .before .head-at .ensures) (w .width .given .1)) (refused-of _ (r .rows-at .ensures .ends) (c .before .f2 .given .1)) in
+    (x .answers, x .leaves)
 
 returns-3 : tie.Need-returns-3
 returns-3 c =
-    let e = c .before .before .before in
+    let e = c .before .before in
     let r = e .before .before .before in
     let w = r .before .before .before in
-    let x = card-tail _ _ (got-of _ (w .before .before .head-at .ensures) (w .width .given .1)) (got-of _ (r .rows-at .ensures .ends) (e .end .given .1)) (c .before .if1 .taken) in
-    (c .refused3 .ensures ∙ x .answers, x .leaves)
+    let x = card-tail _ _ (got-of _ (w .before .before .head-at .ensures) (w .width .given .1)) (got-of _ (r .rows-at .ensures .ends) (e .end .given .1)) (c .if1 .taken) in
+    (x .answers, x .leaves)
 
 returns-4 : tie.Need-returns-4
 returns-4 c =
@@ -54,14 +53,11 @@ read-spec =
     (tie.spec
     (λ c κs. search needs)
     (λ c. search needs)
-    (λ c κs. search needs)
     (λ c. search needs)
     (λ c. search needs)
     rows-at-requires
     (λ c. search needs)
-    (λ c κs. search needs)
     (λ c. search needs)
-    (λ c κs. search needs)
     rows-at-requires-2
     returns
     returns-2

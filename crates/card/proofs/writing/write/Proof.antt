@@ -10,8 +10,8 @@ use Rattle.card.proofs.writing.write.Tie as tie
 
 returns : tie.Need-returns
 returns c =
-    let x = wrote-shape _ _ _ (c .before .before .before .judge-shape .ensures) (sym (c .before .before .is-none .ensures) ∙ not-true _ (c .before .if1 .taken)) in
-    (c .refused .ensures ∙ x .answers, x .leaves)
+    let x = wrote-shape _ _ _ (c .before .before .judge-shape .ensures) (sym (c .before .is-none .ensures) ∙ not-true _ (c .if1 .taken)) in
+    (x .answers, x .leaves)
 
 put-card-requires : tie.Need-put-card-requires
 put-card-requires c κs =
@@ -20,11 +20,11 @@ put-card-requires c κs =
 
 returns-2 : tie.Need-returns-2
 returns-2 c =
-    let t = c .before .before .before .before .before in
+    let t = c .before .before .before .before in
     let shape = judged (t .before .before .judge-shape .ensures) (t .before .is-none .ensures) (not-false _ (t .if1 .left)) in
     let old = t .before .before .before .before .before .args .out .now in
-    let x = wrote-short _ _ old shape (c .before .before .before .put-card .ensures .ends) (omega (arith, c .before .if2 .taken)) in
-    (c .refused2 .ensures ∙ x .answers, x .leaves)
+    let x = wrote-short _ _ old shape (c .before .before .put-card .ensures .ends) (omega (arith, c .if2 .taken)) in
+    (x .answers, x .leaves)
 
 put-card-requires-2 : tie.Need-put-card-requires-2
 put-card-requires-2 c κs =
@@ -45,11 +45,9 @@ write-spec =
     (tie.spec
     (λ c κs. search needs)
     (λ c κs. search needs)
-    (λ c κs. search needs)
     returns
     (λ c. search needs)
     put-card-requires
-    (λ c κs. search needs)
     returns-2
     put-card-requires-2
     (λ c. search needs)
