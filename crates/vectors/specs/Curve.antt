@@ -2,16 +2,20 @@
 use mathlib.Core.Bool.{Bool, _&&_}
 use mathlib.Core.List.{List}
 use Prim.Native.Nat.{ℕ}
+use Rattle.gf2.specs.Operands.{isClear}
 use Rattle.operand.specs.declared.Operand.{Operand}
 use Rattle.operand.specs.declared.OperandAnswer.{OperandAnswer}
 use Rattle.operand.specs.Faults.{isNone}
 use Rattle.operand.specs.Calls.{squareCall, sumCall}
-use Rattle.table.specs.Judgements.{same}
 use Rattle.product.specs.Calls.{productCall}
+
+-- zero, and no fault
+abbrev pub isZero : OperandAnswer → Bool
+isZero a = isNone (a .fault) && isClear 0 (a .value .bytes)
 
 module _ (m : ℕ) (table : List ℕ) where
   -- y² + x·y
-  unfoldable pub leftSide : Operand → Operand → OperandAnswer
+  abbrev pub leftSide : Operand → Operand → OperandAnswer
   leftSide x y = sumCall (squareCall y .value) (productCall m table x y .value)
 
   -- x³ + a·x²
@@ -22,12 +26,9 @@ module _ (m : ℕ) (table : List ℕ) where
       (productCall m table a (squareCall x .value) .value)
 
   -- x³ + a·x² + b
-  unfoldable pub rightSide : Operand → Operand → Operand → OperandAnswer
+  abbrev pub rightSide : Operand → Operand → Operand → OperandAnswer
   rightSide a b x = sumCall (cubeAndTerm a x .value) b
 
-  -- the sides are equal, and no call on the way gave a fault: the operand beside a fault is refused by the next call
-  unfoldable pub onCurve : Operand → Operand → Operand → Operand → Bool
-  onCurve a b x y =
-      isNone (leftSide x y .fault)
-      && (isNone (rightSide a b x .fault)
-      && same (leftSide x y .value .bytes) (rightSide a b x .value .bytes))
+  -- the sum of the sides is zero, and no call on the way gave a fault: the operand beside a fault is refused by the next call
+  abbrev pub onCurve : Operand → Operand → Operand → Operand → Bool
+  onCurve a b x y = isZero (sumCall (leftSide x y .value) (rightSide a b x .value))

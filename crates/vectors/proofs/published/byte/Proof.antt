@@ -5,7 +5,6 @@ use Prim.Native.Nat.{ℕ, _+_, _-_, _*_, _≤_}
 use native.Mathlib.Omega.{arith}
 use Rattle.gf2.specs.Sums.{sum}
 use Rattle.gf2.specs.Coordinates.{value}
-use Rattle.gf2.specs.Operands.{below}
 use Rattle.netlist.proofs.RunLaws.{byte-more}
 use Rattle.vectors.specs.Published.{publishedCoord}
 use borrow.Author.Needs.{needs}
@@ -14,7 +13,7 @@ use Rattle.vectors.proofs.published.byte.Tie as tie
 
 -- the bits of byte b
 abbrev bits : ℕ → List ℕ → ℕ → ℕ → ℕ
-bits width digits b j = below width (publishedCoord width digits) (b * 8 + j)
+bits width digits b j = publishedCoord width digits (b * 8 + j)
 
 abbrev Inv-loop : tie.InvT-loop
 Inv-loop width digits b out₀ j₀ out j = (j ≤ 8) × (out ≡ value j (bits width digits b))
