@@ -1,27 +1,38 @@
-// Each function runs one kind of example and prints what its calls answer on a line.
+// Each function runs one example of document 01 and prints what its calls answer.
 ghost use mathlib.Core.Path.{_≡_};
-ghost use Prim.Native.Nat.{_<_};
+ghost use Prim.Native.Nat.{_<_, _≤_};
+ghost use Rattle.operand.specs.Faults.{numberOf};
 ghost use Rattle.gaussian.specs.Calls.{drawnInto};
-ghost use Rattle.netlist.specs.Lists.{reduced};
-ghost use Rattle.netlist.specs.Calls.{listBuffer};
-ghost use Rattle.card.specs.Calls.{writeCard, readTable};
+ghost use Rattle.card.specs.Calls.{writeCard};
 use crate::curve;
 use crate::printing;
 use crate::published;
+use operand::Fault;
 use operand::Operand;
+use operand::OperandAnswer;
+
+// The number of a fault, 0 for none.
+fn number(f: Fault) -> usize
+    ensures { λ r. ⌜ r ≡ numberOf f .0 ⌝ }
+{
+    let n = operand::number(f);
+    n.0
+}
+
+fn fault_of(answer: OperandAnswer) -> usize
+    ensures { λ r. ⌜ r ≡ numberOf (answer .fault) .0 ⌝ }
+{
+    let fault = answer.fault;
+    number(fault)
+}
 
 // "Widths 1, 256: 1; 2, 255 pass", for zero and one.
 pub(crate) fn widths(width: usize)
     ensures { λ _. ⊤ₛ }
 {
-    let zero = Operand::zero(width);
-    let zero_fault = zero.fault;
-    let one = Operand::one(width);
-    let one_fault = one.fault;
-    printing::number(b"width ", width);
-    printing::fault(b": zero ", zero_fault);
-    printing::fault(b", one ", one_fault);
-    printing::text(b"\n");
+    let zero = fault_of(Operand::zero(width));
+    let one = fault_of(Operand::one(width));
+    printing::line(b"width #: zero #, one #\n", &[width, zero, one]);
 }
 
 // "Turn m-1 passes, m gives 8", for one.
@@ -30,106 +41,110 @@ pub(crate) fn turns(width: usize)
     ensures { λ _. ⊤ₛ }
 {
     let one = Operand::one(width);
-    let last = one.value.turn(width - 1);
-    let last_fault = last.fault;
-    let whole = one.value.turn(width);
-    let whole_fault = whole.fault;
-    printing::number(b"width ", width);
-    printing::fault(b" turned by m-1: ", last_fault);
-    printing::fault(b", by m: ", whole_fault);
-    printing::text(b"\n");
+    let last = fault_of(one.value.turn(width - 1));
+    let whole = fault_of(one.value.turn(width));
+    printing::line(b"width # turned by m-1: #, by m: #\n", &[width, last, whole]);
 }
 
-// "Drawing 8: 17"; "drawing a table returns its type T".
-pub(crate) fn drawn(width: usize, table: &mut [u8])
-    ensures { λ _. ⌜ now (table .exit) ≡ drawnInto width (now (table .entry)) ⌝ }
+// "Drawing 8: 17"; "drawing a table returns its type T". A row of these widths is a byte.
+pub(crate) fn drawn(width: usize)
+    requires { ⌜ width ≤ 8 ⌝ }
+    ensures { λ _. ⊤ₛ }
 {
+    let mut buffer = [238u8; 8];
+    let whole: &mut [u8] = &mut buffer;
+    let table = &mut whole[..width];
     let answer = gaussian::draw(width, table);
     let fault = answer.fault;
-    printing::number(b"drawn width ", width);
-    printing::fault(b": ", fault);
-    printing::number(b", type ", answer.t);
-    printing::text(b",");
+    printing::line(b"drawn width #: #, type #,", &[width, number(fault), answer.t]);
     printing::bytes(table);
 }
 
 // "Reduced list, width 2: 2 7, 0 0 2, .. With 24 words lent: 11; 25 fits".
-pub(crate) fn list(width: usize, table: &[u8], words: &mut [u32])
-    ensures { λ _. ⌜ now (words .exit) ≡ listBuffer width (now (table .entry)) (reduced width (now (table .entry))) (now (words .entry)) ⌝ }
+pub(crate) fn list(lent: usize)
+    requires { ⌜ lent ≤ 25 ⌝ }
+    ensures { λ _. ⊤ₛ }
 {
-    let answer = netlist::list_reduced(width, table, words);
+    let table = table::table2();
+    let mut buffer = [99u32; 25];
+    let whole: &mut [u32] = &mut buffer;
+    let words = &mut whole[..lent];
+    let answer = netlist::list_reduced(2, &table, words);
     let fault = answer.fault;
-    printing::number(b"reduced list of width ", width);
-    printing::number(b", ", words.len());
-    printing::fault(b" words lent: ", fault);
-    printing::number(b", AND ", answer.ands.0);
-    printing::number(b", XOR ", answer.xors.0);
-    printing::text(b", words");
+    printing::line(
+        b"reduced list of width 2, # words lent: #, AND #, XOR #, words",
+        &[lent, number(fault), answer.ands.0, answer.xors.0],
+    );
     printing::words(words);
 }
 
 // "Three XOR counts stand in the order plain, reduced, common".
-pub(crate) fn xors(label: &[u8], width: usize, table: &[u8])
+pub(crate) fn xors(text: &[u8], width: usize, table: &[u8])
     ensures { λ _. ⊤ₛ }
 {
     let plain = netlist::counts_plain(width, table);
     let reduced = netlist::counts_reduced(width, table);
     let common = netlist::counts_common(width, table);
-    printing::text(label);
-    printing::number(b": XOR ", plain.xors.0);
-    printing::number(b" ", reduced.xors.0);
-    printing::number(b" ", common.xors.0);
-    printing::text(b"\n");
+    printing::line(text, &[plain.xors.0, reduced.xors.0, common.xors.0]);
 }
 
 // "Writing a card returns its length in bytes".
-pub(crate) fn written(width: usize, table: &[u8], card: &mut [u8])
+fn written(width: usize, table: &[u8], card: &mut [u8])
     ensures { λ _. ⌜ now (card .exit) ≡ writeCard width (now (table .entry)) (now (card .entry)) ⌝ }
 {
     let answer = card::write(width, table, card);
     let fault = answer.fault;
-    printing::number(b"card of width ", width);
-    printing::fault(b": ", fault);
-    printing::number(b", length ", answer.value);
-    printing::text(b",");
+    printing::line(b"card of width #: #, length #,", &[width, number(fault), answer.value]);
     printing::bytes(card);
 }
 
 // "reading one returns m", and whether the bytes read are the table's.
-pub(crate) fn read(width: usize, table: &[u8], card: &[u8], read: &mut [u8])
-    ensures { λ _. ⌜ now (read .exit) ≡ readTable (now (card .entry)) (now (read .entry)) ⌝ }
+fn read(width: usize, table: &[u8], card: &[u8])
+    requires { ⌜ width ≤ 5 ⌝ }
+    ensures { λ _. ⊤ₛ }
 {
-    let answer = card::read(card, read);
+    let mut buffer = [0u8; 5];
+    let whole: &mut [u8] = &mut buffer;
+    let bytes = &mut whole[..width];
+    let answer = card::read(card, bytes);
     let fault = answer.fault;
-    let same = check::same(read, table);
-    printing::number(b"card of width ", width);
-    printing::fault(b" read: ", fault);
-    printing::number(b", width ", answer.value);
-    printing::flag(b", the carried table ", same);
-    printing::text(b"\n");
+    let same = check::same(bytes, table) as usize;
+    printing::line(
+        b"card of width # read: #, width #, the carried table #\n",
+        &[width, number(fault), answer.value, same],
+    );
 }
 
-// A curve's name, and the type that is drawn for its width.
-pub(crate) fn drawn_type(label: &[u8], width: usize, table: &mut [u8])
-    ensures { λ _. ⌜ now (table .exit) ≡ drawnInto width (now (table .entry)) ⌝ }
+// The card of a carried table, there and back. Its 2m-1 ones make 3m+1 bytes.
+pub(crate) fn card(width: usize, table: &[u8])
+    requires { ⌜ width ≤ 5 ⌝ }
+    ensures { λ _. ⊤ₛ }
 {
-    let answer = gaussian::draw(width, table);
-    printing::text(label);
-    printing::number(b": drawn type ", answer.t);
+    let mut buffer = [0u8; 16];
+    let whole: &mut [u8] = &mut buffer;
+    let card = &mut whole[..3 * width + 1];
+    written(width, table, card);
+    read(width, table, card);
 }
 
-// Whether a point lies on the curve, and whether it does with one bit of y changed.
-pub(crate) fn point(width: u16, table: &[u8], a: Operand, b: Operand, x: &[u8], y: &[u8])
+// A point under the drawn table of its width: whether it lies on the curve, and whether it does with one bit of y changed.
+pub(crate) fn point(
+    text: &[u8],
+    width: u16,
+    table: &mut [u8],
+    a: Operand,
+    b: Operand,
+    x: &[u8],
+    y: &[u8],
+)
     ensures { λ _. ⊤ₛ }
 {
     let m = width as usize;
+    let answer = gaussian::draw(m, table);
     let px = published::operand(width, x);
     let py = published::operand(width, y);
     let changed = py.sum(published::operand(width, b"1"));
-    printing::flag(b", on the curve ", curve::on_curve(m, table, a, b, px, py));
-    printing::flag(
-        b", with one bit changed ",
-        curve::on_curve(m, table, a, b, px, changed.value),
-    );
-    printing::text(b"\n");
+    let on = curve::on_curve(m, table, a, b, px, py) as usize;
+    let still = curve::on_curve(m, table, a, b, px, changed.value) as usize;
+    printing::line(text, &[answer.t, on, still]);
 }

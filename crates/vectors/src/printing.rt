@@ -1,34 +1,46 @@
-// Printing on standard output. No contract can say what is written: these promise to end, and nothing more.
+// Printing on standard output. No contract can say what is written: of these calls it is proved that they are safe and end.
+ghost use Prim.Native.Nat.{_≤_};
+ghost use lib.ListN.{length};
 use libc::STDOUT_FILENO;
-use operand::Fault;
 
-pub(crate) fn text(s: &[u8])
+fn letter(byte: u8)
     ensures { λ _. ⊤ₛ }
 {
-    io::write_all(STDOUT_FILENO, s);
+    let text = [byte];
+    io::write_all(STDOUT_FILENO, &text);
 }
 
-// A text, and a number in decimal.
-pub(crate) fn number(label: &[u8], n: usize)
+fn decimal(n: usize)
     ensures { λ _. ⊤ₛ }
 {
-    text(label);
     io::print_decimal(STDOUT_FILENO, n as u64);
 }
 
-// A text, and a fault's number, 0 for none.
-pub(crate) fn fault(label: &[u8], f: Fault)
-    ensures { λ _. ⊤ₛ }
+// A byte of a text: the mark # stands for the number at `next`. The answer is the place of the number after it.
+fn mark(byte: u8, numbers: &[usize], next: usize) -> usize
+    requires { ⌜ next ≤ length (now numbers) ⌝ }
+    ensures { λ r. ⌜ r ≤ length (now (numbers .entry)) ⌝ }
 {
-    let n = operand::number(f);
-    number(label, n.0);
+    if byte == b'#' {
+        if next < numbers.len() {
+            decimal(numbers[next]);
+            return next + 1;
+        }
+    }
+    letter(byte);
+    next
 }
 
-// A text, and 1 for true, 0 for false.
-pub(crate) fn flag(label: &[u8], b: bool)
+// A text, with the numbers at its marks.
+pub(crate) fn line(text: &[u8], numbers: &[usize])
     ensures { λ _. ⊤ₛ }
 {
-    number(label, b as usize);
+    let mut next = 0;
+    let mut at = 0;
+    while at < text.len() {
+        next = mark(text[at], numbers, next);
+        at += 1;
+    }
 }
 
 // Each byte in hexadecimal, after a space, and the end of the line.
@@ -37,11 +49,11 @@ pub(crate) fn bytes(s: &[u8])
 {
     let mut i = 0;
     while i < s.len() {
-        text(b" ");
+        letter(b' ');
         io::print_hex(STDOUT_FILENO, s[i] as u64, 2);
         i += 1;
     }
-    text(b"\n");
+    letter(b'\n');
 }
 
 // Each word in decimal, after a space, and the end of the line.
@@ -50,8 +62,9 @@ pub(crate) fn words(s: &[u32])
 {
     let mut i = 0;
     while i < s.len() {
-        number(b" ", s[i] as usize);
+        letter(b' ');
+        decimal(s[i] as usize);
         i += 1;
     }
-    text(b"\n");
+    letter(b'\n');
 }

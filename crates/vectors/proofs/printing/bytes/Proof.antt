@@ -7,13 +7,13 @@ use Rattle.vectors.proofs.printing.bytes.Statement.{statement}
 use Rattle.vectors.proofs.printing.bytes.Tie as tie
 
 abbrev Inv-loop : tie.InvT-loop
-Inv-loop s i₀ t3 t4 i = i ≤ length s
+Inv-loop s i₀ i = i ≤ length s
 
 abbrev μ-loop : tie.MeasureT-loop
-μ-loop s i₀ t3 t4 i = length s - i
+μ-loop s i₀ i = length s - i
 
 cast-print-hex : tie.Need-cast-print-hex Inv-loop μ-loop
-cast-print-hex c = omega (arith, c .shared-slice-known2 .given (c .before .before .before .before .loop .i))
+cast-print-hex c = omega (arith, c .shared-slice-known2 .given (c .before .before .before .loop .i))
 
 pub bytes-spec : {M : Type 1} → statement M
 bytes-spec =
@@ -22,12 +22,11 @@ bytes-spec =
     Inv-loop
     μ-loop
     (λ c. search needs)
-    (λ c. search needs)
     (λ c κs. search needs)
+
     (λ c. search needs)
     cast-print-hex
     (λ c κs. search needs)
-    (λ c. search needs)
     (λ c. search needs)
     (λ c. search needs)
     (λ c. search needs)

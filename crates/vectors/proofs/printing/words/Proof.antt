@@ -7,13 +7,13 @@ use Rattle.vectors.proofs.printing.words.Statement.{statement}
 use Rattle.vectors.proofs.printing.words.Tie as tie
 
 abbrev Inv-loop : tie.InvT-loop
-Inv-loop s i₀ t3 t4 i = i ≤ length s
+Inv-loop s i₀ i = i ≤ length s
 
 abbrev μ-loop : tie.MeasureT-loop
-μ-loop s i₀ t3 t4 i = length s - i
+μ-loop s i₀ i = length s - i
 
-cast-number : tie.Need-cast-number Inv-loop μ-loop
-cast-number c = omega (arith, c .shared-slice-known2 .given (c .before .before .before .loop .i))
+cast-decimal : tie.Need-cast-decimal Inv-loop μ-loop
+cast-decimal c = omega (arith, c .shared-slice-known2 .given (c .before .before .before .loop .i))
 
 pub words-spec : {M : Type 1} → statement M
 words-spec =
@@ -22,12 +22,11 @@ words-spec =
     Inv-loop
     μ-loop
     (λ c. search needs)
-    (λ c. search needs)
-    (λ c. search needs)
-    (λ c. search needs)
-    cast-number
     (λ c κs. search needs)
     (λ c. search needs)
+    (λ c. search needs)
+    cast-decimal
+    (λ c κs. search needs)
     (λ c. search needs)
     (λ c. search needs)
     (λ c. search needs)
