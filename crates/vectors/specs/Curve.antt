@@ -8,6 +8,7 @@ use Rattle.operand.specs.declared.OperandAnswer.{OperandAnswer}
 use Rattle.operand.specs.Faults.{isNone}
 use Rattle.operand.specs.Calls.{squareCall, sumCall}
 use Rattle.product.specs.Calls.{productCall}
+use Rattle.vectors.specs.Published.{published}
 
 -- zero, and no fault
 abbrev pub isZero : OperandAnswer → Bool
@@ -15,7 +16,7 @@ isZero a = isNone (a .fault) && isClear 0 (a .value .bytes)
 
 module _ (m : ℕ) (table : List ℕ) where
   -- y² + x·y
-  abbrev pub leftSide : Operand → Operand → OperandAnswer
+  unfoldable pub leftSide : Operand → Operand → OperandAnswer
   leftSide x y = sumCall (squareCall y .value) (productCall m table x y .value)
 
   -- x³ + a·x²
@@ -26,9 +27,14 @@ module _ (m : ℕ) (table : List ℕ) where
       (productCall m table a (squareCall x .value) .value)
 
   -- x³ + a·x² + b
-  abbrev pub rightSide : Operand → Operand → Operand → OperandAnswer
+  unfoldable pub rightSide : Operand → Operand → Operand → OperandAnswer
   rightSide a b x = sumCall (cubeAndTerm a x .value) b
 
   -- the sum of the sides is zero, and no call on the way gave a fault: the operand beside a fault is refused by the next call
-  abbrev pub onCurve : Operand → Operand → Operand → Operand → Bool
+  unfoldable pub onCurve : Operand → Operand → Operand → Operand → Bool
   onCurve a b x y = isZero (sumCall (leftSide x y .value) (rightSide a b x .value))
+
+-- the point with the published digits x and y, `change` added to y, on the curve with the coefficients a and b
+abbrev pub pointOnCurve : ℕ → List ℕ → List ℕ → List ℕ → List ℕ → List ℕ → List ℕ → Bool
+pointOnCurve m table a b x y change =
+    onCurve m table (published m a) (published m b) (published m x) (sumCall (published m y) (published m change) .value)

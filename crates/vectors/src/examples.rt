@@ -4,6 +4,7 @@ ghost use Prim.Native.Nat.{_<_, _≤_};
 ghost use Rattle.operand.specs.Faults.{numberOf};
 ghost use Rattle.gaussian.specs.Calls.{drawnInto};
 ghost use Rattle.card.specs.Calls.{writeCard};
+ghost use Rattle.vectors.specs.Curve.{pointOnCurve};
 use crate::curve;
 use crate::printing;
 use crate::published;
@@ -32,7 +33,7 @@ pub(crate) fn widths(width: usize)
 {
     let zero = fault_of(Operand::zero(width));
     let one = fault_of(Operand::one(width));
-    printing::line(b"width #: zero #, one #\n", &[width, zero, one]);
+    printing::line(b"width #: zero #, one #\n", [width, zero, one, 0]);
 }
 
 // "Turn m-1 passes, m gives 8", for one.
@@ -43,7 +44,10 @@ pub(crate) fn turns(width: usize)
     let one = Operand::one(width);
     let last = fault_of(one.value.turn(width - 1));
     let whole = fault_of(one.value.turn(width));
-    printing::line(b"width # turned by m-1: #, by m: #\n", &[width, last, whole]);
+    printing::line(
+        b"width # turned by m-1: #, by m: #\n",
+        [width, last, whole, 0],
+    );
 }
 
 // "Drawing 8: 17"; "drawing a table returns its type T". A row of these widths is a byte.
@@ -56,7 +60,10 @@ pub(crate) fn drawn(width: usize)
     let table = &mut whole[..width];
     let answer = gaussian::draw(width, table);
     let fault = answer.fault;
-    printing::line(b"drawn width #: #, type #,", &[width, number(fault), answer.t]);
+    printing::line(
+        b"drawn width #: #, type #,",
+        [width, number(fault), answer.t, 0],
+    );
     printing::bytes(table);
 }
 
@@ -73,7 +80,7 @@ pub(crate) fn list(lent: usize)
     let fault = answer.fault;
     printing::line(
         b"reduced list of width 2, # words lent: #, AND #, XOR #, words",
-        &[lent, number(fault), answer.ands.0, answer.xors.0],
+        [lent, number(fault), answer.ands.0, answer.xors.0],
     );
     printing::words(words);
 }
@@ -85,7 +92,7 @@ pub(crate) fn xors(text: &[u8], width: usize, table: &[u8])
     let plain = netlist::counts_plain(width, table);
     let reduced = netlist::counts_reduced(width, table);
     let common = netlist::counts_common(width, table);
-    printing::line(text, &[plain.xors.0, reduced.xors.0, common.xors.0]);
+    printing::line(text, [plain.xors.0, reduced.xors.0, common.xors.0, 0]);
 }
 
 // "Writing a card returns its length in bytes".
@@ -94,7 +101,10 @@ fn written(width: usize, table: &[u8], card: &mut [u8])
 {
     let answer = card::write(width, table, card);
     let fault = answer.fault;
-    printing::line(b"card of width #: #, length #,", &[width, number(fault), answer.value]);
+    printing::line(
+        b"card of width #: #, length #,",
+        [width, number(fault), answer.value, 0],
+    );
     printing::bytes(card);
 }
 
@@ -111,7 +121,7 @@ fn read(width: usize, table: &[u8], card: &[u8])
     let same = check::same(bytes, table) as usize;
     printing::line(
         b"card of width # read: #, width #, the carried table #\n",
-        &[width, number(fault), answer.value, same],
+        [width, number(fault), answer.value, same],
     );
 }
 
@@ -127,24 +137,35 @@ pub(crate) fn card(width: usize, table: &[u8])
     read(width, table, card);
 }
 
+// Whether the point with these digits lies on the curve once `change` is added to y.
+fn lies(width: u16, table: &[u8], a: &[u8], b: &[u8], x: &[u8], y: &[u8], change: &[u8]) -> bool
+    ensures { λ r. ⌜ r ≡ pointOnCurve width (now (table .entry)) (now (a .entry)) (now (b .entry)) (now (x .entry)) (now (y .entry)) (now (change .entry)) ⌝ }
+{
+    let changed = published::operand(width, y).sum(published::operand(width, change));
+    curve::on_curve(
+        width as usize,
+        table,
+        published::operand(width, a),
+        published::operand(width, b),
+        published::operand(width, x),
+        changed.value,
+    )
+}
+
 // A point under the drawn table of its width: whether it lies on the curve, and whether it does with one bit of y changed.
 pub(crate) fn point(
     text: &[u8],
     width: u16,
     table: &mut [u8],
-    a: Operand,
-    b: Operand,
+    a: &[u8],
+    b: &[u8],
     x: &[u8],
     y: &[u8],
 )
-    ensures { λ _. ⊤ₛ }
+    ensures { λ _. ⌜ now (table .exit) ≡ drawnInto width (now (table .entry)) ⌝ }
 {
-    let m = width as usize;
-    let answer = gaussian::draw(m, table);
-    let px = published::operand(width, x);
-    let py = published::operand(width, y);
-    let changed = py.sum(published::operand(width, b"1"));
-    let on = curve::on_curve(m, table, a, b, px, py) as usize;
-    let still = curve::on_curve(m, table, a, b, px, changed.value) as usize;
-    printing::line(text, &[answer.t, on, still]);
+    let answer = gaussian::draw(width as usize, table);
+    let on = lies(width, table, a, b, x, y, b"0") as usize;
+    let changed = lies(width, table, a, b, x, y, b"1") as usize;
+    printing::line(text, [answer.t, on, changed, 0]);
 }

@@ -5,6 +5,31 @@ mod points;
 mod printing;
 mod published;
 
+fn lists()
+    ensures { λ _. ⊤ₛ }
+{
+    examples::list(25);
+    examples::list(24);
+    let table4 = table::table4();
+    examples::xors(b"width 4: XOR # # #\n", 4, &table4);
+    let table5 = table::table5();
+    examples::xors(b"width 5: XOR # # #\n", 5, &table5);
+    examples::xors(b"width 3, rows 02 07 07: XOR # # #\n", 3, b"\x02\x07\x07");
+}
+
+fn cards()
+    ensures { λ _. ⊤ₛ }
+{
+    let table2 = table::table2();
+    examples::card(2, &table2);
+    let table3 = table::table3();
+    examples::card(3, &table3);
+    let table4 = table::table4();
+    examples::card(4, &table4);
+    let table5 = table::table5();
+    examples::card(5, &table5);
+}
+
 fn main() {
     examples::widths(1);
     examples::widths(256);
@@ -18,19 +43,8 @@ fn main() {
     examples::drawn(3);
     examples::drawn(4);
     examples::drawn(5);
-    examples::list(25);
-    examples::list(24);
-    let table2 = table::table2();
-    let table3 = table::table3();
-    let table4 = table::table4();
-    let table5 = table::table5();
-    examples::xors(b"width 4: XOR # # #\n", 4, &table4);
-    examples::xors(b"width 5: XOR # # #\n", 5, &table5);
-    examples::xors(b"width 3, rows 02 07 07: XOR # # #\n", 3, b"\x02\x07\x07");
-    examples::card(2, &table2);
-    examples::card(3, &table3);
-    examples::card(4, &table4);
-    examples::card(5, &table5);
+    lists();
+    cards();
     points::b163();
     points::k163();
     points::k233();

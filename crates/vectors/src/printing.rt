@@ -1,6 +1,5 @@
 // Printing on standard output. No contract can say what is written: of these calls it is proved that they are safe and end.
-ghost use Prim.Native.Nat.{_≤_};
-ghost use lib.ListN.{length};
+ghost use Prim.Native.Nat.{_<_};
 use libc::STDOUT_FILENO;
 
 fn letter(byte: u8)
@@ -16,23 +15,21 @@ fn decimal(n: usize)
     io::print_decimal(STDOUT_FILENO, n as u64);
 }
 
-// A byte of a text: the mark # stands for the number at `next`. The answer is the place of the number after it.
-fn mark(byte: u8, numbers: &[usize], next: usize) -> usize
-    requires { ⌜ next ≤ length (now numbers) ⌝ }
-    ensures { λ r. ⌜ r ≤ length (now (numbers .entry)) ⌝ }
+// A byte of a text: the mark # stands for number `next`. The answer is the place of the number after it.
+fn mark(byte: u8, numbers: [usize; 4], next: usize) -> usize
+    requires { ⌜ next < 4 ⌝ }
+    ensures { λ r. ⌜ r < 4 ⌝ }
 {
     if byte == b'#' {
-        if next < numbers.len() {
-            decimal(numbers[next]);
-            return next + 1;
-        }
+        decimal(numbers[next]);
+        return (next + 1) % 4;
     }
     letter(byte);
     next
 }
 
-// A text, with the numbers at its marks.
-pub(crate) fn line(text: &[u8], numbers: &[usize])
+// A text with up to four numbers at its marks.
+pub(crate) fn line(text: &[u8], numbers: [usize; 4])
     ensures { λ _. ⊤ₛ }
 {
     let mut next = 0;

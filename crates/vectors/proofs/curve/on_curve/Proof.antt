@@ -1,9 +1,11 @@
 -- `vectors::curve::on_curve` meets its contract.
+use Rattle.vectors.specs.Curve.{onCurve}
 use borrow.Author.Needs.{needs}
 use Rattle.vectors.proofs.curve.on_curve.Statement.{statement}
 use Rattle.vectors.proofs.curve.on_curve.Tie as tie
 
 returns : tie.Need-returns
+unfolding onCurve
 returns c = rw (c .is-zero .ensures, c .before .sum .ensures, c .before .before .right-side .ensures, c .before .before .before .left-side .ensures)
 
 pub on-curve-spec : {M : Type 1} → statement M

@@ -23,7 +23,6 @@ bytes-spec =
     μ-loop
     (λ c. search needs)
     (λ c κs. search needs)
-
     (λ c. search needs)
     cast-print-hex
     (λ c κs. search needs)

@@ -5,16 +5,16 @@ use native.Mathlib.Omega.{arith}
 use Rattle.gf2.specs.Coordinates.{value, pack}
 use Rattle.gf2.specs.Operands.{carriedBytes}
 use Rattle.gf2.proofs.Loops.{Filled, filled-none, filled-more, filled-all}
-use Rattle.vectors.specs.Published.{publishedCoord, published}
+use Rattle.vectors.specs.Published.{publishedCoord, digitBit, published}
 use borrow.Author.Needs.{needs}
 use Rattle.vectors.proofs.published.operand.Statement.{statement}
 use Rattle.vectors.proofs.published.operand.Tie as tie
 
 abbrev Inv-loop : tie.InvT-loop
-Inv-loop width digits bytes₀ b₀ bytes b = Filled carriedBytes (λ b. value 8 (λ j. publishedCoord width digits (b * 8 + j))) bytes₀ bytes b
+Inv-loop width digits start bytes₀ b₀ bytes b = Filled carriedBytes (λ b. value 8 (λ j. digitBit digits (start + (b * 8 + j)))) bytes₀ bytes b
 
 abbrev μ-loop : tie.MeasureT-loop
-μ-loop width digits bytes₀ b₀ bytes b = carriedBytes - b
+μ-loop width digits start bytes₀ b₀ bytes b = carriedBytes - b
 
 loop-holds : tie.Need-loop-holds Inv-loop μ-loop
 loop-holds c = filled-none carriedBytes _ _
@@ -23,7 +23,7 @@ loop-again : tie.Need-loop-again Inv-loop μ-loop
 loop-again c = filled-more (c .before .before .loop .inv) (omega arith) (omega arith) (c .byte .ensures)
 
 returns : tie.Need-returns Inv-loop μ-loop
-unfolding published pack
+unfolding published publishedCoord pack
 returns c =
     let w = c .before .before .before .args .width in
     ap (λ x. record { bytes = x; width = w }) (filled-all (c .before .loop .inv) (omega arith) (omega arith))
@@ -34,6 +34,7 @@ operand-spec =
     (tie.spec
     Inv-loop
     μ-loop
+    (λ c. search needs)
     loop-holds
     (λ c κs. search needs)
     (λ c. search needs)
