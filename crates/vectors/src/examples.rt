@@ -8,23 +8,16 @@ ghost use Rattle.vectors.specs.Curve.{pointOnCurve};
 use crate::curve;
 use crate::printing;
 use crate::published;
-use operand::Fault;
 use operand::Operand;
 use operand::OperandAnswer;
 
-// The number of a fault, 0 for none.
-fn number(f: Fault) -> usize
-    ensures { λ r. ⌜ r ≡ numberOf f .0 ⌝ }
-{
-    let n = operand::number(f);
-    n.0
-}
-
+// The number of an answer's fault, 0 for none.
 fn fault_of(answer: OperandAnswer) -> usize
     ensures { λ r. ⌜ r ≡ numberOf (answer .fault) .0 ⌝ }
 {
     let fault = answer.fault;
-    number(fault)
+    let number = operand::number(fault);
+    number.0
 }
 
 // "Widths 1, 256: 1; 2, 255 pass", for zero and one.
@@ -60,10 +53,8 @@ pub(crate) fn drawn(width: usize)
     let table = &mut whole[..width];
     let answer = gaussian::draw(width, table);
     let fault = answer.fault;
-    printing::line(
-        b"drawn width #: #, type #,",
-        [width, number(fault), answer.t, 0],
-    );
+    let number = operand::number(fault);
+    printing::line(b"drawn width #: #, type #,", [width, number.0, answer.t, 0]);
     printing::bytes(table);
 }
 
@@ -78,9 +69,10 @@ pub(crate) fn list(lent: usize)
     let words = &mut whole[..lent];
     let answer = netlist::list_reduced(2, &table, words);
     let fault = answer.fault;
+    let number = operand::number(fault);
     printing::line(
         b"reduced list of width 2, # words lent: #, AND #, XOR #, words",
-        [lent, number(fault), answer.ands.0, answer.xors.0],
+        [lent, number.0, answer.ands.0, answer.xors.0],
     );
     printing::words(words);
 }
@@ -101,9 +93,10 @@ fn written(width: usize, table: &[u8], card: &mut [u8])
 {
     let answer = card::write(width, table, card);
     let fault = answer.fault;
+    let number = operand::number(fault);
     printing::line(
         b"card of width #: #, length #,",
-        [width, number(fault), answer.value, 0],
+        [width, number.0, answer.value, 0],
     );
     printing::bytes(card);
 }
@@ -118,10 +111,11 @@ fn read(width: usize, table: &[u8], card: &[u8])
     let bytes = &mut whole[..width];
     let answer = card::read(card, bytes);
     let fault = answer.fault;
+    let number = operand::number(fault);
     let same = check::same(bytes, table) as usize;
     printing::line(
         b"card of width # read: #, width #, the carried table #\n",
-        [width, number(fault), answer.value, same],
+        [width, number.0, answer.value, same],
     );
 }
 

@@ -9,19 +9,13 @@ fn letter(byte: u8)
     io::write_all(STDOUT_FILENO, &text);
 }
 
-fn decimal(n: usize)
-    ensures { λ _. ⊤ₛ }
-{
-    io::print_decimal(STDOUT_FILENO, n as u64);
-}
-
 // A byte of a text: the mark # stands for number `next`. The answer is the place of the number after it.
 fn mark(byte: u8, numbers: [usize; 4], next: usize) -> usize
     requires { ⌜ next < 4 ⌝ }
     ensures { λ r. ⌜ r < 4 ⌝ }
 {
     if byte == b'#' {
-        decimal(numbers[next]);
+        io::print_decimal(STDOUT_FILENO, numbers[next] as u64);
         return (next + 1) % 4;
     }
     letter(byte);
@@ -60,7 +54,7 @@ pub(crate) fn words(s: &[u32])
     let mut i = 0;
     while i < s.len() {
         letter(b' ');
-        decimal(s[i] as usize);
+        io::print_decimal(STDOUT_FILENO, s[i] as u64);
         i += 1;
     }
     letter(b'\n');

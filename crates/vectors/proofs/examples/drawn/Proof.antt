@@ -16,8 +16,8 @@ drawn-spec =
     (λ c. search needs)
     slice-aggregate-table
     (λ c κs. search needs)
-    (λ c. search needs)
     (λ c κs. search needs)
+    (λ c. search needs)
     (λ c κs. search needs)
     (λ c κs. search needs)
     (λ c. search needs))

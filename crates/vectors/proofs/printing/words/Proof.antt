@@ -12,8 +12,8 @@ Inv-loop s i₀ i = i ≤ length s
 abbrev μ-loop : tie.MeasureT-loop
 μ-loop s i₀ i = length s - i
 
-cast-decimal : tie.Need-cast-decimal Inv-loop μ-loop
-cast-decimal c = omega (arith, c .shared-slice-known2 .given (c .before .before .before .loop .i))
+cast-print-decimal : tie.Need-cast-print-decimal Inv-loop μ-loop
+cast-print-decimal c = omega (arith, c .shared-slice-known2 .given (c .before .before .before .loop .i))
 
 pub words-spec : {M : Type 1} → statement M
 words-spec =
@@ -25,7 +25,7 @@ words-spec =
     (λ c κs. search needs)
     (λ c. search needs)
     (λ c. search needs)
-    cast-decimal
+    cast-print-decimal
     (λ c κs. search needs)
     (λ c. search needs)
     (λ c. search needs)
