@@ -19,7 +19,7 @@ use Rattle.operand.specs.declared.fault.Fault.{Fault}
 use Rattle.operand.specs.declared.fault.Fault.the-variants.{None}
 use Rattle.operand.specs.Calls.{answer}
 use Rattle.table.specs.Rows.{Shaped}
-use Rattle.scatter.specs.Cells.{places, cell}
+use Rattle.scatter.specs.Cells.{places, HasPlaces, cell}
 use Rattle.product.specs.declared.InverseAnswer.{InverseAnswer}
 use Rattle.product.specs.declared.kernel.Method.{Method}
 use Rattle.product.specs.declared.kernel.Method.the-variants.{Plain, Reduced}
@@ -109,6 +109,14 @@ chainOf s = record { t = s .t .bytes; k = s .k; count = s .count }
 
 abbrev pub stateOf : ℕ → Chain → State
 stateOf m c = record { t = carried m (c .t); k = c .k; count = c .count }
+
+-- what a step takes for granted of a state, and of its scratch
+pub record Ready (m : ℕ) (table : List ℕ) (s : State) (g : List ℕ) : Type 0 where
+  pub shaped : Shaped m table
+  pub power : Sound m (s .t)
+  pub short : s .k < m
+  pub few : s .count < maxWidth
+  pub there : HasPlaces g
 
 -- t := (t turned j)·b, and the k and the count that go with it
 abbrev pub stepped : ℕ → List ℕ → ℕ → List ℕ → List ℕ → ℕ → ℕ → State

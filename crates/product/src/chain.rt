@@ -1,12 +1,11 @@
 // The inverse by the chain of doublings and addings: m-1 is read in binary from its highest one,
 // and the state after each step holds a to the power 2^k - 1.
 ghost use mathlib.Core.Path.{_≡_};
-ghost use Prim.Native.Nat.{_+_, _-_, _*_, _/_, _%_, _^_, _<_};
-ghost use Rattle.gf2.specs.Operands.{maxWidth};
+ghost use Prim.Native.Nat.{_+_, _-_, _*_, _/_, _%_, _^_};
 ghost use Rattle.gf2.specs.Inverse.{log2, digits, chain};
 ghost use Rattle.table.specs.Rows.{Shaped};
 ghost use Rattle.scatter.specs.Cells.{HasPlaces};
-ghost use Rattle.product.specs.Inner.{Sound, chainOf, stateOf, stepped, addedFrom, Underway, invertedBy};
+ghost use Rattle.product.specs.Inner.{Sound, Ready, chainOf, stateOf, stepped, addedFrom, Underway, invertedBy};
 use crate::InverseAnswer;
 use crate::kernel::Method;
 use crate::times;
@@ -35,7 +34,7 @@ fn further_digits(n: usize) -> usize
 
 // One doubling: t := (t turned k)·t, k := 2k, and the count one higher. g is scratch for the product.
 fn doubling_step(width: usize, table: &[u8], s: State, g: &mut [u64]) -> State
-    requires { ⌜ Shaped width (now table) × Sound width (s .t) × (s .k < width) × (s .count < maxWidth) × HasPlaces (now g) ⌝ }
+    requires { ⌜ Ready width (now table) s (now g) ⌝ }
     ensures { λ r. ⌜ r ≡ stepped width (now (table .entry)) (s .k) (s .t .bytes) (s .t .bytes) (2 * s .k) (s .count + 1) ⌝ }
 {
     let t = s.t;
@@ -50,7 +49,7 @@ fn doubling_step(width: usize, table: &[u8], s: State, g: &mut [u64]) -> State
 
 // One adding: t := (t turned 1)·a, k := k+1, and the count one higher.
 fn adding_step(width: usize, table: &[u8], a: Operand, doubled: State, g: &mut [u64]) -> State
-    requires { ⌜ Shaped width (now table) × Sound width a × Sound width (doubled .t) × (doubled .k < width) × (doubled .count < maxWidth) × HasPlaces (now g) ⌝ }
+    requires { ⌜ Ready width (now table) doubled (now g) × Sound width a ⌝ }
     ensures { λ r. ⌜ r ≡ stepped width (now (table .entry)) 1 (doubled .t .bytes) (a .bytes) (doubled .k + 1) (doubled .count + 1) ⌝ }
 {
     let t = doubled.t;

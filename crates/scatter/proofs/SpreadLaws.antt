@@ -20,7 +20,7 @@ use Rattle.limbs.specs.Limbs.{carriedLimbs, limbCoord, packLimbs, raised}
 use Rattle.limbs.proofs.LimbCoords.{limb-lt, limbs-ext, limbs-eq, limbs-zero}
 use Rattle.limbs.proofs.LimbLoops.{Limbs}
 use Rattle.limbs.proofs.TurnLimbs.{raised-in, raised-out}
-use Rattle.scatter.specs.Cells.{places, cell, cellRaised, HasPlaces, spreadSum}
+use Rattle.scatter.specs.Cells.{places, cell, cellRaised, HasPlaces, spreadSum, columnTo}
 use Rattle.scatter.proofs.CellLaws.{cell-digit, set-coord, limb-more, places-there, places-missing}
 use Rattle.scatter.proofs.MoveLaws.{raised-ext, raised-add, raised-twice, sum-one, raised-sum, packed-plus, packed-up}
 
@@ -75,18 +75,15 @@ module _ (g : List ℕ) (s q : ℕ) where
 
 -- one place after another of a column
 module _ (g : List ℕ) (r : ℕ) where
-  abbrev pub columnTo : ℕ → ℕ → ℕ
-  columnTo n i = sum n (λ q. cellRaised g (q * 64 + r) (q * 64) i)
-
-  pub column-none : (n : ℕ) {x : List ℕ} → length x ≡ n → Limbs x → x ≡ packLimbs n (λ i. limbCoord x i + columnTo 0 i)
+  pub column-none : (n : ℕ) {x : List ℕ} → length x ≡ n → Limbs x → x ≡ packLimbs n (λ i. limbCoord x i + columnTo g r 0 i)
   unfolding sum
   column-none n {x} size small = limbs-eq n _ size small (λ i l. omega (arith, limb-lt x i))
 
-  pub column-more : (n q s : ℕ) (f : ℕ → ℕ) {x y : List ℕ} → s ≡ q * 64 + r → x ≡ packLimbs n (λ i. f i + columnTo q i) → y ≡ packLimbs n (λ i. limbCoord x i + cellRaised g s (q * 64) i)
-      → y ≡ packLimbs n (λ i. f i + columnTo (q + 1) i)
-  column-more n q s f {x} {y} e p h = packed-plus n (λ i. f i + columnTo q i) _ p h ∙ limbs-ext n _ _ (λ i l. ap (λ k. k % 2) (more i))
+  pub column-more : (n q s : ℕ) (f : ℕ → ℕ) {x y : List ℕ} → s ≡ q * 64 + r → x ≡ packLimbs n (λ i. f i + columnTo g r q i) → y ≡ packLimbs n (λ i. limbCoord x i + cellRaised g s (q * 64) i)
+      → y ≡ packLimbs n (λ i. f i + columnTo g r (q + 1) i)
+  column-more n q s f {x} {y} e p h = packed-plus n (λ i. f i + columnTo g r q i) _ p h ∙ limbs-ext n _ _ (λ i l. ap (λ k. k % 2) (more i))
     where
-      more : (i : ℕ) → f i + columnTo q i + cellRaised g s (q * 64) i ≡ f i + columnTo (q + 1) i
+      more : (i : ℕ) → f i + columnTo g r q i + cellRaised g s (q * 64) i ≡ f i + columnTo g r (q + 1) i
       more i = unfold sum in rw (e, add-one) (omega arith)
 
 -- the columns r to 63, moved up by r less than in the end

@@ -29,6 +29,10 @@ cell g s i = limbCoord g (s * places + i)
 abbrev pub cellRaised : List ℕ → ℕ → ℕ → ℕ → ℕ
 cellRaised g s k = raised k (below places (cell g s))
 
+-- coordinate i of the sum of the first n of the places r, 64 + r, .., each from its own limb on
+abbrev pub columnTo : List ℕ → ℕ → ℕ → ℕ → ℕ
+columnTo g r n i = sum n (λ q. cellRaised g (q * 64 + r) (q * 64) i)
+
 -- h is g with f s i added to coordinate i at place s, modulo 2
 pub record Added (f : ℕ → ℕ → ℕ) (g h : List ℕ) : Type 0 where
   pub size : length h ≡ length g

@@ -3,10 +3,9 @@ ghost use mathlib.Core.Path.{_≡_};
 ghost use Prim.Native.Nat.{_+_, _*_, _<_, _≤_};
 ghost use lib.Dec.{eqb};
 ghost use lib.ListN.{length, replicate};
-ghost use Rattle.gf2.specs.Sums.{sum};
 ghost use Rattle.gf2.specs.Operands.{choose};
 ghost use Rattle.limbs.specs.Limbs.{carriedLimbs, limbCoord, packLimbs, raised};
-ghost use Rattle.scatter.specs.Cells.{twiceLimbs, places, HasPlaces, cellRaised, Added, bitFrom, rowAdds, spreadSum};
+ghost use Rattle.scatter.specs.Cells.{twiceLimbs, places, HasPlaces, cellRaised, columnTo, Added, bitFrom, rowAdds, spreadSum};
 use crate::ROOM;
 use crate::TWICE;
 
@@ -97,7 +96,7 @@ fn plus_at(x: [u64; TWICE], g: &[u64], s: usize, q: usize) -> [u64; TWICE]
 // x and the limbs at the places r, 64 + r, .., each from its own limb on.
 fn plus_column(x: [u64; TWICE], g: &[u64], r: usize) -> [u64; TWICE]
     requires { ⌜ HasPlaces (now g) × (r < 64) ⌝ }
-    ensures { λ out. ⌜ out ≡ packLimbs twiceLimbs (λ i. limbCoord x i + sum carriedLimbs (λ q. cellRaised (now (g .entry)) (q * 64 + r) (q * 64) i)) ⌝ }
+    ensures { λ out. ⌜ out ≡ packLimbs twiceLimbs (λ i. limbCoord x i + columnTo (now (g .entry)) r carriedLimbs i) ⌝ }
 {
     let mut out = x;
     let mut q = 0;

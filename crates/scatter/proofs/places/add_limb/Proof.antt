@@ -42,9 +42,10 @@ loop-less c =
 
 loop-again : tie.Need-loop-again Inv-loop μ-loop
 loop-again c =
-    let l = c .before .before .before .before .before .loop in
-    let s = c .before .before .before .before .before .before .before in
-    let some = c .before .before .before .before .loop-test .taken in (
+    let i = c .before .before .before .before in
+    let l = i .before .loop in
+    let s = i .before .before .before in
+    let some = i .loop-test .taken in (
       omega (arith, l .inv .0, lowest-less 64 (l .rest) (l .inv .0) some),
       ones-added (s .args .limb) (s .args .from) (l .rest) (l .inv .0) some (s .args .e) (l .inv .1) (c .before .before .add-at .ensures),
       c .before .before .add-at .ensures .size ∙ l .inv .2,

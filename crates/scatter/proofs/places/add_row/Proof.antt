@@ -29,8 +29,9 @@ add-limb-requires c κs = (c .before .before .loop .inv .2 ∙ c .before .before
 
 loop-again : tie.Need-loop-again Inv-loop μ-loop
 loop-again c =
-    let l = c .before .before .before .before .before .loop in
-    let s = c .before .before .before .before .before .before .before .before in
+    let i = c .before .before .before .before .before in
+    let l = i .loop in
+    let s = i .before .before .before in
     let small : (k : ℕ) → Fits w64 (getD (s .args .t3) k 0) = λ k. search needs in
     (omega arith, row-more (s .args .t3) (s .args .e) (λ k. small k .fits) (l .w) (l .inv .1) (c .before .before .add-limb .ensures), c .before .before .add-limb .ensures .size ∙ l .inv .2)
 

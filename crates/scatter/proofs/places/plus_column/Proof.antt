@@ -6,8 +6,8 @@ use lib.ListN.{length, getD}
 use mir.Val.{Fits}
 use mir.Syntax.{w64}
 use Rattle.limbs.specs.Limbs.{carriedLimbs, limbCoord, packLimbs}
-use Rattle.scatter.specs.Cells.{twiceLimbs}
-use Rattle.scatter.proofs.SpreadLaws.{columnTo, column-none, column-more}
+use Rattle.scatter.specs.Cells.{twiceLimbs, columnTo}
+use Rattle.scatter.proofs.SpreadLaws.{column-none, column-more}
 use borrow.Author.Needs.{needs}
 use Rattle.scatter.proofs.places.plus_column.Statement.{statement}
 use Rattle.scatter.proofs.places.plus_column.Tie as tie
