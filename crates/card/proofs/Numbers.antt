@@ -14,8 +14,8 @@ use lib.Seq.{drop-cons}
 use lib.Dec.{ltb, eqb}
 use borrow.Author.Tests.{lt-ltb, le-ltb, ltb-true, eq-eqb, ne-eqb, eqb-false}
 use Rattle.gf2.specs.Operands.{choose}
-use Rattle.operand.specs.declared.fault.Fault.{Fault}
-use Rattle.operand.specs.declared.fault.Fault.the-variants.{CardEnds, CardNumber}
+use Rattle.judging.specs.declared.fault.Fault.{Fault}
+use Rattle.judging.specs.declared.fault.Fault.the-variants.{CardEnds, CardNumber}
 use Rattle.card.specs.Numbers.{number, numberLimit, Read, refused, got, andThen, secondGroup, readNumber}
 use Rattle.card.specs.Statements.{Bytes}
 

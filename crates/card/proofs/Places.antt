@@ -15,7 +15,7 @@ use Rattle.gf2.specs.Coordinates.{coord}
 use Rattle.gf2.specs.Operands.{bytesFor, IsOperand, choose}
 use Rattle.gf2.proofs.Coordinates.{coord-lt}
 use Rattle.gf2.proofs.Operands.{coord-from, from-eq}
-use Rattle.operand.specs.declared.fault.Fault.the-variants.{CardPlace}
+use Rattle.judging.specs.declared.fault.Fault.the-variants.{CardPlace}
 use Rattle.card.specs.Numbers.{numberLimit, Read, refused, got, readNumber}
 use Rattle.card.specs.Rows.{places, steps, onesOf, rowCard, after, readPlaces, readRow, isPlace, rowOf}
 use Rattle.card.specs.Statements.{Bytes}

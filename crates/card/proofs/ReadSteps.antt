@@ -21,9 +21,9 @@ use Rattle.gf2.specs.Operands.{maxWidth, bytesFor, carriedBytes, choose, below,
 use Rattle.gf2.proofs.Sums.{every-at}
 use Rattle.gf2.proofs.Coordinates.{length-tabulate, length-pack, pack-byte, coord-pack, pack-eq, pack-ext, xor-bit}
 use Rattle.gf2.proofs.Operands.{below-in, below-out, length-from}
-use Rattle.operand.specs.declared.fault.Fault.{Fault}
-use Rattle.operand.specs.declared.fault.Fault.the-variants.{None, CardPlace, CardForm, CardTail}
-use Rattle.operand.specs.Faults.{isNone}
+use Rattle.judging.specs.declared.fault.Fault.{Fault}
+use Rattle.judging.specs.declared.fault.Fault.the-variants.{None, CardPlace, CardForm, CardTail}
+use Rattle.judging.specs.Faults.{isNone}
 use Rattle.operand.proofs.CallLaws.{zero-bytes}
 use Rattle.card.specs.declared.CardAnswer.{CardAnswer}
 use Rattle.card.specs.declared.reading.Step.{Step}

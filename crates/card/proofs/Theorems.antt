@@ -10,9 +10,10 @@ use borrow.Author.Tests.{le-ltb}
 use Rattle.gf2.specs.Operands.{maxWidth, bytesFor}
 use Rattle.gf2.specs.Coordinates.{coord}
 use Rattle.gf2.specs.Tables.{row, IsTable}
-use Rattle.operand.specs.declared.fault.Fault.{Fault}
-use Rattle.operand.specs.declared.fault.Fault.the-variants.{None}
-use Rattle.operand.specs.Faults.{isNone, orElse, firstOf}
+use Rattle.judging.specs.declared.fault.Fault.{Fault}
+use Rattle.judging.specs.declared.fault.Fault.the-variants.{None}
+use Rattle.operand.specs.Faults.{orElse, firstOf}
+use Rattle.judging.specs.Faults.{isNone}
 use Rattle.table.specs.Rows.{Shaped}
 use Rattle.table.specs.Judgements.{shapeFault}
 use Rattle.table.proofs.Shapes.{shape-none}

@@ -16,12 +16,14 @@ use borrow.Author.Tests.{lt-ltb, le-ltb, ltb-false, eqb-true}
 use Rattle.gf2.specs.Operands.{maxWidth, bytesFor, IsOperand, choose}
 use Rattle.gf2.specs.Tables.{row, IsTable}
 use Rattle.gf2.proofs.Operands.{from-operand, length-from}
-use Rattle.operand.specs.declared.fault.Fault.{Fault}
-use Rattle.operand.specs.declared.fault.Fault.the-variants.{None, OutputShort, CardForm}
-use Rattle.operand.specs.Faults.{isNone, when}
+use Rattle.judging.specs.declared.fault.Fault.{Fault}
+use Rattle.judging.specs.declared.fault.Fault.the-variants.{None, OutputShort, CardForm}
+use Rattle.operand.specs.Faults.{when}
+use Rattle.judging.specs.Faults.{isNone}
 use Rattle.operand.specs.Judgements.{widthFault}
 use Rattle.operand.proofs.FaultLaws.{width-fine, two-fine, two-first, two-second}
-use Rattle.operand.proofs.FaultFree.{IsWidth, width-none}
+use Rattle.operand.proofs.FaultFree.{width-none}
+use Rattle.judging.proofs.Passed.{IsWidth}
 use Rattle.card.specs.Numbers.{number, Read, refused, got, readNumber}
 use Rattle.card.specs.Rows.{rowsCard, rowRange, after, readRow, rowOf, isPlace, readRows}
 use Rattle.card.specs.Cards.{card, lentFault, readWidth, readHead, Table, ended, readCard}

@@ -24,9 +24,10 @@ use Rattle.gf2.proofs.Operands.{clear-at}
 use Rattle.limbs.specs.Limbs.{carriedLimbs, limbCoord, nextOne, rowLimbs}
 use Rattle.limbs.proofs.LimbCoords.{limb-lt, limb-past, limb-pack, length-limbs}
 use Rattle.limbs.proofs.LimbRows.{next-known, sum-bits, row-limbs}
-use Rattle.operand.specs.declared.fault.Fault.{Fault}
-use Rattle.operand.specs.declared.fault.Fault.the-variants.{None, OutputShort, HighBit}
-use Rattle.operand.specs.Faults.{isNone, when}
+use Rattle.judging.specs.declared.fault.Fault.{Fault}
+use Rattle.judging.specs.declared.fault.Fault.the-variants.{None, OutputShort, HighBit}
+use Rattle.operand.specs.Faults.{when}
+use Rattle.judging.specs.Faults.{isNone}
 use Rattle.operand.proofs.FaultLaws.{none-is, two-first, two-second, width-fine}
 use Rattle.table.specs.Judgements.{rowsFault, shapeFault}
 use Rattle.table.proofs.Searches.{when-none, none-true, high-some, three-none}

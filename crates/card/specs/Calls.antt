@@ -4,9 +4,10 @@ use Prim.Native.Nat.{ℕ}
 use lib.ListN.{length, drop}
 use lib.Dec.{ltb}
 use Rattle.gf2.specs.Operands.{choose}
-use Rattle.operand.specs.declared.fault.Fault.{Fault}
-use Rattle.operand.specs.declared.fault.Fault.the-variants.{None, OutputShort}
-use Rattle.operand.specs.Faults.{isNone, when, firstOf}
+use Rattle.judging.specs.declared.fault.Fault.{Fault}
+use Rattle.judging.specs.declared.fault.Fault.the-variants.{None, OutputShort}
+use Rattle.operand.specs.Faults.{when, firstOf}
+use Rattle.judging.specs.Faults.{isNone}
 use Rattle.table.specs.Judgements.{shapeFault}
 use Rattle.card.specs.declared.CardAnswer.{CardAnswer}
 use Rattle.card.specs.Numbers.{Read, refused, got}

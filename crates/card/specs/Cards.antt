@@ -4,9 +4,10 @@ use mathlib.Core.List.{List, [], _∷_, _++_}
 use Prim.Native.Nat.{ℕ, _+_, _*_}
 use lib.Dec.{ltb, eqb}
 use Rattle.gf2.specs.Operands.{bytesFor, choose}
-use Rattle.operand.specs.declared.fault.Fault.{Fault}
-use Rattle.operand.specs.declared.fault.Fault.the-variants.{OutputShort, CardForm, CardTail}
-use Rattle.operand.specs.Faults.{isNone, when, firstOf}
+use Rattle.judging.specs.declared.fault.Fault.{Fault}
+use Rattle.judging.specs.declared.fault.Fault.the-variants.{OutputShort, CardForm, CardTail}
+use Rattle.operand.specs.Faults.{when, firstOf}
+use Rattle.judging.specs.Faults.{isNone}
 use Rattle.operand.specs.Judgements.{widthFault}
 use Rattle.card.specs.Numbers.{number, Read, refused, got, andThen, readNumber}
 use Rattle.card.specs.Rows.{rowsCard, readRows}

@@ -4,8 +4,8 @@ use mathlib.Core.List.{List, [], _∷_}
 use Prim.Native.Nat.{ℕ, _+_, _-_, _*_, _/_, _%_}
 use lib.Dec.{ltb, eqb}
 use Rattle.gf2.specs.Operands.{choose}
-use Rattle.operand.specs.declared.fault.Fault.{Fault}
-use Rattle.operand.specs.declared.fault.Fault.the-variants.{CardEnds, CardNumber}
+use Rattle.judging.specs.declared.fault.Fault.{Fault}
+use Rattle.judging.specs.declared.fault.Fault.the-variants.{CardEnds, CardNumber}
 
 -- "Numbers are in seven-bit groups, low group first, high bit set when another follows, shortest form, at most two groups"
 unfoldable pub number : ℕ → List ℕ

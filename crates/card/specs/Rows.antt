@@ -6,7 +6,7 @@ use lib.Dec.{ltb, leb, eqb}
 use Rattle.gf2.specs.Coordinates.{coord}
 use Rattle.gf2.specs.Operands.{bytesFor, choose, fromCoords}
 use Rattle.gf2.specs.Tables.{row}
-use Rattle.operand.specs.declared.fault.Fault.the-variants.{CardPlace}
+use Rattle.judging.specs.declared.fault.Fault.the-variants.{CardPlace}
 use Rattle.card.specs.Numbers.{number, Read, refused, got, andThen, readNumber}
 
 -- the places where f isn't 0 among start, start + 1, .., `count` of them

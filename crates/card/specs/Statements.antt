@@ -9,7 +9,7 @@ use lib.Seq.{sets}
 pub use Rattle.gf2.specs.Coordinates.{Bytes}
 use Rattle.gf2.specs.Operands.{maxWidth, bytesFor, ones, IsOperand}
 use Rattle.gf2.specs.Tables.{row, IsTable}
-use Rattle.operand.specs.declared.fault.Fault.the-variants.{None}
+use Rattle.judging.specs.declared.fault.Fault.the-variants.{None}
 use Rattle.table.specs.Carried.{carried2, carried3, carried4, carried5}
 use Rattle.card.specs.Numbers.{number, numberLimit, got, readNumber}
 use Rattle.card.specs.Rows.{rowsCard, rowRange, readRows}

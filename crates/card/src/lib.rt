@@ -1,5 +1,5 @@
 // Cards, the serialised form of a table that document 01 lays down: reading one, and writing a table's.
-use operand::Fault;
+use judging::Fault;
 
 mod reading;
 mod store;

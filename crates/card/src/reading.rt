@@ -10,7 +10,7 @@ ghost use Rattle.card.specs.Calls.{readCall, readTable};
 ghost use Rattle.card.specs.Steps.{told, toldRow, carriedPlaces, RowsRead};
 use crate::CardAnswer;
 use crate::store;
-use operand::Fault;
+use judging::Fault;
 use operand::Operand;
 
 // A value and the place after it, or a fault.
@@ -120,7 +120,7 @@ fn rows_at(
     requires { ⌜ (width ≤ maxWidth) × (first + count ≤ width) ⌝ }
     ensures { λ r. ⌜ RowsRead width first count (drop at (now (card .entry))) (told (now (card .entry)) r) (now (table .entry)) (now (table .exit)) ⌝ }
 {
-    let size = operand::bytes_for(width);
+    let size = limbs::bytes_for(width);
     let mut next = at;
     let mut from = first * size;
     let mut left = count;
@@ -147,11 +147,11 @@ fn rows_at(
 fn judge_lent(room: usize, width: usize) -> Fault
     ensures { λ r. ⌜ r ≡ lentFault room width ⌝ }
 {
-    let fault = operand::judge_width(width);
-    if !operand::is_none(fault) {
+    let fault = judging::judge_width(width);
+    if !judging::is_none(fault) {
         return fault;
     }
-    if room < width * operand::bytes_for(width) {
+    if room < width * limbs::bytes_for(width) {
         Fault::OutputShort
     } else {
         Fault::None
@@ -165,7 +165,7 @@ fn width_at(card: &[u8], at: usize, room: usize) -> Step
         Step::Refused(f) => Step::Refused(f),
         Step::Got(width, then) => {
             let fault = judge_lent(room, width);
-            if operand::is_none(fault) {
+            if judging::is_none(fault) {
                 Step::Got(width, then)
             } else {
                 Step::Refused(fault)

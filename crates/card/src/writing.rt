@@ -11,7 +11,7 @@ ghost use Rattle.card.specs.Calls.{writeCall, writeCard};
 ghost use Rattle.card.specs.Steps.{Put, InCard, limbOnes, Writable};
 use crate::CardAnswer;
 use crate::store;
-use operand::Fault;
+use judging::Fault;
 
 fn put_number(out: &mut [u8], at: usize, n: usize) -> usize
     requires { ⌜ (n < numberLimit) × (at ≤ longest maxWidth) ⌝ }
@@ -93,7 +93,7 @@ pub fn write(width: usize, table: &[u8], out: &mut [u8]) -> CardAnswer
     ensures out { λ _. ⌜ now (out .exit) ≡ writeCard width (now (table .entry)) (now (out .entry)) ⌝ }
 {
     let shape = table::judge_shape(width, table);
-    if !operand::is_none(shape) {
+    if !judging::is_none(shape) {
         return CardAnswer {
             fault: shape,
             value: 0,

@@ -8,7 +8,8 @@ use Rattle.gf2.specs.Tables.{row, basis, pairProduct, onesIn}
 use Rattle.gf2.specs.Products.{product}
 use Rattle.gf2.specs.Check.{rowSum}
 use Rattle.gf2.specs.Inverse.{halvings, binaryOnes, doubling, adding, digits, inverse, productsMade}
-use Rattle.operand.specs.Faults.{isNone, orElse, firstOf, firstFrom}
+use Rattle.operand.specs.Faults.{orElse, firstOf, firstFrom}
+use Rattle.judging.specs.Faults.{isNone}
 use Rattle.operand.specs.Judgements.{widthFault, lengthFault, highFault, traceFault}
 use Rattle.table.specs.Judgements.{same, rowsFault, shapeFault, rowZeroFault, rowPairFault, tripleFault, rowSumFault, symmetryFault, checkFault}
 use Rattle.table.specs.Calls.{onesCall}

@@ -5,9 +5,10 @@ use mathlib.Core.List.{[], _∷_}
 use Prim.Native.Nat.{ℕ, _*_, _≤_}
 use borrow.Author.Tests.{eq-eqb, ne-eqb}
 use Rattle.gf2.specs.Operands.{maxWidth, bytesFor}
-use Rattle.operand.specs.declared.fault.Fault.{Fault}
-use Rattle.operand.specs.declared.fault.Fault.the-variants.{None, NoType}
-use Rattle.operand.specs.Faults.{isNone, firstOf}
+use Rattle.judging.specs.declared.fault.Fault.{Fault}
+use Rattle.judging.specs.declared.fault.Fault.the-variants.{None, NoType}
+use Rattle.operand.specs.Faults.{firstOf}
+use Rattle.judging.specs.Faults.{isNone}
 use Rattle.operand.specs.Judgements.{widthFault, lengthFault}
 use Rattle.operand.proofs.FaultLaws.{or-first, or-second, or-both, first-more, two-first, two-second, two-fine, width-fine, length-fine}
 use Rattle.gaussian.specs.declared.TypeAnswer.{TypeAnswer}

@@ -4,9 +4,10 @@ use Prim.Native.Nat.{ℕ, _*_}
 use lib.Dec.{eqb}
 use lib.ListN.{length}
 use Rattle.gf2.specs.Operands.{bytesFor, choose}
-use Rattle.operand.specs.declared.fault.Fault.{Fault}
-use Rattle.operand.specs.declared.fault.Fault.the-variants.{NoType}
-use Rattle.operand.specs.Faults.{isNone, when, firstOf}
+use Rattle.judging.specs.declared.fault.Fault.{Fault}
+use Rattle.judging.specs.declared.fault.Fault.the-variants.{NoType}
+use Rattle.operand.specs.Faults.{when, firstOf}
+use Rattle.judging.specs.Faults.{isNone}
 use Rattle.operand.specs.Judgements.{widthFault, lengthFault}
 use Rattle.gaussian.specs.declared.TypeAnswer.{TypeAnswer}
 use Rattle.gaussian.specs.Types.{typeOf}

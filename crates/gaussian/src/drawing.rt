@@ -15,7 +15,7 @@ fn flip(table: &mut [u8], m: usize, d: usize, s: usize)
     requires { ⌜ HasRow m d (now table) × (s < m) ⌝ }
     ensures { λ _. ⌜ Adds m (inRow d (λ i. choose (eqb i s) 1 0)) (now (table .entry)) (now (table .exit)) ⌝ }
 {
-    let at = d * operand::bytes_for(m) + s / 8;
+    let at = d * limbs::bytes_for(m) + s / 8;
     table[at] = table[at] ^ (1u8 << (s % 8));
 }
 

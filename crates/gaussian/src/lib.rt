@@ -2,7 +2,7 @@
 ghost use mathlib.Core.Path.{_≡_};
 ghost use lib.ListN.{length};
 ghost use Rattle.gaussian.specs.Calls.{typeCall, drawCall, drawnInto};
-use operand::Fault;
+use judging::Fault;
 
 mod drawing;
 mod residues;
@@ -17,8 +17,8 @@ pub struct TypeAnswer {
 pub fn type_of(width: usize) -> TypeAnswer
     ensures { λ r. ⌜ r ≡ typeCall width ⌝ }
 {
-    let judged = operand::judge_width(width);
-    if !operand::is_none(judged) {
+    let judged = judging::judge_width(width);
+    if !judging::is_none(judged) {
         return TypeAnswer {
             fault: judged,
             t: 0,
@@ -41,15 +41,15 @@ pub fn type_of(width: usize) -> TypeAnswer
 fn judge_draw(width: usize, size: usize) -> TypeAnswer
     ensures { λ r. ⌜ r ≡ drawCall width size ⌝ }
 {
-    let judged = operand::judge_width(width);
-    if !operand::is_none(judged) {
+    let judged = judging::judge_width(width);
+    if !judging::is_none(judged) {
         return TypeAnswer {
             fault: judged,
             t: 0,
         };
     }
-    let room = operand::judge_length(size, width * operand::bytes_for(width));
-    if !operand::is_none(room) {
+    let room = judging::judge_length(size, width * limbs::bytes_for(width));
+    if !judging::is_none(room) {
         return TypeAnswer { fault: room, t: 0 };
     }
     type_of(width)
@@ -62,7 +62,7 @@ pub fn draw(width: usize, table: &mut [u8]) -> TypeAnswer
 {
     let answer = judge_draw(width, table.len());
     let fault = answer.fault;
-    if operand::is_none(fault) {
+    if judging::is_none(fault) {
         drawing::fill(table, width, answer.t);
     }
     answer

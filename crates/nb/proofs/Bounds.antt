@@ -11,8 +11,9 @@ use Rattle.gf2.specs.Tables.{onesIn}
 use Rattle.gf2.specs.Quadratic.{trace}
 use Rattle.gf2.specs.Inverse.{log2, binaryOnes, productsMade}
 use Rattle.gf2.proofs.Chain.{products-made}
-use Rattle.operand.specs.declared.fault.Fault.{Fault}
-use Rattle.operand.specs.Faults.{isNone, firstOf}
+use Rattle.judging.specs.declared.fault.Fault.{Fault}
+use Rattle.operand.specs.Faults.{firstOf}
+use Rattle.judging.specs.Faults.{isNone}
 use Rattle.operand.specs.Judgements.{widthFault, bytesFault}
 use Rattle.limbs.proofs.ByteLists.{Bytes}
 use Rattle.operand.proofs.FaultLaws.{or-both, width-fine, none-is}

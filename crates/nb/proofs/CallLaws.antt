@@ -21,13 +21,15 @@ use Rattle.gf2.proofs.Operands.{from-operand, clear-at}
 use Rattle.operand.specs.declared.Operand.{Operand}
 use Rattle.operand.specs.declared.OperandAnswer.{OperandAnswer}
 use Rattle.operand.specs.declared.TraceAnswer.{TraceAnswer}
-use Rattle.operand.specs.declared.fault.Fault.{Fault}
-use Rattle.operand.specs.declared.fault.Fault.the-variants.{None, Width, InverseOfZero, TraceOne}
-use Rattle.operand.specs.Faults.{isNone, when, orElse, firstOf}
+use Rattle.judging.specs.declared.fault.Fault.{Fault}
+use Rattle.judging.specs.declared.fault.Fault.the-variants.{None, Width, InverseOfZero, TraceOne}
+use Rattle.operand.specs.Faults.{when, orElse, firstOf}
+use Rattle.judging.specs.Faults.{isNone}
 use Rattle.operand.specs.Judgements.{widthFault, lengthFault, highFault, turnFault, traceFault, operandFault, pairFault, bytesFault, roomFault}
 use Rattle.operand.specs.Calls.{noOperand, answer, readCall, writeCall, turnCall, sumCall, traceCall, solveCall}
 use Rattle.operand.proofs.FaultLaws.{judged, or-first, or-second, or-none, or-both, or-cong, or-assoc, two-fine as both-fine, width-fine, length-fine, high-fine}
-use Rattle.operand.proofs.FaultFree.{IsWidth, carry, width-none, length-none, high-none}
+use Rattle.operand.proofs.FaultFree.{carry, width-none, length-none, high-none}
+use Rattle.judging.proofs.Passed.{IsWidth}
 use Rattle.limbs.proofs.ByteLists.{Bytes}
 use Rattle.table.specs.Rows.{carriedBy}
 use Rattle.table.specs.Judgements.{same, rowsFault, rowZeroFault, rowPairFault}

@@ -6,9 +6,9 @@ use Prim.Native.Nat.{ℕ, zero, suc, _+_, _-_, _*_}
 use lib.ListN.{length}
 use lib.Dec.{ltb, leb, eqb}
 use Rattle.gf2.specs.Operands.{bytesFor, choose}
-use Rattle.operand.specs.declared.fault.Fault.{Fault}
-use Rattle.operand.specs.declared.fault.Fault.the-variants.{None, CardEnds, CardNumber, CardForm, CardPlace, CardTail}
-use Rattle.operand.specs.Faults.{isNone}
+use Rattle.judging.specs.declared.fault.Fault.{Fault}
+use Rattle.judging.specs.declared.fault.Fault.the-variants.{None, CardEnds, CardNumber, CardForm, CardPlace, CardTail}
+use Rattle.judging.specs.Faults.{isNone}
 use Rattle.card.specs.Numbers.{Read, refused, got, andThen, secondGroup, readNumber}
 use Rattle.card.specs.Rows.{after, readPlaces, readRow, rowOf, readRows}
 use Rattle.card.specs.Cards.{lentFault, readWidth, readHead, Table, ended, readCard}

@@ -16,7 +16,7 @@ use Rattle.gf2.proofs.Parity.{bool-ext}
 use Rattle.gf2.proofs.Coordinates.{length-pack}
 use Rattle.gf2.proofs.Operands.{from-operand, clear-at, clear-of}
 use Rattle.operand.specs.Judgements.{highFault}
-use Rattle.operand.proofs.CallLaws.{coord-carried}
+use Rattle.gf2.proofs.Carrying.{coord-carried}
 use Rattle.table.specs.Rows.{carriedBy}
 use Rattle.table.proofs.Carrying.{carried-from}
 

@@ -7,9 +7,10 @@ use lib.ListN.{length, getD}
 use Rattle.gf2.specs.Coordinates.{tabulate}
 use Rattle.gf2.specs.Operands.{bytesFor, fromCoords, choose}
 use Rattle.operand.specs.declared.Operand.{Operand}
-use Rattle.operand.specs.declared.fault.Fault.{Fault}
-use Rattle.operand.specs.declared.fault.Fault.the-variants.{None}
-use Rattle.operand.specs.Faults.{isNone, orElse, firstOf}
+use Rattle.judging.specs.declared.fault.Fault.{Fault}
+use Rattle.judging.specs.declared.fault.Fault.the-variants.{None}
+use Rattle.operand.specs.Faults.{orElse, firstOf}
+use Rattle.judging.specs.Faults.{isNone}
 use Rattle.operand.specs.Judgements.{lengthFault, highFault}
 use Rattle.operand.proofs.FaultLaws.{or-second}
 use Rattle.operand.proofs.FaultFree.{carry, width-none, length-none}

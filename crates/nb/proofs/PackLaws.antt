@@ -12,9 +12,10 @@ use Rattle.gf2.specs.Quadratic.{trace}
 use Rattle.gf2.specs.Tables.{row, basis}
 use Rattle.gf2.specs.Products.{product}
 use Rattle.gf2.specs.Check.{rowSum}
-use Rattle.operand.specs.declared.fault.Fault.{Fault}
-use Rattle.operand.specs.declared.fault.Fault.the-variants.{None, Width, Length, HighBit, RowZero, RowPair, Triple, RowSum, TurnCount, InverseOfZero, TraceOne, OutputShort, NoType, BadGate}
-use Rattle.operand.specs.Faults.{numberOf, isNone, when, orElse, firstOf, firstFrom}
+use Rattle.judging.specs.declared.fault.Fault.{Fault}
+use Rattle.judging.specs.declared.fault.Fault.the-variants.{None, Width, Length, HighBit, RowZero, RowPair, Triple, RowSum, TurnCount, InverseOfZero, TraceOne, OutputShort, NoType, BadGate}
+use Rattle.operand.specs.Faults.{when, orElse, firstOf, firstFrom}
+use Rattle.judging.specs.Faults.{numberOf, isNone}
 use Rattle.operand.specs.Judgements.{widthFault, lengthFault, highFault, turnFault, traceFault, bytesFault}
 use Rattle.operand.proofs.FaultLaws.{none-is, number-most, when-keeps, or-keeps, first-keeps, from-keeps, or-both, width-fine}
 use Rattle.table.specs.Judgements.{same, rowsFault, shapeFault, rowZeroFault, rowPairFault, tripleFault, rowSumFault, symmetryFault, checkFault}

@@ -6,7 +6,7 @@ use Rattle.gf2.specs.Operands.{bytesFor, zeroes, ones, added, turned, choose}
 use Rattle.gf2.specs.Quadratic.{trace, root}
 use Rattle.gf2.specs.Products.{product, reduced}
 use Rattle.gf2.specs.Inverse.{inverse, productsMade}
-use Rattle.operand.specs.Faults.{isNone}
+use Rattle.judging.specs.Faults.{isNone}
 use Rattle.operand.specs.Judgements.{bytesFault}
 use Rattle.table.specs.Judgements.{checkFault}
 use Rattle.table.specs.Calls.{onesCall}

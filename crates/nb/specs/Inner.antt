@@ -4,7 +4,7 @@ use Prim.Native.Nat.{ℕ}
 use lib.Dec.{leb}
 use Rattle.gf2.specs.Operands.{maxWidth, bytesFor, choose}
 use Rattle.operand.specs.declared.Operand.{Operand}
-use Rattle.operand.specs.declared.fault.Fault.{Fault}
+use Rattle.judging.specs.declared.fault.Fault.{Fault}
 use Rattle.operand.specs.Judgements.{widthFault, lengthFault}
 use Rattle.table.specs.Rows.{carriedBy}
 

@@ -3,8 +3,8 @@ use mathlib.Core.Path.{_≡_}
 use mathlib.Core.Bool.{true}
 use Prim.Native.Nat.{ℕ, _+_, _*_, _/_, _%_, _^_, _<_}
 use Rattle.gf2.specs.Operands.{choose}
-use Rattle.operand.specs.declared.fault.Fault.{Fault}
-use Rattle.operand.specs.Faults.{numberOf, isNone}
+use Rattle.judging.specs.declared.fault.Fault.{Fault}
+use Rattle.judging.specs.Faults.{numberOf, isNone}
 
 -- "number + 2^8 · first + 2^36 · second"
 abbrev pub packed : ℕ → ℕ → ℕ → ℕ

@@ -3,25 +3,26 @@ ghost use mathlib.Core.Path.{_≡_};
 ghost use lib.ListN.{length};
 ghost use Rattle.gf2.specs.Operands.{choose};
 ghost use Rattle.gf2.specs.Coordinates.{coord, pack};
-ghost use Rattle.operand.specs.Faults.{isNone, firstOf};
+ghost use Rattle.operand.specs.Faults.{firstOf};
+ghost use Rattle.judging.specs.Faults.{isNone};
 ghost use Rattle.nb.specs.Inner.{oneSizes, twoSizes, narrowed, carriedAs};
-use operand::Fault;
+use judging::Fault;
 use operand::Operand;
 use operand::OperandAnswer;
-use operand::judge_length;
-use operand::judge_width;
+use judging::judge_length;
+use judging::judge_width;
 
 // The lengths of an operand and a result.
 pub(crate) fn judge_one(m: usize, a: usize, result: usize) -> Fault
     ensures { λ r. ⌜ r ≡ firstOf (oneSizes m a result) ⌝ }
 {
     let fault = judge_width(m);
-    if !operand::is_none(fault) {
+    if !judging::is_none(fault) {
         return fault;
     }
-    let size = operand::bytes_for(m);
+    let size = limbs::bytes_for(m);
     let first = judge_length(a, size);
-    if !operand::is_none(first) {
+    if !judging::is_none(first) {
         return first;
     }
     judge_length(result, size)
@@ -32,10 +33,10 @@ pub(crate) fn judge_two(m: usize, a: usize, b: usize, result: usize) -> Fault
     ensures { λ r. ⌜ r ≡ firstOf (twoSizes m a b result) ⌝ }
 {
     let fault = judge_one(m, a, b);
-    if !operand::is_none(fault) {
+    if !judging::is_none(fault) {
         return fault;
     }
-    judge_length(result, operand::bytes_for(m))
+    judge_length(result, limbs::bytes_for(m))
 }
 
 fn narrow(m: usize) -> u16
@@ -62,7 +63,7 @@ pub(crate) fn settle(answer: OperandAnswer, result: &mut [u8]) -> Fault
     let fault = answer.fault;
     let value = answer.value;
     let x = value.bytes;
-    if operand::is_none(fault) {
+    if judging::is_none(fault) {
         limbs::copy_out(x, result);
     }
     fault

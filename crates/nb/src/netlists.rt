@@ -74,7 +74,7 @@ pub extern "C" fn nb_run(
 {
     let m = width as usize;
     let sizes = bytes::judge_two(m, a.len(), b.len(), result.len());
-    if !operand::is_none(sizes) {
+    if !judging::is_none(sizes) {
         return packing::answer(sizes, 0, 0);
     }
     let fault = netlist::run(

@@ -30,7 +30,7 @@ pub extern "C" fn nb_turn(width: u64, a: &[u8], k: u64, result: &mut [u8]) -> u6
 {
     let m = width as usize;
     let sizes = bytes::judge_one(m, a.len(), result.len());
-    if !operand::is_none(sizes) {
+    if !judging::is_none(sizes) {
         return packing::answer(sizes, 0, 0);
     }
     let turned = bytes::carry(m, a).turn(k as usize);
@@ -43,7 +43,7 @@ pub extern "C" fn nb_sum(width: u64, a: &[u8], b: &[u8], result: &mut [u8]) -> u
 {
     let m = width as usize;
     let sizes = bytes::judge_two(m, a.len(), b.len(), result.len());
-    if !operand::is_none(sizes) {
+    if !judging::is_none(sizes) {
         return packing::answer(sizes, 0, 0);
     }
     let sum = bytes::carry(m, a).sum(bytes::carry(m, b));
@@ -68,7 +68,7 @@ pub extern "C" fn nb_solve(width: u64, c: &[u8], result: &mut [u8]) -> u64
 {
     let m = width as usize;
     let sizes = bytes::judge_one(m, c.len(), result.len());
-    if !operand::is_none(sizes) {
+    if !judging::is_none(sizes) {
         return packing::answer(sizes, 0, 0);
     }
     let solution = bytes::carry(m, c).solve();

@@ -2,7 +2,7 @@
 ghost use mathlib.Core.Path.{_≡_};
 ghost use Prim.Native.Nat.{_^_, _<_};
 ghost use Rattle.nb.specs.Packing.{packed, packedAnswer, valueLimit, Packs};
-use operand::Fault;
+use judging::Fault;
 
 // What the first value and the second stand for in the packed number: 2^8 and 2^36.
 const FIRST: u64 = 256;
@@ -28,9 +28,9 @@ pub(crate) fn answer(fault: Fault, first: usize, second: usize) -> u64
     requires { ⌜ Packs fault first second ⌝ }
     ensures { λ r. ⌜ r ≡ packedAnswer fault first second ⌝ }
 {
-    if operand::is_none(fault) {
+    if judging::is_none(fault) {
         return pack(0, first, second);
     }
-    let n = operand::number(fault);
+    let n = judging::number(fault);
     pack(n.0, n.1, n.2)
 }

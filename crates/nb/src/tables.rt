@@ -27,7 +27,7 @@ pub extern "C" fn nb_product(width: u64, table: &[u8], a: &[u8], b: &[u8], resul
 {
     let m = width as usize;
     let sizes = bytes::judge_two(m, a.len(), b.len(), result.len());
-    if !operand::is_none(sizes) {
+    if !judging::is_none(sizes) {
         return packing::answer(sizes, 0, 0);
     }
     let product = product::product(m, table, bytes::carry(m, a), bytes::carry(m, b));
@@ -46,7 +46,7 @@ pub extern "C" fn nb_product_reduced(
 {
     let m = width as usize;
     let sizes = bytes::judge_two(m, a.len(), b.len(), result.len());
-    if !operand::is_none(sizes) {
+    if !judging::is_none(sizes) {
         return packing::answer(sizes, 0, 0);
     }
     let product = product::product_reduced(m, table, bytes::carry(m, a), bytes::carry(m, b));
@@ -59,7 +59,7 @@ pub extern "C" fn nb_inverse(width: u64, table: &[u8], a: &[u8], result: &mut [u
 {
     let m = width as usize;
     let sizes = bytes::judge_one(m, a.len(), result.len());
-    if !operand::is_none(sizes) {
+    if !judging::is_none(sizes) {
         return packing::answer(sizes, 0, 0);
     }
     let inverse = product::inverse(m, table, bytes::carry(m, a));

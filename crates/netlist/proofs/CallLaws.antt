@@ -10,9 +10,10 @@ use lib.Dec.{ltb}
 use Rattle.gf2.specs.Operands.{maxWidth, choose}
 use Rattle.gf2.specs.Tables.{IsTable, onesIn}
 use Rattle.gf2.specs.Check.{Symmetric}
-use Rattle.operand.specs.declared.fault.Fault.{Fault}
-use Rattle.operand.specs.declared.fault.Fault.the-variants.{OutputShort}
-use Rattle.operand.specs.Faults.{isNone, when}
+use Rattle.judging.specs.declared.fault.Fault.{Fault}
+use Rattle.judging.specs.declared.fault.Fault.the-variants.{OutputShort}
+use Rattle.operand.specs.Faults.{when}
+use Rattle.judging.specs.Faults.{isNone}
 use Rattle.operand.proofs.FaultLaws.{none-is, two-first, two-second}
 use Rattle.table.specs.Rows.{Shaped}
 use Rattle.table.specs.declared.OnesAnswer.{OnesAnswer}

@@ -9,9 +9,10 @@ use Rattle.gf2.specs.Sums.{every}
 use Rattle.gf2.specs.Operands.{maxWidth, bytesFor}
 use Rattle.gf2.proofs.Parity.{and-both}
 use Rattle.operand.specs.declared.Operand.{Operand}
-use Rattle.operand.specs.declared.fault.Fault.{Fault}
-use Rattle.operand.specs.declared.fault.Fault.the-variants.{None, Length, BadGate}
-use Rattle.operand.specs.Faults.{isNone, when, orElse, firstOf}
+use Rattle.judging.specs.declared.fault.Fault.{Fault}
+use Rattle.judging.specs.declared.fault.Fault.the-variants.{None, Length, BadGate}
+use Rattle.operand.specs.Faults.{when, orElse, firstOf}
+use Rattle.judging.specs.Faults.{isNone}
 use Rattle.operand.specs.Judgements.{lengthFault}
 use Rattle.operand.proofs.FaultLaws.{or-first, or-second, or-none, or-both, first-two, first-more, width-fine, length-fine}
 use Rattle.netlist.specs.Running.{gateCount}

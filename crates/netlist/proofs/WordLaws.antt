@@ -12,9 +12,11 @@ use Rattle.gf2.specs.Operands.{bytesFor, carriedBytes, IsOperand}
 use Rattle.gf2.proofs.Sums.{every-of}
 use Rattle.gf2.proofs.Coordinates.{length-tabulate, getD-tabulate}
 use Rattle.operand.specs.declared.Operand.{Operand}
-use Rattle.operand.specs.declared.fault.Fault.the-variants.{None}
-use Rattle.operand.specs.Faults.{isNone, orElse, firstOf}
-use Rattle.operand.proofs.FaultFree.{IsWidth, width-none, length-none, high-none}
+use Rattle.judging.specs.declared.fault.Fault.the-variants.{None}
+use Rattle.operand.specs.Faults.{orElse, firstOf}
+use Rattle.judging.specs.Faults.{isNone}
+use Rattle.operand.proofs.FaultFree.{width-none, length-none, high-none}
+use Rattle.judging.proofs.Passed.{IsWidth}
 use Rattle.netlist.specs.Gates.{Gate, AND, XOR, Netlist, gateWords, words}
 use Rattle.netlist.specs.Lists.{each}
 use Rattle.netlist.specs.Running.{gateOf, kindAt, leftAt, rightAt, gateCount, outputAt, gatesTo, readList}

@@ -5,9 +5,10 @@ use Prim.Native.Nat.{ℕ}
 use lib.ListN.{length, drop}
 use Rattle.gf2.specs.Operands.{bytesFor, choose}
 use Rattle.operand.specs.declared.Operand.{Operand}
-use Rattle.operand.specs.declared.fault.Fault.{Fault}
-use Rattle.operand.specs.declared.fault.Fault.the-variants.{None}
-use Rattle.operand.specs.Faults.{isNone, firstOf}
+use Rattle.judging.specs.declared.fault.Fault.{Fault}
+use Rattle.judging.specs.declared.fault.Fault.the-variants.{None}
+use Rattle.operand.specs.Faults.{firstOf}
+use Rattle.judging.specs.Faults.{isNone}
 use Rattle.table.specs.Judgements.{symmetryFault}
 use Rattle.netlist.specs.declared.CountsAnswer.{CountsAnswer}
 use Rattle.netlist.specs.Gates.{Netlist, words, andGates, xorGates}

@@ -7,8 +7,8 @@ use lib.Dec.{leb, ltb}
 use Rattle.gf2.specs.Sums.{every}
 use Rattle.gf2.specs.Operands.{bytesFor}
 use Rattle.operand.specs.declared.Operand.{Operand}
-use Rattle.operand.specs.declared.fault.Fault.{Fault}
-use Rattle.operand.specs.declared.fault.Fault.the-variants.{Length, OutputShort, BadGate}
+use Rattle.judging.specs.declared.fault.Fault.{Fault}
+use Rattle.judging.specs.declared.fault.Fault.the-variants.{Length, OutputShort, BadGate}
 use Rattle.operand.specs.Faults.{when, firstOf}
 use Rattle.operand.specs.Judgements.{widthFault, lengthFault, highFault}
 use Rattle.netlist.specs.Running.{kindAt, leftAt, rightAt, gateCount, outputAt}

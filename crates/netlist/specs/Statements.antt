@@ -15,7 +15,7 @@ use Rattle.gf2.specs.Tables.{IsTable, row, onesIn}
 use Rattle.gf2.specs.Products.{product}
 use Rattle.gf2.specs.Check.{Symmetric, Accepted}
 use Rattle.operand.specs.declared.Operand.{Operand}
-use Rattle.operand.specs.declared.fault.Fault.the-variants.{None}
+use Rattle.judging.specs.declared.fault.Fault.the-variants.{None}
 use Rattle.table.specs.Judgements.{symmetryFault}
 use Rattle.netlist.specs.Gates.{Netlist, words, andGates, xorGates}
 use Rattle.netlist.specs.Lists.{plain, reduced, fullRows, common}

@@ -14,7 +14,7 @@ use crate::AndCount;
 use crate::CountsAnswer;
 use crate::XorCount;
 use crate::entries;
-use operand::Fault;
+use judging::Fault;
 
 // The three lists of a table.
 pub(crate) enum Method {
@@ -116,7 +116,7 @@ pub(crate) fn counts_by(width: usize, table: &[u8], method: Method) -> CountsAns
     ensures { λ r. ⌜ r ≡ countsCall width (now (table .entry)) (listBy method width (now (table .entry))) ⌝ }
 {
     let fault = table::judge_symmetry(width, table);
-    if !operand::is_none(fault) {
+    if !judging::is_none(fault) {
         return refused(fault);
     }
     counted(width * width, xors_by(width, table, method))

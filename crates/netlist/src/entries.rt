@@ -21,7 +21,7 @@ pub(crate) fn entry(width: usize, table: &[u8], d: usize, s: usize) -> bool
     requires { ⌜ (Shaped width (now table)) × (d < width) × (s < width) ⌝ }
     ensures { λ r. ⌜ r ≡ eqb (coord (row width (now (table .entry)) d) s) 1 ⌝ }
 {
-    let first = d * operand::bytes_for(width);
+    let first = d * limbs::bytes_for(width);
     words::coordinate(table, 8 * first + s) == 1
 }
 

@@ -7,14 +7,14 @@ ghost use Rattle.netlist.specs.Gates.{wordLimit};
 ghost use Rattle.netlist.specs.Running.{gateCount};
 ghost use Rattle.netlist.specs.Judgements.{widthsFault, wordsFault, lengthsFault, bitsFault, isGate, isOutput, gatesFault, runFault};
 use crate::words;
-use operand::Fault;
+use judging::Fault;
 use operand::Operand;
 
 fn judge_widths(width: usize, a_width: usize, b_width: usize) -> Fault
     ensures { λ r. ⌜ r ≡ widthsFault width «a_width» «b_width» ⌝ }
 {
-    let carried = operand::or_else(operand::judge_width(a_width), operand::judge_width(b_width));
-    operand::or_else(operand::judge_width(width), carried)
+    let carried = operand::or_else(judging::judge_width(a_width), judging::judge_width(b_width));
+    operand::or_else(judging::judge_width(width), carried)
 }
 
 fn judge_words(width: usize, list: &[u32]) -> Fault
@@ -25,8 +25,8 @@ fn judge_words(width: usize, list: &[u32]) -> Fault
         return Fault::Length;
     }
     let size = 2 + 3 * words::word(list, 1) + width;
-    let whole = operand::judge_length(list.len(), size);
-    operand::or_else(operand::judge_length(words::word(list, 0), width), whole)
+    let whole = judging::judge_length(list.len(), size);
+    operand::or_else(judging::judge_length(words::word(list, 0), width), whole)
 }
 
 fn judge_lengths(
@@ -41,20 +41,20 @@ fn judge_lengths(
     ensures { λ r. ⌜ r ≡ lengthsFault width (now (list .entry)) «a_width» «b_width» result wires ⌝ }
 {
     let all = 2 * width + words::word(list, 1);
-    let byte_per_wire = operand::judge_length(wires, all);
+    let byte_per_wire = judging::judge_length(wires, all);
     let buffers = operand::or_else(
-        operand::judge_length(result, operand::bytes_for(width)),
+        judging::judge_length(result, limbs::bytes_for(width)),
         byte_per_wire,
     );
     let listed = operand::or_else(judge_words(width, list), buffers);
-    let second = operand::or_else(operand::judge_length(b_width, width), listed);
-    operand::or_else(operand::judge_length(a_width, width), second)
+    let second = operand::or_else(judging::judge_length(b_width, width), listed);
+    operand::or_else(judging::judge_length(a_width, width), second)
 }
 
 fn judge_bits(width: usize, a: [u8; Operand::BYTES], b: [u8; Operand::BYTES]) -> Fault
     ensures { λ r. ⌜ r ≡ bitsFault width a b ⌝ }
 {
-    operand::or_else(operand::judge_high(a, width), operand::judge_high(b, width))
+    operand::or_else(judging::judge_high(a, width), judging::judge_high(b, width))
 }
 
 fn is_gate(width: usize, list: &[u32], k: usize) -> bool
@@ -129,17 +129,17 @@ pub(crate) fn judge_run(
     let a_width = a.width as usize;
     let b_width = b.width as usize;
     let widths = judge_widths(width, a_width, b_width);
-    if !operand::is_none(widths) {
+    if !judging::is_none(widths) {
         return widths;
     }
     let lengths = judge_lengths(width, list, a_width, b_width, result, wires);
-    if !operand::is_none(lengths) {
+    if !judging::is_none(lengths) {
         return lengths;
     }
     let x = a.bytes;
     let y = b.bytes;
     let bits = judge_bits(width, x, y);
-    if !operand::is_none(bits) {
+    if !judging::is_none(bits) {
         return bits;
     }
     judge_gates(width, list)

@@ -1,5 +1,5 @@
 // Gate lists of a table: counting their gates, writing them, running them.
-use operand::Fault;
+use judging::Fault;
 
 mod counts;
 mod entries;

@@ -8,7 +8,7 @@ ghost use lib.Dec.{ltb};
 ghost use Rattle.gf2.specs.Sums.{sum};
 ghost use Rattle.gf2.specs.Operands.{maxWidth, choose};
 ghost use Rattle.gf2.specs.Check.{Symmetric};
-ghost use Rattle.operand.specs.declared.fault.Fault.the-variants.{OutputShort};
+ghost use Rattle.judging.specs.declared.fault.Fault.the-variants.{OutputShort};
 ghost use Rattle.table.specs.Rows.{Shaped};
 ghost use Rattle.netlist.specs.Gates.{wordLimit, gateWords, words as wordsOf};
 ghost use Rattle.netlist.specs.Lists.{folds, ends, gateWire, plain, reduced, common};
@@ -23,7 +23,7 @@ use crate::fold::Fold;
 use crate::successors;
 use crate::terms;
 use crate::terms::Terms;
-use operand::Fault;
+use judging::Fault;
 
 // The gate of a pair as gate n, and the number of the next: an AND, or where they are mixed an XOR of two of these.
 fn put_pair(out: &mut [u32], width: usize, mixed: bool, i: usize, j: usize, n: usize) -> usize
@@ -210,7 +210,7 @@ fn list_by(width: usize, table: &[u8], out: &mut [u32], method: Method) -> Count
 {
     let counts = counts::counts_by(width, table, method);
     let fault = counts.fault;
-    if !operand::is_none(fault) {
+    if !judging::is_none(fault) {
         return counts;
     }
     let terms = terms_by(width, table, method);

@@ -13,7 +13,7 @@ ghost use Rattle.netlist.specs.Judgements.{isGate, isOutput, runFault};
 ghost use Rattle.netlist.specs.Calls.{runResult, runWires};
 use crate::judge;
 use crate::words;
-use operand::Fault;
+use judging::Fault;
 use operand::Operand;
 
 // The coordinates of an operand, on the wires from `at` on.
@@ -125,7 +125,7 @@ pub fn run(
     let x = a.bytes;
     let y = b.bytes;
     let fault = judge::judge_run(width, list, a, b, result.len(), wires.len());
-    if operand::is_none(fault) {
+    if judging::is_none(fault) {
         fill_wires(width, list, &x, &y, wires);
         fill_result(width, list, wires, result);
     }

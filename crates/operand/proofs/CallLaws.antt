@@ -1,7 +1,8 @@
--- The value of each call, from what its kernels give: zero, one, sum, trace, solution, read and written bytes.
+-- What the calls answer, from what their parts give.
+-- Answers: with and without a fault, equal faults. Values: zero, one, sum, trace, solution. Bits judged on carried bytes.
 use mathlib.Core.Path.{_≡_, refl, sym, ap, _∙_}
 use mathlib.Core.Bool.{Bool, true, false, not}
-use mathlib.Core.List.{List}
+use mathlib.Core.List.{List, [], _∷_}
 use Prim.Native.Nat.{ℕ, zero, suc, _+_, _-_, _*_, _/_, _%_, _^_, _<_, _≤_}
 use native.Mathlib.Nat.{mod-eq-of-lt, mod-mod, add-zero}
 use native.Mathlib.Decide.{decLt}
@@ -11,17 +12,79 @@ use lib.Dec.{eqb}
 use borrow.Author.Tests.{eqb-true}
 use Rattle.gf2.specs.Sums.{sum, every}
 use Rattle.gf2.specs.Coordinates.{coord, value, tabulate, pack}
-use Rattle.gf2.specs.Operands.{maxWidth, bytesFor, carriedBytes, isClear, below, fromCoords, zeroes, ones, added}
+use Rattle.gf2.specs.Operands.{maxWidth, bytesFor, carriedBytes, choose, IsOperand, isClear, below, fromCoords, zeroes, ones, added}
 use Rattle.gf2.specs.Quadratic.{trace, rootCoord, root}
 use Rattle.gf2.proofs.Parity.{bool-ext}
 use Rattle.gf2.proofs.Sums.{sum-split, every-at}
-use Rattle.gf2.proofs.Coordinates.{coord-lt, coord-past, coord-pack, pack-ext, length-pack}
-use Rattle.gf2.proofs.Operands.{from-ext, clear-at, clear-of, below-in, below-out}
+use Rattle.gf2.proofs.Coordinates.{coord-lt, coord-past, coord-pack, pack-ext, pack-byte, length-pack}
+use Rattle.gf2.proofs.Operands.{coord-from, from-ext, from-eq, from-operand, clear-at, clear-of, below-in, below-out}
+use Rattle.gf2.proofs.Carrying.{HasBytes, same-coord, clear-carried, coord-repacked}
+use Rattle.judging.specs.declared.fault.Fault.{Fault}
+use Rattle.judging.specs.Faults.{isNone}
+use Rattle.judging.specs.Causes.{Cause, faultOf}
+use Rattle.judging.specs.FaultTable.{badWidth, notW, highBit, turnTooFar, traceIsOne}
+use Rattle.judging.proofs.CauseLaws.{same-head, head-fails, fine}
+use Rattle.judging.proofs.Passed.{IsWidth, is-width, as-laid-down, is-clear, turn-passes}
 use Rattle.operand.specs.declared.Operand.{Operand}
-use Rattle.operand.specs.declared.fault.Fault.the-variants.{HighBit, TraceOne}
-use Rattle.operand.specs.Faults.{isNone, when, orElse}
-use Rattle.operand.specs.Judgements.{widthFault, lengthFault, highFault, traceFault, bytesFault}
-use Rattle.operand.proofs.FaultLaws.{or-first, first-two, first-more, width-fine, length-fine, Fine}
+use Rattle.operand.specs.declared.OperandAnswer.{OperandAnswer}
+use Rattle.operand.specs.Causes.{operandCauses, turnCauses}
+use Rattle.operand.specs.Calls.{noOperand, answer}
+
+-- equal faults and, where these are none, equal bytes make equal answers
+pub answer-same : {f g : Fault} (m : ℕ) {x y : List ℕ} → f ≡ g → (isNone g ≡ true → x ≡ y) → answer f m x ≡ answer g m y
+unfolding answer
+answer-same {f} {g} m {x} {y} e h = ap (λ k. answer k m x) e ∙ go (isNone g) refl
+  where
+    go : (b : Bool) → isNone g ≡ b → answer g m x ≡ answer g m y
+    go true q = ap (answer g m) (h q)
+    go false q = rw q
+
+-- a call that was refused
+pub refusal : (g : Fault) {f : Fault} (m : ℕ) (y : List ℕ) {r : OperandAnswer} → f ≡ g → isNone g ≡ false → r ≡ (record { fault = f; value = noOperand }) → r ≡ answer g m y
+unfolding answer
+refusal g m y q n e = rw n (e ∙ ap (λ z. record { fault = z; value = noOperand }) q)
+
+-- a buffer after a call
+pub kept : (f : Fault) (z old : List ℕ) → isNone f ≡ false → old ≡ choose (isNone f) z old
+kept f z old e = rw e
+
+pub filled : (f : Fault) (z old : List ℕ) {new : List ℕ} → isNone f ≡ true → new ≡ z → new ≡ choose (isNone f) z old
+filled f z old e q = rw e q
+
+-- lengths that are as laid down
+pub record Sized (m : ℕ) (a old : List ℕ) : Type 0 where
+  pub width : IsWidth m
+  pub operand : HasBytes m a
+  pub room : length old ≡ bytesFor m
+
+pub sized : (m : ℕ) (a old : List ℕ) → isNone (faultOf (badWidth m ∷ notW m a ∷ notW m old ∷ [])) ≡ true → Sized m a old
+sized m a old e =
+    let p = fine (badWidth m ∷ notW m a ∷ notW m old ∷ []) e in
+    let w = is-width m (p .0) in
+    record { width = w; operand = record { greatest = w .greatest; size = as-laid-down _ _ (p .1 .0) }; room = as-laid-down _ _ (p .1 .1 .0) }
+
+pub record SizedPair (m : ℕ) (a b old : List ℕ) : Type 0 where
+  pub width : IsWidth m
+  pub left : HasBytes m a
+  pub right : HasBytes m b
+  pub room : length old ≡ bytesFor m
+
+pub sized-pair : (m : ℕ) (a b old : List ℕ) → isNone (faultOf (badWidth m ∷ notW m a ∷ notW m b ∷ notW m old ∷ [])) ≡ true → SizedPair m a b old
+sized-pair m a b old e =
+    let p = fine (badWidth m ∷ notW m a ∷ notW m b ∷ notW m old ∷ []) e in
+    let w = is-width m (p .0) in
+    record {
+      width = w;
+      left = record { greatest = w .greatest; size = as-laid-down _ _ (p .1 .0) };
+      right = record { greatest = w .greatest; size = as-laid-down _ _ (p .1 .1 .0) };
+      room = as-laid-down _ _ (p .1 .1 .1 .0);
+    }
+
+-- bits may be judged on the carried bytes
+pub high-same : {m : ℕ} {a : List ℕ} → HasBytes m a → (cs ds : List Cause) → (isClear m a ≡ true → faultOf cs ≡ faultOf ds)
+    → faultOf (highBit m (pack carriedBytes (coord a)) ∷ cs) ≡ faultOf (highBit m a ∷ ds)
+high-same {m} {a} h cs ds e =
+    same-head (highBit m (pack carriedBytes (coord a))) (highBit m a) cs ds (ap not (clear-carried h)) refl (λ q. e (is-clear m a q))
 
 -- bytes whose coordinates from m on are 0 are those of the operand
 clear-pack : (n m : ℕ) (f : ℕ → ℕ) → ((i : ℕ) → m ≤ i → f i ≡ 0) → pack n f ≡ fromCoords n m f
@@ -47,6 +110,30 @@ pub one-bytes : (m : ℕ) → m ≤ maxWidth → fromCoords carriedBytes m (coor
 unfolding ones
 one-bytes m h = from-ext carriedBytes m _ (λ i. 1) (λ i l. ap (λ x. x % 2) (all-ones i (omega arith)))
 
+-- zero and one in W bytes
+pub zero-out : (m : ℕ) {n : ℕ} → n ≡ bytesFor m → pack n (coord (replicate carriedBytes 0)) ≡ zeroes (bytesFor m) m
+unfolding zeroes
+zero-out m e = rw e (pack-ext (bytesFor m) _ (λ i. 0) (λ i h. ap (λ x. x % 2) (no-coord i)) ∙ clear-pack (bytesFor m) m (λ i. 0) (λ i h. refl))
+  where
+    no-coord : (i : ℕ) → coord (replicate carriedBytes 0) i ≡ 0
+    no-coord i = ap (λ x. coord x i) no-bytes ∙ elim (decLt i (8 * carriedBytes)) [
+      | yes l ↦ coord-pack carriedBytes (λ i. 0) i l
+      | no l ↦ coord-past (pack carriedBytes (λ i. 0)) i (omega (arith, length-pack carriedBytes (λ i. 0)))
+    ]
+
+pub one-out : (m : ℕ) → m ≤ maxWidth → {n : ℕ} → n ≡ bytesFor m → pack n (coord (fromCoords carriedBytes m (coord (replicate carriedBytes 255)))) ≡ ones (bytesFor m) m
+unfolding ones
+one-out m h e = rw (e, one-bytes m h) (from-eq (bytesFor m) m (λ i. 1) (packed-operand) (λ i l. same i ∙ coord-from carriedBytes m (λ i. 1) (omega arith) i l))
+  where
+    o : IsOperand carriedBytes m (ones carriedBytes m)
+    o = from-operand carriedBytes m (λ i. 1)
+
+    same : (i : ℕ) → coord (pack (bytesFor m) (coord (ones carriedBytes m))) i ≡ coord (ones carriedBytes m) i
+    same = coord-repacked (bytesFor m) (ones carriedBytes m) (λ i l. o .clear i (omega arith))
+
+    packed-operand : IsOperand (bytesFor m) m (pack (bytesFor m) (coord (ones carriedBytes m)))
+    packed-operand = record { size = length-pack _ _; byte = pack-byte _ _; clear = λ i l. same i ∙ o .clear i l }
+
 pub sum-bytes : (m : ℕ) (x y : List ℕ) → isClear m x ≡ true → isClear m y ≡ true → pack (length x) (λ i. coord x i + coord y i) ≡ added m x y
 unfolding added
 sum-bytes m x y ex ey = clear-pack (length x) m (λ i. coord x i + coord y i) (λ i h. rw (clear-at m x ex i h, clear-at m y ey i h))
@@ -61,42 +148,33 @@ trace-bytes n m x h e =
     rest zero = refl
     rest (suc k) = rw (rest k, clear-at m x e (m + k) (omega arith))
 
--- the trace over all carried bits of an operand that has no fault
-pub trace-fault : {a : Operand} → Fine a → traceFault (8 * carriedBytes) (a .bytes) ≡ traceFault (a .width) (a .bytes)
-unfolding traceFault trace
-trace-fault {a} fine = ap (λ t. when (eqb t 1) TraceOne) (trace-bytes (8 * carriedBytes) (a .width) (a .bytes) (omega (arith, fine .greatest)) (fine .clear))
-
 pub root-bytes : (m : ℕ) (c : List ℕ) → length c ≡ carriedBytes → m ≤ maxWidth → fromCoords carriedBytes m (coord (pack carriedBytes (rootCoord c))) ≡ root m c
 unfolding root
 root-bytes m c size h = rw size (from-ext carriedBytes m _ (rootCoord c) (λ i l. ap (λ x. x % 2) (coord-pack carriedBytes (rootCoord c) i (omega arith)) ∙ mod-mod _ 2))
 
--- the coordinates of a list, in n bytes that are enough for them
-pub coord-repacked : (n : ℕ) (s : List ℕ) → ((i : ℕ) → 8 * n ≤ i → coord s i ≡ 0) → (i : ℕ) → coord (pack n (coord s)) i ≡ coord s i
-coord-repacked n s h i = elim (decLt i (8 * n)) [
-  | yes l ↦ coord-pack n (coord s) i l ∙ mod-eq-of-lt (coord-lt s i)
-  | no l ↦ coord-past (pack n (coord s)) i (omega (arith, length-pack n (coord s))) ∙ sym (h i (omega arith))
-]
+-- the trace over all carried bits of an operand without high bits
+pub trace-same : (m : ℕ) (x : List ℕ) → m ≤ maxWidth → isClear m x ≡ true → faultOf (traceIsOne (8 * carriedBytes) x ∷ []) ≡ faultOf (traceIsOne m x ∷ [])
+unfolding trace
+trace-same m x h e =
+    same-head (traceIsOne (8 * carriedBytes) x) (traceIsOne m x) [] [] (ap (λ t. eqb t 1) (trace-bytes (8 * carriedBytes) m x (omega arith) e)) refl (λ q. refl)
 
--- the same of a list that isn't longer
-pub coord-carried : (n : ℕ) (s : List ℕ) → length s ≤ n → (i : ℕ) → coord (pack n (coord s)) i ≡ coord s i
-coord-carried n s h = coord-repacked n s (λ i l. coord-past s i (omega arith))
+-- the same after the bits were judged
+pub trace-after : (m : ℕ) (x : List ℕ) → m ≤ maxWidth → faultOf (highBit m x ∷ traceIsOne (8 * carriedBytes) x ∷ []) ≡ faultOf (highBit m x ∷ traceIsOne m x ∷ [])
+trace-after m x h = same-head (highBit m x) (highBit m x) _ _ refl refl (λ q. trace-same m x h (is-clear m x q))
 
-clear-ext : (m : ℕ) (a b : List ℕ) → ((i : ℕ) → coord a i ≡ coord b i) → isClear m a ≡ isClear m b
-clear-ext m a b e = bool-ext _ _ (λ q. clear-of m b (λ i h. sym (e i) ∙ clear-at m a q i h)) (λ q. clear-of m a (λ i h. e i ∙ clear-at m b q i h))
+-- a turn by one is never refused for its count
+pub square-fault : (a : Operand) → faultOf (turnCauses a 1) ≡ faultOf (operandCauses a)
+unfolding faultOf
+square-fault a =
+    let m = a .width in
+    let h = highBit m (a .bytes) in
+    same-head (badWidth m) (badWidth m) (h ∷ turnTooFar m 1 ∷ []) (h ∷ []) refl refl (λ w.
+    same-head h h (turnTooFar m 1 ∷ []) [] refl refl (λ q. head-fails (turnTooFar m 1) [] (turn-passes m 1 (is-width m w .least))))
 
--- the bits of a slice may be judged on its carried bytes: where these differ, an earlier fault is given
-pub bytes-fault : (m : ℕ) (s : List ℕ) → orElse (widthFault m) (orElse (lengthFault (length s) (bytesFor m)) (highFault m (pack carriedBytes (coord s)))) ≡ bytesFault m s
-unfolding bytesFault highFault
-bytes-fault m s = width (isNone (widthFault m)) refl ∙ sym (first-more _ _ _ ∙ ap (orElse (widthFault m)) (first-two _ _))
-  where
-    size : (b : Bool) → isNone (lengthFault (length s) (bytesFor m)) ≡ b → m ≤ maxWidth
-        → orElse (lengthFault (length s) (bytesFor m)) (highFault m (pack carriedBytes (coord s))) ≡ orElse (lengthFault (length s) (bytesFor m)) (highFault m s)
-    size false e h = or-first _ _ e ∙ sym (or-first _ _ e)
-    size true e h =
-        let l = length-fine (length s) (bytesFor m) e in
-        ap (λ b. orElse (lengthFault (length s) (bytesFor m)) (when (not b) HighBit)) (clear-ext m _ s (coord-carried carriedBytes s (omega arith)))
+-- the trace of W bytes, carried
+pub trace-coords : {m : ℕ} {a : List ℕ} → HasBytes m a → trace m (pack carriedBytes (coord a)) ≡ trace m a
+unfolding trace
+trace-coords {m} h = ap (λ f. sum m f % 2) (same-coord h)
 
-    width : (b : Bool) → isNone (widthFault m) ≡ b → orElse (widthFault m) (orElse (lengthFault (length s) (bytesFor m)) (highFault m (pack carriedBytes (coord s))))
-        ≡ orElse (widthFault m) (orElse (lengthFault (length s) (bytesFor m)) (highFault m s))
-    width false e = or-first _ _ e ∙ sym (or-first _ _ e)
-    width true e = ap (orElse (widthFault m)) (size (isNone (lengthFault (length s) (bytesFor m))) refl (width-fine m e .1))
+pub trace-carried : {m : ℕ} {a : List ℕ} → HasBytes m a → faultOf (traceIsOne m (pack carriedBytes (coord a)) ∷ []) ≡ faultOf (traceIsOne m a ∷ [])
+trace-carried {m} {a} h = same-head (traceIsOne m (pack carriedBytes (coord a))) (traceIsOne m a) [] [] (ap (λ t. eqb t 1) (trace-coords h)) refl (λ q. refl)

@@ -1,35 +1,39 @@
 -- The proofs of `CallLaws` in specs/Statements.antt: when 10 is given, and the way to W bytes and back.
 use mathlib.Core.Path.{_≡_, sym, ap, _∙_}
 use mathlib.Core.Bool.{true}
-use mathlib.Core.List.{List}
+use mathlib.Core.List.{List, [], _∷_}
 use Prim.Native.Nat.{ℕ, _%_, _<_}
 use native.Mathlib.Decide.{ℕ-discrete}
 use native.Mathlib.Nat.{mod-eq-of-lt}
 use native.Mathlib.Omega.{arith}
 use lib.ListN.{length, getD}
+use borrow.Author.Tests.{eq-eqb, ne-eqb}
 use Rattle.gf2.specs.Coordinates.{coord, pack}
 use Rattle.gf2.specs.Operands.{bytesFor, carriedBytes, IsOperand}
 use Rattle.gf2.specs.Quadratic.{trace, root}
 use Rattle.gf2.proofs.Coordinates.{pack-eq, pack-byte, length-pack, coord-lt, coord-past}
 use Rattle.gf2.proofs.Operands.{from-operand, clear-at}
+use Rattle.gf2.proofs.Carrying.{coord-repacked}
 use Rattle.operand.specs.declared.Operand.{Operand}
-use Rattle.operand.specs.declared.fault.Fault.the-variants.{None, TraceOne}
-use Rattle.operand.specs.Faults.{isNone, firstOf, orElse}
-use Rattle.operand.specs.Judgements.{traceFault, bytesFault, roomFault}
+use Rattle.judging.specs.declared.fault.Fault.the-variants.{None, TraceOne}
+use Rattle.judging.specs.Faults.{isNone}
+use Rattle.judging.specs.Causes.{faultOf}
+use Rattle.judging.specs.FaultTable.{badWidth, highBit, traceIsOne}
+use Rattle.judging.proofs.CauseLaws.{none-true, head-holds, goes-on, fine, none-given}
+use Rattle.judging.proofs.Passed.{IsWidth, is-width, as-laid-down, is-clear, width-passes, length-passes, operand-passes}
+use Rattle.operand.specs.Causes.{operandCauses, solveCauses, bytesCauses, roomCauses}
 use Rattle.operand.specs.Calls.{answer, solveCall, readCall, writeCall}
 use Rattle.operand.specs.Statements.{quadratic, QuadraticLaws, IsCarried, CallLaws}
-use Rattle.operand.proofs.FaultLaws.{two-second, trace-one, trace-none, bytes-fine}
-use Rattle.operand.proofs.FaultFree.{IsWidth, carry, done, operand-none, width-none, length-none, high-none}
-use Rattle.operand.proofs.CallLaws.{coord-repacked}
+use Rattle.operand.proofs.FaultFree.{carry, done, operand-none}
 use Rattle.operand.proofs.Theorems.{operand-laws}
 
 width : {a : Operand} → IsCarried a → IsWidth (a .width)
 width h = record { least = h .least; greatest = h .greatest }
 
 module _ (c : Operand) (h : IsCarried c) where
-  fault-is : solveCall c .fault ≡ traceFault (c .width) (c .bytes)
-  unfolding answer isNone
-  fault-is = two-second _ _ (ap isNone (operand-none (width h) (h .operand)))
+  fault-is : solveCall c .fault ≡ faultOf (traceIsOne (c .width) (c .bytes) ∷ [])
+  unfolding answer
+  fault-is = goes-on (operandCauses c) (traceIsOne (c .width) (c .bytes) ∷ []) (none-true (operand-none (width h) (h .operand)))
 
   abbrev Unsolvable : Type 0
   Unsolvable = (z : List ℕ) → IsOperand carriedBytes (c .width) z → ¬ (quadratic (c .width) z ≡ c .bytes)
@@ -43,7 +47,7 @@ module _ (c : Operand) (h : IsCarried c) where
 
   forth : solveCall c .fault ≡ TraceOne → Unsolvable
   forth e z oz q =
-      let t : traceFault (c .width) (c .bytes) ≡ None = trace-none _ _ (λ u. let v = laws .traceless (c .bytes) z (h .operand) oz q in omega arith) in
+      let t : faultOf (traceIsOne (c .width) (c .bytes) ∷ []) ≡ None = none-given (traceIsOne (c .width) (c .bytes) ∷ []) (ne-eqb (trace (c .width) (c .bytes)) 1 (λ u. let v = laws .traceless (c .bytes) z (h .operand) oz q in omega (arith, u, v)), tt) in
       let f = fault-is in
       let impossible : _≡_ {A = ℕ} 0 1 = cc in
       omega arith
@@ -51,22 +55,24 @@ module _ (c : Operand) (h : IsCarried c) where
   back : Unsolvable → solveCall c .fault ≡ TraceOne
   unfolding trace
   back n = fault-is ∙ elim (ℕ-discrete (trace (c .width) (c .bytes)) 1) [
-    | yes e ↦ trace-one _ _ e
+    | yes e ↦ head-holds (traceIsOne (c .width) (c .bytes)) [] (eq-eqb _ 1 e)
     | no e ↦ absurd (n (root (c .width) (c .bytes)) root-operand (laws .solves (c .bytes) (h .operand) (omega arith)))
   ]
 
 -- W bytes hold all coordinates of an operand of width m
 module _ {m : ℕ} {x : List ℕ} (old : List ℕ) (w : IsWidth m) (o : IsOperand carriedBytes m x) (size : length old ≡ bytesFor m) where
   written : writeCall (carry m x) old ≡ pack (bytesFor m) (coord x)
-  unfolding roomFault firstOf orElse isNone
-  written = rw (width-none m w, length-none _ _ size, high-none m x o) (ap (λ n. pack n (coord x)) size)
+  unfolding isNone
+  written =
+      rw (none-given (roomCauses (carry m x) (length old)) (width-passes m w, (length-passes _ _ size, (operand-passes m x o, tt))))
+      (ap (λ n. pack n (coord x)) size)
 
   same : (i : ℕ) → coord (pack (bytesFor m) (coord x)) i ≡ coord x i
   same = coord-repacked (bytesFor m) x (λ i h. o .clear i (omega arith))
 
   read-written : readCall m (writeCall (carry m x) old) ≡ done m x
-  unfolding answer bytesFault firstOf orElse isNone
-  read-written = rw (written, width-none m w, length-none _ _ (length-pack (bytesFor m) (coord x)), high-none {n = bytesFor m} m _ short)
+  unfolding answer isNone
+  read-written = rw (written, none-given (bytesCauses m (pack (bytesFor m) (coord x))) (width-passes m w, (length-passes _ _ (length-pack (bytesFor m) (coord x)), (operand-passes m _ {n = bytesFor m} short, tt))))
       (ap (done m) (sym (pack-eq carriedBytes _ x (o .size) (o .byte) (λ i h. sym (ap (λ b. b % 2) (same i) ∙ mod-eq-of-lt (coord-lt x i))))))
     where
       short : IsOperand (bytesFor m) m (pack (bytesFor m) (coord x))
@@ -75,12 +81,13 @@ module _ {m : ℕ} {x : List ℕ} (old : List ℕ) (w : IsWidth m) (o : IsOperan
 written-read : (m : ℕ) (bytes old : List ℕ) → ((b : ℕ) → getD bytes b 0 < 256) → readCall m bytes .fault ≡ None → length old ≡ length bytes → writeCall (readCall m bytes .value) old ≡ bytes
 unfolding answer isNone
 written-read m bytes old small e size =
-    let none : isNone (bytesFault m bytes) ≡ true = ap isNone e in
-    let fine = bytes-fine m bytes none in
-    let h = fine .laidDown in
-    let same = coord-repacked carriedBytes bytes (λ i l. coord-past bytes i (omega (arith, fine .greatest))) in
-    let carried : IsOperand carriedBytes m (pack carriedBytes (coord bytes)) = record { size = length-pack _ _; byte = pack-byte _ _; clear = λ i l. same i ∙ clear-at m bytes (fine .clear) i l } in
-    rw none (written old (record { least = fine .least; greatest = fine .greatest }) carried (size ∙ h)
+    let none : isNone (faultOf (bytesCauses m bytes)) ≡ true = none-true e in
+    let passed = fine (bytesCauses m bytes) none in
+    let w = is-width m (passed .0) in
+    let h = as-laid-down (length bytes) (bytesFor m) (passed .1 .0) in
+    let same = coord-repacked carriedBytes bytes (λ i l. coord-past bytes i (omega (arith, w .greatest))) in
+    let carried : IsOperand carriedBytes m (pack carriedBytes (coord bytes)) = record { size = length-pack _ _; byte = pack-byte _ _; clear = λ i l. same i ∙ clear-at m bytes (is-clear m bytes (passed .1 .1 .0)) i l } in
+    rw none (written old w carried (size ∙ h)
     ∙ sym (pack-eq (bytesFor m) _ bytes h small (λ i l. sym (ap (λ b. b % 2) (same i) ∙ mod-eq-of-lt (coord-lt bytes i)))))
 
 pub call-laws : CallLaws

@@ -14,11 +14,17 @@ use Rattle.gf2.specs.Operands.{maxWidth, bytesFor, isClear}
 use Rattle.gf2.specs.Quadratic.{trace}
 use Rattle.operand.specs.declared.Operand.{Operand}
 use Rattle.operand.specs.declared.OperandAnswer.{OperandAnswer}
-use Rattle.operand.specs.declared.fault.Fault.{Fault}
-use Rattle.operand.specs.declared.fault.Fault.the-variants.{None, Width, Length, HighBit, RowZero, RowPair, Triple, RowSum, TurnCount, InverseOfZero, TraceOne, OutputShort, CardEnds, CardNumber, CardForm, CardPlace, CardTail, NoType, BadGate}
-use Rattle.operand.specs.Faults.{numberOf, isNone, when, orElse, firstOf, firstFrom}
-use Rattle.operand.specs.Judgements.{widthFault, lengthFault, highFault, turnFault, traceFault, operandFault, pairFault, bytesFault}
-use Rattle.operand.specs.Calls.{noOperand, answer}
+use Rattle.judging.specs.declared.fault.Fault.{Fault}
+use Rattle.judging.specs.declared.fault.Fault.the-variants.{None, Width, Length, HighBit, RowZero, RowPair, Triple, RowSum, TurnCount, InverseOfZero, TraceOne, OutputShort, CardEnds, CardNumber, CardForm, CardPlace, CardTail, NoType, BadGate}
+use Rattle.judging.specs.Faults.{numberOf, isNone}
+use Rattle.judging.specs.Causes.{Cause, faultOf}
+use Rattle.judging.specs.FaultTable.{badWidth, badLength, highBit, turnTooFar, traceIsOne}
+use Rattle.judging.proofs.CauseLaws.{some, head-holds, head-fails, fine}
+use Rattle.judging.proofs.Passed.{IsWidth, is-width, as-laid-down, is-clear, below-width, width-passes, length-passes, operand-passes, turn-passes}
+use Rattle.operand.specs.Causes.{operandCauses, pairCauses, bytesCauses, turnCauses, solveCauses, roomCauses}
+use Rattle.operand.specs.Faults.{when, orElse, firstOf, firstFrom}
+use Rattle.operand.specs.Judgements.{widthFault, lengthFault, highFault, turnFault, traceFault, operandFault, pairFault, bytesFault, roomFault}
+use Rattle.operand.specs.Calls.{answer}
 
 never : {A : Type 0} → false ≡ true → A
 never e = absurd (let z : _≡_ {A = ℕ} 0 1 = cc in omega arith)
@@ -128,15 +134,6 @@ more-fine f g fs e = or-both f (firstOf (g ∷ fs)) (ap isNone (sym (first-more 
 pub judged : {f g : Fault} {b v : Bool} → f ≡ g → b ≡ isNone f → b ≡ v → isNone g ≡ v
 judged e r t = ap isNone (sym e) ∙ sym r ∙ t
 
--- equal faults and, where these are none, equal bytes make equal answers
-pub answer-same : {f g : Fault} (m : ℕ) {x y : List ℕ} → f ≡ g → (isNone g ≡ true → x ≡ y) → answer f m x ≡ answer g m y
-unfolding answer
-answer-same {f} {g} m {x} {y} e h = ap (λ k. answer k m x) e ∙ go (isNone g) refl
-  where
-    go : (b : Bool) → isNone g ≡ b → answer g m x ≡ answer g m y
-    go true q = ap (answer g m) (h q)
-    go false q = rw q
-
 -- a later fault counts only where the earlier is none
 pub or-cong : (f : Fault) {x y : Fault} → (isNone f ≡ true → x ≡ y) → orElse f x ≡ orElse f y
 or-cong f {x} {y} h = go (isNone f) refl
@@ -157,15 +154,6 @@ pub answered : (g : Fault) {m : ℕ} {x y : List ℕ} {r : OperandAnswer} → is
 unfolding answer
 answered g {m} n e q = rw (n, none-is g n) (e ∙ ap (λ z. record { fault = None; value = record { bytes = z; width = m } }) q)
 
-pub refusal : (g : Fault) {f : Fault} (m : ℕ) (y : List ℕ) {r : OperandAnswer} → f ≡ g → isNone g ≡ false → r ≡ (record { fault = f; value = noOperand }) → r ≡ answer g m y
-unfolding answer
-refusal g m y q n e = rw n (e ∙ ap (λ z. record { fault = z; value = noOperand }) q)
-
--- a cause that gives no fault does not hold
-when-none : (b : Bool) (f : Fault) → isNone f ≡ false → isNone (when b f) ≡ true → b ≡ false
-when-none true f n e = never (sym n ∙ e)
-when-none false f n e = refl
-
 pub not-not : (b : Bool) → not b ≡ false → b ≡ true
 not-not true e = refl
 not-not false e = sym e
@@ -174,91 +162,26 @@ pub not-true : (b : Bool) → not b ≡ true → b ≡ false
 not-true true e = sym e
 not-true false e = refl
 
-both-true : (a b : Bool) → (a && b) ≡ true → (a ≡ true) × (b ≡ true)
-both-true true b e = (refl, e)
-both-true false b e = never e
+-- the fault of a list, by that of its first cause
+pub list-or : (c : Cause) (cs : List Cause) → faultOf (c ∷ cs) ≡ orElse (faultOf (c ∷ [])) (faultOf cs)
+unfolding faultOf isNone
+list-or c cs = go (c .test) refl
+  where
+    go : (b : Bool) → c .test ≡ b → faultOf (c ∷ cs) ≡ orElse (faultOf (c ∷ [])) (faultOf cs)
+    go true e = head-holds c cs e ∙ sym (ap (λ f. orElse f (faultOf cs)) (head-holds c [] e) ∙ or-first _ _ (some c))
+    go false e = head-fails c cs e ∙ sym (ap (λ f. orElse f (faultOf cs)) (head-fails c [] e) ∙ or-second _ _ refl)
 
 pub width-fine : (m : ℕ) → isNone (widthFault m) ≡ true → (2 ≤ m) × (m ≤ maxWidth)
-unfolding widthFault isNone
-width-fine m e =
-    let q = both-true (leb 2 m) (leb m maxWidth) (not-not _ (when-none _ Width refl e)) in
-    (leb-true _ _ (q .0), leb-true _ _ (q .1))
+width-fine m e = let w = is-width m (fine (badWidth m ∷ []) e .0) in (w .least, w .greatest)
 
 pub length-fine : (given laidDown : ℕ) → isNone (lengthFault given laidDown) ≡ true → given ≡ laidDown
-unfolding lengthFault isNone
-length-fine given laidDown e = eqb-true _ _ (not-not _ (when-none _ Length refl e))
+length-fine given laidDown e = as-laid-down given laidDown (fine (badLength given laidDown ∷ []) e .0)
 
 pub high-fine : (m : ℕ) (x : List ℕ) → isNone (highFault m x) ≡ true → isClear m x ≡ true
-unfolding highFault isNone
-high-fine m x e = not-not _ (when-none _ HighBit refl e)
-
-pub turn-fine : (m k : ℕ) → isNone (turnFault m k) ≡ true → k < m
-unfolding turnFault isNone
-turn-fine m k e = leb-false _ _ (when-none _ TurnCount refl e)
-
--- an operand that is given no fault
-pub record Fine (a : Operand) : Type 0 where
-  pub least : 2 ≤ a .width
-  pub greatest : a .width ≤ maxWidth
-  pub clear : isClear (a .width) (a .bytes) ≡ true
-
-pub operand-fine : (a : Operand) → isNone (operandFault a) ≡ true → Fine a
-unfolding operandFault
-operand-fine a e =
-    let q = or-both _ _ (ap isNone (sym (first-two _ _)) ∙ e) in
-    let w = width-fine (a .width) (q .0) in
-    record { least = w .0; greatest = w .1; clear = high-fine (a .width) (a .bytes) (q .1) }
+high-fine m x e = is-clear m x (fine (highBit m x ∷ []) e .0)
 
 pub two-fine : (f g : Fault) → isNone (firstOf (f ∷ g ∷ [])) ≡ true → (isNone f ≡ true) × (isNone g ≡ true)
 two-fine f g e = or-both f g (ap isNone (sym (first-two f g)) ∙ e)
-
--- two operands that are given no fault
-pub record FinePair (a b : Operand) : Type 0 where
-  pub left : Fine a
-  pub width : b .width ≡ a .width
-  pub right : isClear (a .width) (b .bytes) ≡ true
-
-pub pair-fine : (a b : Operand) → isNone (pairFault a b) ≡ true → FinePair a b
-unfolding pairFault
-pair-fine a b e =
-    let w = more-fine _ _ _ e in
-    let v = more-fine _ _ _ (w .1) in
-    let l = more-fine _ _ _ (v .1) in
-    let h = two-fine _ _ (l .1) in
-    let same = length-fine (b .width) (a .width) (l .0) in
-    let two = width-fine (a .width) (w .0) in
-    record {
-      left = record { least = two .0; greatest = two .1; clear = high-fine (a .width) (a .bytes) (h .0) };
-      width = same;
-      right = ap (λ m. isClear m (b .bytes)) (sym same) ∙ high-fine (b .width) (b .bytes) (h .1);
-    }
-
-pub turn-none : (m k : ℕ) → k < m → turnFault m k ≡ None
-unfolding turnFault
-turn-none m k h = rw (lt-leb m k h)
-
--- the bytes of an operand of width m that are given no fault
-pub record FineBytes (m : ℕ) (x : List ℕ) : Type 0 where
-  pub least : 2 ≤ m
-  pub greatest : m ≤ maxWidth
-  pub laidDown : length x ≡ bytesFor m
-  pub clear : isClear m x ≡ true
-
-pub bytes-fine : (m : ℕ) (x : List ℕ) → isNone (bytesFault m x) ≡ true → FineBytes m x
-unfolding bytesFault
-bytes-fine m x e =
-    let w = more-fine _ _ _ e in
-    let l = two-fine _ _ (w .1) in
-    let v = width-fine m (w .0) in
-    record { least = v .0; greatest = v .1; laidDown = length-fine _ _ (l .0); clear = high-fine m x (l .1) }
-
--- a turn by one is never refused for its count
-pub square-fault : (a : Operand) → firstOf (operandFault a ∷ turnFault (a .width) 1 ∷ []) ≡ operandFault a
-square-fault a = first-two _ _ ∙ go (isNone (operandFault a)) refl
-  where
-    go : (b : Bool) → isNone (operandFault a) ≡ b → orElse (operandFault a) (turnFault (a .width) 1) ≡ operandFault a
-    go true e = ap (orElse (operandFault a)) (turn-none _ 1 (operand-fine a e .least)) ∙ or-none (operandFault a)
-    go false e = or-first _ _ e
 
 -- the first of two faults, by the first
 pub two-first : (f g : Fault) → isNone f ≡ false → firstOf (f ∷ g ∷ []) ≡ f
@@ -266,14 +189,6 @@ two-first f g e = first-two f g ∙ or-first f g e
 
 pub two-second : (f g : Fault) → isNone f ≡ true → firstOf (f ∷ g ∷ []) ≡ g
 two-second f g e = first-two f g ∙ or-second f g e
-
-pub trace-one : (m : ℕ) (c : List ℕ) → trace m c ≡ 1 → traceFault m c ≡ TraceOne
-unfolding traceFault
-trace-one m c e = rw (eq-eqb _ _ e)
-
-pub trace-none : (m : ℕ) (c : List ℕ) → (trace m c ≡ 1 → ⊥) → traceFault m c ≡ None
-unfolding traceFault
-trace-none m c n = rw (ne-eqb _ _ n)
 
 -- Judgements made in turn, f′ first: b is the test whether it gives none.
 -- A fault ends them; where there is none, the others decide.
@@ -287,3 +202,26 @@ module _ (f′ g : Fault) (fs : List Fault) {f : Fault} {b : Bool} (e : f ≡ f�
 pub first-last : {f g : Fault} → f ≡ g → f ≡ firstOf (g ∷ [])
 unfolding firstOf
 first-last {f} {g} e = e ∙ sym (or-none g)
+
+-- the lists of an operand's causes as faults, one after another
+pub operand-first : (a : Operand) → operandFault a ≡ firstOf (widthFault (a .width) ∷ highFault (a .width) (a .bytes) ∷ [])
+operand-first a = list-or _ _ ∙ sym (first-two _ _)
+
+pub pair-first : (a b : Operand) → pairFault a b
+    ≡ firstOf (widthFault (a .width) ∷ widthFault (b .width) ∷ lengthFault (b .width) (a .width) ∷ highFault (a .width) (a .bytes) ∷ highFault (b .width) (b .bytes) ∷ [])
+unfolding firstOf
+pair-first a b = list-or _ _ ∙ ap (orElse _) (list-or _ _ ∙ ap (orElse _) (list-or _ _ ∙ ap (orElse _) (list-or _ _ ∙ ap (orElse _) (sym (or-none _)))))
+
+pub bytes-first : (m : ℕ) (x : List ℕ) → bytesFault m x ≡ firstOf (widthFault m ∷ lengthFault (length x) (bytesFor m) ∷ highFault m x ∷ [])
+unfolding firstOf
+bytes-first m x = list-or _ _ ∙ ap (orElse _) (list-or _ _ ∙ ap (orElse _) (sym (or-none _)))
+
+pub room-first : (a : Operand) (size : ℕ) → roomFault a size ≡ firstOf (widthFault (a .width) ∷ lengthFault size (bytesFor (a .width)) ∷ highFault (a .width) (a .bytes) ∷ [])
+unfolding firstOf
+room-first a size = list-or _ _ ∙ ap (orElse _) (list-or _ _ ∙ ap (orElse _) (sym (or-none _)))
+
+pub turn-first : (a : Operand) (k : ℕ) → faultOf (turnCauses a k) ≡ firstOf (operandFault a ∷ turnFault (a .width) k ∷ [])
+turn-first a k = list-or _ _ ∙ ap (orElse _) (list-or _ _) ∙ sym (first-two _ _ ∙ ap (λ f. orElse f (turnFault (a .width) k)) (list-or _ _) ∙ or-assoc _ _ _)
+
+pub solve-first : (c : Operand) → faultOf (solveCauses c) ≡ firstOf (operandFault c ∷ traceFault (c .width) (c .bytes) ∷ [])
+solve-first c = list-or _ _ ∙ ap (orElse _) (list-or _ _) ∙ sym (first-two _ _ ∙ ap (λ f. orElse f (traceFault (c .width) (c .bytes))) (list-or _ _) ∙ or-assoc _ _ _)

@@ -1,56 +1,40 @@
--- The faults of a width, a length, an operand, a turn count and a trace, each by its cause in document 01's table.
-use mathlib.Core.Bool.{not, _&&_}
+-- The fault of a width, a length, bits, a turn count, a trace, and of operands: each that of its list of causes.
 use mathlib.Core.List.{List, [], _∷_}
 use Prim.Native.Nat.{ℕ}
-use lib.Dec.{leb, eqb}
-use lib.ListN.{length}
-use Rattle.gf2.specs.Operands.{maxWidth, bytesFor, isClear}
-use Rattle.gf2.specs.Quadratic.{trace}
+use Rattle.judging.specs.declared.fault.Fault.{Fault}
+use Rattle.judging.specs.Causes.{faultOf}
+use Rattle.judging.specs.FaultTable.{badWidth, badLength, highBit, turnTooFar, traceIsOne}
 use Rattle.operand.specs.declared.Operand.{Operand}
-use Rattle.operand.specs.declared.fault.Fault.{Fault}
-use Rattle.operand.specs.declared.fault.Fault.the-variants.{Width, Length, HighBit, TurnCount, TraceOne}
-use Rattle.operand.specs.Faults.{when, firstOf}
+use Rattle.operand.specs.Causes.{operandCauses, pairCauses, bytesCauses, roomCauses}
 
 -- 1: "width not 2..255"
-unfoldable pub widthFault : ℕ → Fault
-widthFault m = when (not (leb 2 m && leb m maxWidth)) Width
+abbrev pub widthFault : ℕ → Fault
+widthFault m = faultOf (badWidth m ∷ [])
 
 -- 2: "a length not as laid down", and a carried width that isn't the other's
-unfoldable pub lengthFault : ℕ → ℕ → Fault
-lengthFault given laidDown = when (not (eqb given laidDown)) Length
+abbrev pub lengthFault : ℕ → ℕ → Fault
+lengthFault given laidDown = faultOf (badLength given laidDown ∷ [])
 
 -- 3: "bit set at m or above"
-unfoldable pub highFault : ℕ → List ℕ → Fault
-highFault m bytes = when (not (isClear m bytes)) HighBit
+abbrev pub highFault : ℕ → List ℕ → Fault
+highFault m bytes = faultOf (highBit m bytes ∷ [])
 
 -- 8: "turn count m or more"
-unfoldable pub turnFault : ℕ → ℕ → Fault
-turnFault m k = when (leb m k) TurnCount
+abbrev pub turnFault : ℕ → ℕ → Fault
+turnFault m k = faultOf (turnTooFar m k ∷ [])
 
 -- 10: "trace of c is 1"
-unfoldable pub traceFault : ℕ → List ℕ → Fault
-traceFault m c = when (eqb (trace m c) 1) TraceOne
+abbrev pub traceFault : ℕ → List ℕ → Fault
+traceFault m c = faultOf (traceIsOne m c ∷ [])
 
--- "1 to 3 hold for every call that takes such a thing": a carried operand
-unfoldable pub operandFault : Operand → Fault
-operandFault a = firstOf (widthFault (a .width) ∷ highFault (a .width) (a .bytes) ∷ [])
+abbrev pub operandFault : Operand → Fault
+operandFault a = faultOf (operandCauses a)
 
--- two carried operands: "An operand whose carried width isn't that .. of the other operand, gets 2"
-unfoldable pub pairFault : Operand → Operand → Fault
-pairFault a b =
-    firstOf
-    (widthFault (a .width)
-    ∷ widthFault (b .width)
-    ∷ lengthFault (b .width) (a .width)
-    ∷ highFault (a .width) (a .bytes)
-    ∷ highFault (b .width) (b .bytes)
-    ∷ [])
+abbrev pub pairFault : Operand → Operand → Fault
+pairFault a b = faultOf (pairCauses a b)
 
--- an operand of W bytes
-unfoldable pub bytesFault : ℕ → List ℕ → Fault
-bytesFault m bytes = firstOf (widthFault m ∷ lengthFault (length bytes) (bytesFor m) ∷ highFault m bytes ∷ [])
+abbrev pub bytesFault : ℕ → List ℕ → Fault
+bytesFault m bytes = faultOf (bytesCauses m bytes)
 
--- a carried operand, and a buffer of this length for its W bytes
-unfoldable pub roomFault : Operand → ℕ → Fault
-roomFault a size =
-    firstOf (widthFault (a .width) ∷ lengthFault size (bytesFor (a .width)) ∷ highFault (a .width) (a .bytes) ∷ [])
+abbrev pub roomFault : Operand → ℕ → Fault
+roomFault a size = faultOf (roomCauses a size)

@@ -1,9 +1,10 @@
 -- The definitions that the contracts of this crate cite.
--- Faults: document 01's number and values for each fault; the first of several causes.
--- Judgements: the faults of a width, a length, an operand, a turn count, a trace.
+-- Causes: what each call judges, in document 01's order.
+-- Judgements, Faults: the same as faults, and the first of several.
 -- Calls: what each call on operands answers, for every input.
 -- Statements: what is proved of the calls beside their contracts; the proofs are proofs/Theorems.antt.
 pub mod Faults
+pub mod Causes
 pub mod Judgements
 pub mod Calls
 pub mod Statements

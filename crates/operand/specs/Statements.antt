@@ -12,7 +12,7 @@ use Rattle.gf2.specs.Coordinates.{coord}
 use Rattle.gf2.specs.Operands.{maxWidth, bytesFor, carriedBytes, IsOperand, zeroes, added, turned, squared}
 use Rattle.gf2.specs.Quadratic.{trace, root}
 use Rattle.operand.specs.declared.Operand.{Operand}
-use Rattle.operand.specs.declared.fault.Fault.the-variants.{None, TraceOne}
+use Rattle.judging.specs.declared.fault.Fault.the-variants.{None, TraceOne}
 use Rattle.operand.specs.Calls.{solveCall, readCall, writeCall}
 
 -- f applied k times

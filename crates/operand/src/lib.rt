@@ -1,30 +1,33 @@
-// Operands of GF(2^m) in a normal basis: the type, and every call of document 01 on operands alone.
+// Operands of GF(2^m) in a normal basis: the type, and every call of document 01 on operands alone, carried by value and as W bytes.
 // Each call judges what it is given; a fault stands beside the operand of width 0.
 ghost use mathlib.Core.Path.{_≡_};
 ghost use mathlib.Core.Bool.{true};
 ghost use Prim.Native.Nat.{_≤_};
 ghost use lib.ListN.{length};
 ghost use Rattle.gf2.specs.Operands.{maxWidth};
-ghost use Rattle.operand.specs.Faults.{isNone};
-ghost use Rattle.operand.specs.Judgements.{roomFault};
+ghost use Rattle.judging.specs.Faults.{isNone};
+ghost use Rattle.judging.specs.Causes.{faultOf};
+ghost use Rattle.operand.specs.Causes.{roomCauses};
 ghost use Rattle.operand.specs.Calls.{noOperand, answer, zeroCall, oneCall, turnCall, squareCall, sumCall, traceCall, solveCall, readCall, writeCall};
+use judging::Fault;
+use judging::is_none;
+use judging::judge_width;
 
+mod bytes;
 mod fault;
 mod judge;
 mod quadratic;
 mod turn;
 
-pub use fault::Fault;
-pub use fault::FaultNumber;
-pub use fault::is_none;
-pub use fault::number;
+pub use bytes::one_into;
+pub use bytes::solve_into;
+pub use bytes::sum_into;
+pub use bytes::trace_of;
+pub use bytes::turn_into;
+pub use bytes::zero_into;
 pub use fault::or_else;
-pub use judge::bytes_for;
-pub use judge::judge_high;
-pub use judge::judge_length;
 pub use judge::judge_operand;
 pub use judge::judge_pair;
-pub use judge::judge_width;
 
 // Coordinate i is bit i % 8 of byte i / 8, and bits at the width and above are 0.
 pub struct Operand {
@@ -62,7 +65,7 @@ fn answered(fault: Fault, width: usize, bytes: [u8; Operand::BYTES]) -> OperandA
     requires { ⌜ (isNone fault ≡ true → width ≤ maxWidth) ⌝ }
     ensures { λ r. ⌜ r ≡ answer fault width bytes ⌝ }
 {
-    if fault::is_none(fault) {
+    if is_none(fault) {
         return OperandAnswer {
             fault,
             value: Operand {
@@ -82,18 +85,14 @@ impl Operand {
     pub fn zero(width: usize) -> OperandAnswer
         ensures { λ r. ⌜ r ≡ zeroCall width ⌝ }
     {
-        answered(judge::judge_width(width), width, [0u8; Operand::BYTES])
+        answered(judge_width(width), width, [0u8; Operand::BYTES])
     }
 
     pub fn one(width: usize) -> OperandAnswer
         ensures { λ r. ⌜ r ≡ oneCall width ⌝ }
     {
         let full = [255u8; Operand::BYTES];
-        answered(
-            judge::judge_width(width),
-            width,
-            limbs::cleared(full, width),
-        )
+        answered(judge_width(width), width, limbs::cleared(full, width))
     }
 
     pub fn turn(self, k: usize) -> OperandAnswer
@@ -101,11 +100,15 @@ impl Operand {
     {
         let m = self.width as usize;
         let x = self.bytes;
-        let fault = judge::judge_turning(self, k);
-        if fault::is_none(fault) {
-            return answered(fault, m, turn::turned(x, m, k));
+        let first = judge_width(m);
+        if !is_none(first) {
+            return refused(first);
         }
-        answered(fault, m, x)
+        let fault = judge::judge_turn(x, m, k);
+        if !is_none(fault) {
+            return refused(fault);
+        }
+        answered(fault, m, turn::turned(x, m, k))
     }
 
     // The Frobenius map, which is the turn by one.
@@ -129,7 +132,7 @@ impl Operand {
     {
         let x = self.bytes;
         let fault = judge::judge_operand(self);
-        if fault::is_none(fault) {
+        if is_none(fault) {
             TraceAnswer {
                 fault,
                 trace: quadratic::trace(x) as usize,
@@ -145,27 +148,42 @@ impl Operand {
     {
         let m = self.width as usize;
         let c = self.bytes;
-        let z = quadratic::root(c);
-        let fault = judge::judge_solving(self);
-        answered(fault, m, limbs::cleared(z, m))
+        let first = judge_width(m);
+        if !is_none(first) {
+            return refused(first);
+        }
+        answered(
+            judge::judge_solve(c, m),
+            m,
+            limbs::cleared(quadratic::root(c), m),
+        )
     }
 
     pub fn read(width: usize, s: &[u8]) -> OperandAnswer
         ensures { λ r. ⌜ r ≡ readCall width (now (s .entry)) ⌝ }
     {
+        let first = judging::judge_size(width, s.len());
+        if !is_none(first) {
+            return refused(first);
+        }
         let x = limbs::carried(s);
-        answered(judge::judge_bytes(width, s, x), width, x)
+        answered(judging::judge_high(x, width), width, x)
     }
 
     pub fn write(self, out: &mut [u8]) -> Fault
-        ensures fault { λ r. ⌜ r ≡ roomFault self (length (now (out .entry))) ⌝ }
+        ensures fault { λ r. ⌜ r ≡ faultOf (roomCauses self (length (now (out .entry)))) ⌝ }
         ensures bytes { λ _. ⌜ now (out .exit) ≡ writeCall self (now (out .entry)) ⌝ }
     {
+        let m = self.width as usize;
         let x = self.bytes;
-        let judged = judge::judge_room(self, out.len());
-        if fault::is_none(judged) {
+        let first = judging::judge_size(m, out.len());
+        if !is_none(first) {
+            return first;
+        }
+        let fault = judging::judge_high(x, m);
+        if is_none(fault) {
             limbs::copy_out(x, out);
         }
-        judged
+        fault
     }
 }

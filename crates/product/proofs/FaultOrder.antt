@@ -15,9 +15,10 @@ use Rattle.gf2.proofs.Coordinates.{coord-none}
 use Rattle.gf2.proofs.Operands.{from-eq, clear-at, clear-of}
 use Rattle.operand.specs.declared.Operand.{Operand}
 use Rattle.operand.specs.declared.OperandAnswer.{OperandAnswer}
-use Rattle.operand.specs.declared.fault.Fault.{Fault}
-use Rattle.operand.specs.declared.fault.Fault.the-variants.{None, Length, HighBit, RowZero, RowPair, InverseOfZero}
-use Rattle.operand.specs.Faults.{isNone, when, orElse, firstOf}
+use Rattle.judging.specs.declared.fault.Fault.{Fault}
+use Rattle.judging.specs.declared.fault.Fault.the-variants.{None, Length, HighBit, RowZero, RowPair, InverseOfZero}
+use Rattle.operand.specs.Faults.{when, orElse, firstOf}
+use Rattle.judging.specs.Faults.{isNone}
 use Rattle.operand.specs.Judgements.{widthFault, lengthFault, highFault, operandFault, pairFault}
 use Rattle.operand.specs.Calls.{noOperand, answer}
 use Rattle.limbs.proofs.ByteLists.{Bytes}

@@ -19,7 +19,7 @@ use Rattle.operand.specs.declared.Operand.{Operand}
 use Rattle.limbs.specs.Limbs.{carriedLimbs, limbCoord, packLimbs, raised}
 use Rattle.limbs.proofs.LimbCoords.{limb-lt, limb-pack, length-limbs, limb-zero, limbs-same}
 use Rattle.limbs.proofs.TurnLimbs.{raised-in, raised-out}
-use Rattle.operand.proofs.CallLaws.{coord-carried}
+use Rattle.gf2.proofs.Carrying.{coord-carried}
 use Rattle.table.specs.Rows.{Shaped}
 use Rattle.table.proofs.Shapes.{row-short, sized}
 use Rattle.product.specs.Inner.{Clear, Within, isOneWay, metLimbs, rowsTo, Sound}

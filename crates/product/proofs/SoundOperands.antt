@@ -10,7 +10,8 @@ use Rattle.gf2.proofs.Operands.{from-operand, from-eq, from-ext, coord-from, le
 use Rattle.operand.specs.declared.Operand.{Operand}
 use Rattle.operand.specs.declared.OperandAnswer.{OperandAnswer}
 use Rattle.operand.specs.Calls.{turnCall, squareCall, sumCall}
-use Rattle.operand.proofs.FaultFree.{IsWidth, turn-done, square-done, sum-done}
+use Rattle.operand.proofs.FaultFree.{turn-done, square-done, sum-done}
+use Rattle.judging.proofs.Passed.{IsWidth}
 use Rattle.product.specs.Inner.{Sound, carried, made}
 
 -- a width's operand has room in the carried bytes

@@ -6,7 +6,7 @@ use Rattle.gf2.specs.Products.{product, reduced}
 use Rattle.gf2.specs.Inverse.{inverse, productsMade}
 use Rattle.operand.specs.declared.Operand.{Operand}
 use Rattle.operand.specs.declared.OperandAnswer.{OperandAnswer}
-use Rattle.operand.specs.Faults.{isNone}
+use Rattle.judging.specs.Faults.{isNone}
 use Rattle.operand.specs.Calls.{answer}
 use Rattle.product.specs.declared.InverseAnswer.{InverseAnswer}
 use Rattle.product.specs.Judgements.{productFault, reducedFault, inverseFault}

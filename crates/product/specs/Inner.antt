@@ -15,8 +15,8 @@ use Rattle.gf2.specs.Inverse.{Chain, adding, digits, inverse, productsMade}
 use Rattle.limbs.specs.Limbs.{limbCoord}
 use Rattle.operand.specs.declared.Operand.{Operand}
 use Rattle.operand.specs.declared.OperandAnswer.{OperandAnswer}
-use Rattle.operand.specs.declared.fault.Fault.{Fault}
-use Rattle.operand.specs.declared.fault.Fault.the-variants.{None}
+use Rattle.judging.specs.declared.fault.Fault.{Fault}
+use Rattle.judging.specs.declared.fault.Fault.the-variants.{None}
 use Rattle.operand.specs.Calls.{answer}
 use Rattle.table.specs.Rows.{Shaped}
 use Rattle.scatter.specs.Cells.{places, HasPlaces, cell}

@@ -4,8 +4,8 @@ use Prim.Native.Nat.{ℕ, _*_}
 use lib.ListN.{length}
 use Rattle.gf2.specs.Operands.{carriedBytes, bytesFor, zeroes}
 use Rattle.operand.specs.declared.Operand.{Operand}
-use Rattle.operand.specs.declared.fault.Fault.{Fault}
-use Rattle.operand.specs.declared.fault.Fault.the-variants.{InverseOfZero}
+use Rattle.judging.specs.declared.fault.Fault.{Fault}
+use Rattle.judging.specs.declared.fault.Fault.the-variants.{InverseOfZero}
 use Rattle.operand.specs.Faults.{when, firstOf}
 use Rattle.operand.specs.Judgements.{widthFault, lengthFault, highFault}
 use Rattle.table.specs.Judgements.{same, rowsFault, rowZeroFault, rowPairFault}

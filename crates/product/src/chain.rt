@@ -9,7 +9,7 @@ ghost use Rattle.product.specs.Inner.{Sound, Ready, chainOf, stateOf, st
 use crate::InverseAnswer;
 use crate::kernel::Method;
 use crate::times;
-use operand::Fault;
+use judging::Fault;
 use operand::Operand;
 
 // What a step hands on: the power t, its k, and the number of products made.

@@ -3,10 +3,10 @@ ghost use mathlib.Core.Path.{_≡_};
 ghost use Rattle.product.specs.Judgements.{productFault, zeroFault, inverseFault};
 ghost use Rattle.product.specs.Inner.{methodFault};
 use crate::kernel::Method;
-use operand::Fault;
+use judging::Fault;
 use operand::Operand;
-use operand::judge_length;
-use operand::judge_width;
+use judging::judge_length;
+use judging::judge_width;
 use operand::or_else;
 
 // A table and two operands of its width.
@@ -43,7 +43,7 @@ fn judge_zero(a: Operand) -> Fault
     ensures { λ r. ⌜ r ≡ zeroFault a ⌝ }
 {
     let x = a.bytes;
-    if operand::is_none(operand::judge_high(x, 0)) {
+    if judging::is_none(judging::judge_high(x, 0)) {
         Fault::InverseOfZero
     } else {
         Fault::None

@@ -4,7 +4,7 @@ ghost use mathlib.Core.Path.{_≡_};
 ghost use Rattle.product.specs.Calls.{productCall, reducedCall, inverseCall};
 ghost use Rattle.product.specs.Inner.{multiplyCall};
 use kernel::Method;
-use operand::Fault;
+use judging::Fault;
 use operand::Operand;
 use operand::OperandAnswer;
 
@@ -26,7 +26,7 @@ fn multiply(method: Method, width: usize, table: &[u8], a: Operand, b: Operand) 
     ensures { λ r. ⌜ r ≡ multiplyCall method width (now (table .entry)) a b ⌝ }
 {
     let fault = judge::judge_product(method, width, table, a, b);
-    if operand::is_none(fault) {
+    if judging::is_none(fault) {
         let mut g = [0u64; scatter::ROOM];
         OperandAnswer {
             fault: Fault::None,
@@ -56,7 +56,7 @@ pub fn inverse(width: usize, table: &[u8], a: Operand) -> InverseAnswer
     ensures { λ r. ⌜ r ≡ inverseCall width (now (table .entry)) a ⌝ }
 {
     let fault = judge::judge_inverse(width, table, a);
-    if operand::is_none(fault) {
+    if judging::is_none(fault) {
         chain::inverted(width, table, a)
     } else {
         let none = operand::refused(fault);

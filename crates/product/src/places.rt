@@ -15,7 +15,7 @@ pub(crate) fn add_line(width: usize, table: &[u8], d: usize, e: [u64; limbs::LIM
     requires { ⌜ Shaped width (now table) × (d < width) × HasPlaces (now g) ⌝ }
     ensures { λ _. ⌜ Added (λ s i. coord (row width (now (table .entry)) d) s * limbCoord e i) (now (g .entry)) (now (g .exit)) ⌝ }
 {
-    let size = operand::bytes_for(width);
+    let size = limbs::bytes_for(width);
     let from = d * size;
     let line = limbs::to_limbs(limbs::carried(&table[from..from + size]));
     scatter::add_row(g, e, line);

@@ -4,9 +4,9 @@ use mathlib.Core.Bool.{Bool, true, false}
 use mathlib.Core.List.{List}
 use Prim.Native.Nat.{ℕ}
 use Rattle.gf2.specs.Operands.{choose}
-use Rattle.operand.specs.declared.fault.Fault.{Fault}
-use Rattle.operand.specs.declared.fault.Fault.the-variants.{None}
-use Rattle.operand.specs.Faults.{isNone}
+use Rattle.judging.specs.declared.fault.Fault.{Fault}
+use Rattle.judging.specs.declared.fault.Fault.the-variants.{None}
+use Rattle.judging.specs.Faults.{isNone}
 use Rattle.operand.proofs.FaultLaws.{none-is}
 use Rattle.table.proofs.Searches.{none-true}
 use Rattle.nb.specs.Packing.{packedAnswer, Packs, Unpacks}

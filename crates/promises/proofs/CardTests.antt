@@ -9,11 +9,11 @@ use native.Mathlib.Omega.{arith}
 use lib.Dec.{ltb, leb, eqb}
 use lib.ListN.{length}
 use borrow.Author.Tests.{ltb-true, ltb-false, lt-ltb, le-ltb, leb-true, leb-false, le-leb, lt-leb, eqb-true, eqb-false, eq-eqb, ne-eqb}
-use Rattle.operand.specs.declared.fault.Fault.{Fault}
-use Rattle.operand.specs.declared.fault.Fault.the-variants.{None, Width, OutputShort, CardNumber, CardForm, CardPlace, CardTail}
+use Rattle.judging.specs.declared.fault.Fault.{Fault}
+use Rattle.judging.specs.declared.fault.Fault.the-variants.{None, Width, OutputShort, CardNumber, CardForm, CardPlace, CardTail}
 use Rattle.gf2.specs.Operands.{maxWidth, bytesFor, choose}
 use Rattle.gf2.proofs.Operands.{from-operand}
-use Rattle.operand.specs.Faults.{isNone}
+use Rattle.judging.specs.Faults.{isNone}
 use Rattle.netlist.specs.Judgements.{outputFault}
 use Rattle.card.specs.Numbers.{Read, refused, got, andThen, secondGroup, readNumber}
 use Rattle.card.specs.Rows.{steps, onesOf, after, readPlaces, readRow, isPlace, rowOf, readRows}

@@ -4,8 +4,9 @@ use Prim.Native.Nat.{ℕ, _*_}
 use lib.ListN.{length}
 use Rattle.gf2.specs.Operands.{carriedBytes, bytesFor, choose}
 use Rattle.operand.specs.declared.Operand.{Operand}
-use Rattle.operand.specs.declared.fault.Fault.{Fault}
-use Rattle.operand.specs.Faults.{isNone, firstOf}
+use Rattle.judging.specs.declared.fault.Fault.{Fault}
+use Rattle.operand.specs.Faults.{firstOf}
+use Rattle.judging.specs.Faults.{isNone}
 use Rattle.operand.specs.Judgements.{turnFault, traceFault, operandFault, pairFault}
 use Rattle.operand.specs.Calls.{answer}
 use Rattle.table.proofs.Searches.{none-true}

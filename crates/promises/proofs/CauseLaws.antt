@@ -4,9 +4,10 @@ use mathlib.Core.Logic.{_⊎_, inl, inr}
 use mathlib.Core.Bool.{Bool, true, false, true≢false}
 use mathlib.Core.List.{List, [], _∷_, _++_}
 use Prim.Native.Nat.{ℕ, zero, suc, _+_}
-use Rattle.operand.specs.declared.fault.Fault.{Fault}
-use Rattle.operand.specs.declared.fault.Fault.the-variants.{None}
-use Rattle.operand.specs.Faults.{isNone, when, orElse, firstOf, firstFrom}
+use Rattle.judging.specs.declared.fault.Fault.{Fault}
+use Rattle.judging.specs.declared.fault.Fault.the-variants.{None}
+use Rattle.operand.specs.Faults.{when, orElse, firstOf, firstFrom}
+use Rattle.judging.specs.Faults.{isNone}
 use Rattle.operand.proofs.FaultLaws.{or-first, or-second, or-none}
 use Rattle.promises.specs.Causes.{Cause, badWidth, badLength, fewWords, highBit, highBitInRow, rowZeroWrong, rowsDiffer, tripleDiffers, rowSumWrong, turnTooFar, isZero, traceOne, tooShort, typeZero, badGates, Holds, faultOf, from, First, NoCause, Exact}
 

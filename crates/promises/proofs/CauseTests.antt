@@ -19,7 +19,7 @@ use Rattle.gf2.proofs.Sums.{every-at}
 use Rattle.gf2.proofs.Coordinates.{coord-lt}
 use Rattle.gf2.proofs.Operands.{clear-at}
 use Rattle.gf2.proofs.Parity.{and-both}
-use Rattle.operand.specs.declared.fault.Fault.the-variants.{Length, InverseOfZero}
+use Rattle.judging.specs.declared.fault.Fault.the-variants.{Length, InverseOfZero}
 use Rattle.operand.specs.Faults.{when}
 use Rattle.operand.specs.Judgements.{widthFault, lengthFault, highFault, turnFault, traceFault}
 use Rattle.table.specs.Judgements.{same, rowsFault, shapeFault, rowZeroFault, rowPairFault, tripleFault, rowSumFault, symmetryFault, checkFault}

@@ -5,9 +5,9 @@ use Prim.Native.Nat.{ℕ, _+_, _*_}
 use lib.ListN.{length}
 use Rattle.gf2.specs.Operands.{bytesFor, choose}
 use Rattle.gf2.specs.Tables.{onesIn}
-use Rattle.operand.specs.declared.fault.Fault.{Fault}
-use Rattle.operand.specs.declared.fault.Fault.the-variants.{None}
-use Rattle.operand.specs.Faults.{isNone}
+use Rattle.judging.specs.declared.fault.Fault.{Fault}
+use Rattle.judging.specs.declared.fault.Fault.the-variants.{None}
+use Rattle.judging.specs.Faults.{isNone}
 use Rattle.operand.specs.Judgements.{lengthFault, bytesFault}
 use Rattle.table.specs.Judgements.{symmetryFault, shapeFault}
 use Rattle.table.specs.Calls.{onesCall}

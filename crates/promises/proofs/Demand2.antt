@@ -7,7 +7,7 @@ use lib.ListN.{length}
 use Rattle.gf2.specs.Operands.{bytesFor, fromCoords}
 use Rattle.gf2.specs.Products.{product, reduced}
 use Rattle.gf2.proofs.Operands.{coord-from, from-operand}
-use Rattle.operand.specs.declared.fault.Fault.the-variants.{None}
+use Rattle.judging.specs.declared.fault.Fault.the-variants.{None}
 use Rattle.gaussian.specs.Types.{typeOf}
 use Rattle.gaussian.specs.Table.{drawn}
 use Rattle.gaussian.specs.Calls.{drawFault, drawnInto}

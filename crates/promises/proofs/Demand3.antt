@@ -15,8 +15,8 @@ use Rattle.gf2.specs.Inverse.{inverse}
 use Rattle.gf2.specs.Statements.{GivesInverse, pairsBelow}
 use Rattle.gf2.proofs.OperandVectors.{bytes-fit}
 use Rattle.gf2.proofs.Theorems.{theoremB, theoremD, theoremE, theoremG, theoremH}
-use Rattle.operand.specs.declared.fault.Fault.the-variants.{None}
-use Rattle.operand.specs.Faults.{isNone}
+use Rattle.judging.specs.declared.fault.Fault.the-variants.{None}
+use Rattle.judging.specs.Faults.{isNone}
 use Rattle.table.specs.Rows.{Shaped}
 use Rattle.table.specs.Judgements.{checkFault, symmetryFault}
 use Rattle.table.proofs.Theorems.{acceptance, fields, symmetry}

@@ -9,8 +9,8 @@ use Rattle.gf2.specs.Operands.{bytesFor, carriedBytes, zeroes}
 use Rattle.gf2.specs.Field.{Op}
 use Rattle.gf2.proofs.Operands.{from-operand}
 use Rattle.operand.specs.declared.Operand.{Operand}
-use Rattle.operand.specs.declared.fault.Fault.{Fault}
-use Rattle.operand.specs.declared.fault.Fault.the-variants.{None, InverseOfZero, OutputShort}
+use Rattle.judging.specs.declared.fault.Fault.{Fault}
+use Rattle.judging.specs.declared.fault.Fault.the-variants.{None, InverseOfZero, OutputShort}
 use Rattle.operand.specs.Faults.{when, firstOf}
 use Rattle.operand.specs.Judgements.{widthFault, lengthFault}
 use Rattle.operand.proofs.FaultLaws.{none-is, or-both, or-second, length-fine}

@@ -3,9 +3,9 @@
 use mathlib.Core.Path.{_≡_}
 use mathlib.Core.List.{List}
 use Prim.Native.Nat.{ℕ}
-use Rattle.operand.specs.declared.fault.Fault.{Fault}
-use Rattle.operand.specs.declared.fault.Fault.the-variants.{None}
-use Rattle.operand.specs.Faults.{numberOf}
+use Rattle.judging.specs.declared.fault.Fault.{Fault}
+use Rattle.judging.specs.declared.fault.Fault.the-variants.{None}
+use Rattle.judging.specs.Faults.{numberOf}
 use Rattle.nb.specs.Packing.{Unpacks}
 use Rattle.promises.specs.Causes.{Cause, Exact}
 

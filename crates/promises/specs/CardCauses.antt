@@ -7,8 +7,8 @@ use Prim.Native.Nat.{ℕ, zero, suc, _+_, _*_, _<_, _≤_}
 use lib.ListN.{length}
 use Rattle.gf2.specs.Operands.{maxWidth, bytesFor, IsOperand}
 use Rattle.gf2.specs.Tables.{IsTable}
-use Rattle.operand.specs.declared.fault.Fault.{Fault}
-use Rattle.operand.specs.declared.fault.Fault.the-variants.{None, Width, OutputShort, CardEnds, CardNumber, CardForm, CardPlace, CardTail}
+use Rattle.judging.specs.declared.fault.Fault.{Fault}
+use Rattle.judging.specs.declared.fault.Fault.the-variants.{None, Width, OutputShort, CardEnds, CardNumber, CardForm, CardPlace, CardTail}
 use Rattle.card.specs.Numbers.{number, numberLimit}
 use Rattle.card.specs.Rows.{steps, rowCard}
 use Rattle.card.specs.Cards.{card}

@@ -11,8 +11,8 @@ use Rattle.gf2.specs.Products.{product, reduced}
 use Rattle.gf2.specs.Inverse.{inverse, productsMade}
 use Rattle.operand.specs.declared.Operand.{Operand}
 use Rattle.operand.specs.declared.OperandAnswer.{OperandAnswer}
-use Rattle.operand.specs.declared.fault.Fault.{Fault}
-use Rattle.operand.specs.declared.fault.Fault.the-variants.{None}
+use Rattle.judging.specs.declared.fault.Fault.{Fault}
+use Rattle.judging.specs.declared.fault.Fault.the-variants.{None}
 use Rattle.operand.specs.Calls.{noOperand, zeroCall, oneCall, turnCall, squareCall, sumCall, traceCall, solveCall}
 use Rattle.product.specs.Calls.{productCall, reducedCall, inverseCall}
 use Rattle.netlist.specs.Running.{gateCount, readList, wires as wiresOf, result as resultOf}

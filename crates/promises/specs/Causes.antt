@@ -10,8 +10,8 @@ use Rattle.gf2.specs.Operands.{maxWidth, zeroes}
 use Rattle.gf2.specs.Quadratic.{trace}
 use Rattle.gf2.specs.Tables.{row}
 use Rattle.gf2.specs.Check.{Rule4, Rule5, Rule6, Rule7}
-use Rattle.operand.specs.declared.fault.Fault.{Fault}
-use Rattle.operand.specs.declared.fault.Fault.the-variants.{None, Width, Length, HighBit, RowZero, RowPair, Triple, RowSum, TurnCount, InverseOfZero, TraceOne, OutputShort, NoType, BadGate}
+use Rattle.judging.specs.declared.fault.Fault.{Fault}
+use Rattle.judging.specs.declared.fault.Fault.the-variants.{None, Width, Length, HighBit, RowZero, RowPair, Triple, RowSum, TurnCount, InverseOfZero, TraceOne, OutputShort, NoType, BadGate}
 use Rattle.gaussian.specs.Types.{typeOf}
 use Rattle.netlist.specs.Running.{kindAt, leftAt, rightAt, gateCount, outputAt}
 

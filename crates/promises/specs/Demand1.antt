@@ -10,7 +10,7 @@ use Rattle.gf2.specs.Quadratic.{trace, root}
 use Rattle.gf2.specs.Tables.{onesIn}
 use Rattle.gf2.specs.Products.{product, reduced}
 use Rattle.gf2.specs.Inverse.{inverse, productsMade}
-use Rattle.operand.specs.declared.fault.Fault.the-variants.{None}
+use Rattle.judging.specs.declared.fault.Fault.the-variants.{None}
 use Rattle.operand.specs.Judgements.{bytesFault}
 use Rattle.table.specs.Judgements.{checkFault, symmetryFault, shapeFault}
 use Rattle.netlist.specs.Gates.{Netlist, words, andGates, xorGates}

@@ -7,7 +7,7 @@ use Rattle.gf2.specs.Sums.{sum}
 use Rattle.gf2.specs.Coordinates.{coord}
 use Rattle.gf2.specs.Operands.{maxWidth, bytesFor, minus, IsOperand}
 use Rattle.gf2.specs.Tables.{IsTable, row, pairProduct}
-use Rattle.operand.specs.declared.fault.Fault.the-variants.{None}
+use Rattle.judging.specs.declared.fault.Fault.the-variants.{None}
 use Rattle.gaussian.specs.Types.{modulus, IsType, LeastType, typeOf}
 use Rattle.gaussian.specs.Table.{rowCoord}
 use Rattle.gaussian.specs.Calls.{drawFault, drawnInto}

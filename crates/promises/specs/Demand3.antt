@@ -12,7 +12,7 @@ use Rattle.gf2.specs.Tables.{row, onesIn}
 use Rattle.gf2.specs.Products.{product}
 use Rattle.gf2.specs.Field.{Op, IsUnit, Field, Squares}
 use Rattle.gf2.specs.Inverse.{log2, binaryOnes, productsMade}
-use Rattle.operand.specs.declared.fault.Fault.the-variants.{None}
+use Rattle.judging.specs.declared.fault.Fault.the-variants.{None}
 use Rattle.table.specs.Rows.{Shaped}
 use Rattle.table.specs.Judgements.{checkFault}
 use Rattle.netlist.specs.declared.CountsAnswer.{CountsAnswer}

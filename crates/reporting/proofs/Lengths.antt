@@ -9,9 +9,9 @@ use lib.ListN.{length, replicate, length-append}
 use lib.Dec.{ltb}
 use Rattle.gf2.specs.Operands.{maxWidth, choose}
 use Rattle.gf2.specs.Tables.{onesIn}
-use Rattle.operand.specs.declared.fault.Fault.{Fault}
-use Rattle.operand.specs.declared.fault.Fault.the-variants.{None, Length}
-use Rattle.operand.specs.Faults.{numberOf, isNone}
+use Rattle.judging.specs.declared.fault.Fault.{Fault}
+use Rattle.judging.specs.declared.fault.Fault.the-variants.{None, Length}
+use Rattle.judging.specs.Faults.{numberOf, isNone}
 use Rattle.operand.proofs.FaultLaws.{none-is, number-most}
 use Rattle.io.specs.Counts.{Counts}
 use Rattle.io.proofs.Counting.{counts}

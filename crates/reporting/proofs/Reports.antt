@@ -9,9 +9,9 @@ use lib.Seq.{take-at}
 use borrow.Author.Tests.{lt-ltb, le-ltb}
 use Rattle.gf2.specs.Operands.{bytesFor}
 use Rattle.gf2.specs.Tables.{onesIn}
-use Rattle.operand.specs.declared.fault.Fault.{Fault}
-use Rattle.operand.specs.declared.fault.Fault.the-variants.{None, Length}
-use Rattle.operand.specs.Faults.{isNone}
+use Rattle.judging.specs.declared.fault.Fault.{Fault}
+use Rattle.judging.specs.declared.fault.Fault.the-variants.{None, Length}
+use Rattle.judging.specs.Faults.{isNone}
 use Rattle.operand.proofs.FaultLaws.{none-is}
 use Rattle.table.specs.Judgements.{checkFault}
 use Rattle.card.specs.declared.CardAnswer.{CardAnswer}

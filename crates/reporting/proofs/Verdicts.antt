@@ -9,9 +9,10 @@ use lib.ListN.{length}
 use lib.Dec.{ltb, leb, eqb}
 use Rattle.gf2.specs.Operands.{maxWidth, bytesFor, choose}
 use Rattle.gf2.specs.Tables.{row, basis, onesIn}
-use Rattle.operand.specs.declared.fault.Fault.{Fault}
-use Rattle.operand.specs.declared.fault.Fault.the-variants.{None, Width, Length, RowZero, RowPair, Triple}
-use Rattle.operand.specs.Faults.{numberOf, isNone, when, orElse, firstOf, firstFrom}
+use Rattle.judging.specs.declared.fault.Fault.{Fault}
+use Rattle.judging.specs.declared.fault.Fault.the-variants.{None, Width, Length, RowZero, RowPair, Triple}
+use Rattle.operand.specs.Faults.{when, orElse, firstOf, firstFrom}
+use Rattle.judging.specs.Faults.{numberOf, isNone}
 use Rattle.operand.specs.Judgements.{widthFault}
 use Rattle.operand.proofs.FaultLaws.{none-is, when-keeps, or-keeps, from-keeps, width-fine}
 use Rattle.table.specs.Rows.{Shaped, mirrors, associates}

@@ -5,9 +5,9 @@ use lib.ListN.{length}
 use lib.Dec.{ltb}
 use Rattle.gf2.specs.Operands.{maxWidth, bytesFor, choose}
 use Rattle.gf2.specs.Tables.{onesIn}
-use Rattle.operand.specs.declared.fault.Fault.{Fault}
-use Rattle.operand.specs.declared.fault.Fault.the-variants.{Length}
-use Rattle.operand.specs.Faults.{numberOf, isNone}
+use Rattle.judging.specs.declared.fault.Fault.{Fault}
+use Rattle.judging.specs.declared.fault.Fault.the-variants.{Length}
+use Rattle.judging.specs.Faults.{numberOf, isNone}
 use Rattle.table.specs.Judgements.{checkFault}
 use Rattle.card.specs.Numbers.{Read, refused, got}
 use Rattle.card.specs.Cards.{Table, readCard}

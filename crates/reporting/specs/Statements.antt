@@ -4,8 +4,8 @@ use mathlib.Core.Bool.{false}
 use mathlib.Core.List.{List, _++_}
 use Prim.Native.Nat.{ℕ, _≤_}
 use lib.ListN.{length}
-use Rattle.operand.specs.declared.fault.Fault.{Fault}
-use Rattle.operand.specs.Faults.{numberOf, isNone}
+use Rattle.judging.specs.declared.fault.Fault.{Fault}
+use Rattle.judging.specs.Faults.{numberOf, isNone}
 use Rattle.io.specs.Digits.{Fewest}
 use Rattle.card.specs.Statements.{Bytes}
 use Rattle.reporting.specs.Text.{digitCount, room}

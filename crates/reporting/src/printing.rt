@@ -8,7 +8,7 @@ ghost use Rattle.reporting.specs.Steps.{appended, front, InFront};
 ghost use Rattle.reporting.specs.Report.{refusal, countsLine, acceptance, tableReport, report as printed};
 use crate::text::Text;
 use netlist::CountsAnswer;
-use operand::Fault;
+use judging::Fault;
 use operand::Operand;
 
 // Document 01's limit. A card of a table whose row 0 is right has 65,283 bytes at most; that of width 255 with every bit set has 65,538,
@@ -21,7 +21,7 @@ const LENT: usize = Operand::MAX_WIDTH * Operand::BYTES;
 fn refused(text: Text, fault: Fault) -> Text
     ensures { λ r. ⌜ r ≡ appended text (refusal fault) ⌝ }
 {
-    let number = operand::number(fault);
+    let number = judging::number(fault);
     text.append_line(b"refused", number.0)
 }
 
@@ -55,7 +55,7 @@ fn table_report(width: usize, table: &[u8]) -> Text
     let first = start.append_line(b"width", width);
     let head = first.append_line(b"ones", ones.ones);
     let fault = table::check(width, table);
-    if operand::is_none(fault) {
+    if judging::is_none(fault) {
         accepted(head, width, table)
     } else {
         refused(head, fault)
@@ -67,7 +67,7 @@ fn front_report(width: usize, lent: &[u8]) -> Text
     requires { ⌜ InFront width (now lent) ⌝ }
     ensures { λ r. ⌜ r ≡ appended (textOf []) (tableReport width (front width (now (lent .entry)))) ⌝ }
 {
-    let size = width * operand::bytes_for(width);
+    let size = width * limbs::bytes_for(width);
     table_report(width, &lent[..size])
 }
 
@@ -81,7 +81,7 @@ pub fn report(card: &[u8]) -> Text
     let mut lent = [0u8; LENT];
     let answer = card::read(card, &mut lent);
     let fault = answer.fault;
-    if operand::is_none(fault) {
+    if judging::is_none(fault) {
         front_report(answer.value, &lent)
     } else {
         refused(Text::empty(), fault)

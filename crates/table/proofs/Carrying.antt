@@ -18,7 +18,7 @@ use Rattle.gf2.specs.Check.{rowSum}
 use Rattle.gf2.proofs.Sums.{every-at}
 use Rattle.gf2.proofs.Coordinates.{length-pack, pack-of}
 use Rattle.gf2.proofs.Operands.{below-in, below-out, coord-from, length-from, from-operand, from-ext, from-eq, operand-ext}
-use Rattle.operand.proofs.CallLaws.{coord-carried}
+use Rattle.gf2.proofs.Carrying.{coord-carried}
 use Rattle.table.specs.Rows.{carriedBy, leftProduct, rightProduct}
 use Rattle.table.specs.Judgements.{same}
 use Rattle.table.proofs.Searches.{same-both}

@@ -21,10 +21,11 @@ use Rattle.gf2.proofs.Vector.{Vec, turn, β, lin, turn-turn, turn-z, turn-β}
 use Rattle.gf2.proofs.VectorProduct.{_·_ as mul, pair, turn-mul, mul-ββ, mul-o, pair-o, mul-comm, Symmetric as Symmetricᵛ}
 use Rattle.gf2.proofs.OperandVectors.{bytes-fit, vec, bytes, vec-bytes, from-vec, basis-vec, turned-bytes}
 use Rattle.gf2.proofs.TableVectors.{rows, row-vec, product-bytes, symmetric}
-use Rattle.operand.specs.Faults.{isNone}
+use Rattle.judging.specs.Faults.{isNone}
 use Rattle.operand.specs.Calls.{answer, zeroCall}
-use Rattle.operand.proofs.FaultFree.{IsWidth, done, width-none}
-use Rattle.operand.proofs.CallLaws.{coord-carried}
+use Rattle.operand.proofs.FaultFree.{done, width-none}
+use Rattle.judging.proofs.Passed.{IsWidth}
+use Rattle.gf2.proofs.Carrying.{coord-carried}
 use Rattle.table.specs.Rows.{Shaped, carriedBy, carriedRow, rowsAt, leftProduct, rightProduct}
 use Rattle.table.proofs.Shapes.{sized, row-short}
 use Rattle.table.proofs.Carrying.{carried-from}

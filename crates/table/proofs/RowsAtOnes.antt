@@ -22,7 +22,7 @@ use Rattle.gf2.proofs.TrailingZeros.{lowest-one, lowest-off, lowest-sum}
 use Rattle.limbs.specs.Limbs.{carriedLimbs, limbCoord, packLimbs}
 use Rattle.limbs.proofs.LimbCoords.{limb-lt, limb-digit, limb-pack, limbs-lt, limbs-ext, limbs-eq, limbs-zero, limbs-same, bytes-limbs}
 use Rattle.limbs.proofs.LimbLoops.{Limbs}
-use Rattle.operand.proofs.CallLaws.{coord-carried}
+use Rattle.gf2.proofs.Carrying.{coord-carried}
 use Rattle.table.specs.Rows.{Shaped, carriedRow, rowsAt, plusRows}
 use Rattle.table.proofs.Shapes.{sized, row-short}
 

@@ -13,8 +13,8 @@ use Rattle.gf2.proofs.Index.{at, at-add, at-all}
 use Rattle.gf2.proofs.Vector.{turn, turn-turn, turn-z}
 use Rattle.gf2.proofs.OperandVectors.{bytes-fit, vec, bytes, operand-vec, turned-bytes}
 use Rattle.gf2.proofs.Operands.{turned-operand}
-use Rattle.operand.specs.declared.fault.Fault.{Fault}
-use Rattle.operand.specs.declared.fault.Fault.the-variants.{None, RowPair, Triple}
+use Rattle.judging.specs.declared.fault.Fault.{Fault}
+use Rattle.judging.specs.declared.fault.Fault.the-variants.{None, RowPair, Triple}
 use Rattle.operand.specs.Faults.{when, firstFrom}
 use Rattle.limbs.proofs.ByteLists.{Bytes}
 use Rattle.table.specs.Judgements.{rowPairFault, tripleFault}

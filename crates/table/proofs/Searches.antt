@@ -19,9 +19,10 @@ use Rattle.gf2.specs.Coordinates.{coord}
 use Rattle.gf2.specs.Operands.{carriedBytes}
 use Rattle.gf2.proofs.Parity.{and-both, bool-ext}
 use Rattle.gf2.proofs.Coordinates.{coord-lt, pack-eq}
-use Rattle.operand.specs.declared.fault.Fault.{Fault}
-use Rattle.operand.specs.declared.fault.Fault.the-variants.{None, HighBit}
-use Rattle.operand.specs.Faults.{isNone, when, orElse, firstOf, firstFrom}
+use Rattle.judging.specs.declared.fault.Fault.{Fault}
+use Rattle.judging.specs.declared.fault.Fault.the-variants.{None, HighBit}
+use Rattle.operand.specs.Faults.{when, orElse, firstOf, firstFrom}
+use Rattle.judging.specs.Faults.{isNone}
 use Rattle.limbs.specs.Limbs.{carriedLimbs, limbCoord, packLimbs}
 use Rattle.limbs.proofs.ByteLists.{Bytes}
 use Rattle.limbs.proofs.LimbCoords.{length-limbs, limbs-coord}

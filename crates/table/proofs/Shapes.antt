@@ -20,15 +20,17 @@ use Rattle.gf2.proofs.Parity.{bool-ext}
 use Rattle.gf2.proofs.Sums.{every-at, every-of}
 use Rattle.gf2.proofs.Coordinates.{length-pack, pack-byte, coord-past, coord-digit, value-eq}
 use Rattle.gf2.proofs.Operands.{clear-at, clear-of}
-use Rattle.operand.specs.declared.fault.Fault.{Fault}
-use Rattle.operand.specs.declared.fault.Fault.the-variants.{None, HighBit}
-use Rattle.operand.specs.Faults.{isNone, orElse, firstOf}
+use Rattle.judging.specs.declared.fault.Fault.{Fault}
+use Rattle.judging.specs.declared.fault.Fault.the-variants.{None, HighBit}
+use Rattle.operand.specs.Faults.{orElse, firstOf}
+use Rattle.judging.specs.Faults.{isNone}
 use Rattle.operand.specs.Judgements.{widthFault, lengthFault}
 use Rattle.limbs.proofs.ByteLists.{Bytes}
 use Rattle.limbs.proofs.LimbLoops.{ored, ored-at, ored-of, ored-shr}
-use Rattle.operand.proofs.CallLaws.{coord-carried}
+use Rattle.gf2.proofs.Carrying.{coord-carried}
 use Rattle.operand.proofs.FaultLaws.{or-second, or-assoc, first-two, first-more, two-fine, width-fine, length-fine}
-use Rattle.operand.proofs.FaultFree.{IsWidth, width-none, length-none}
+use Rattle.operand.proofs.FaultFree.{width-none, length-none}
+use Rattle.judging.proofs.Passed.{IsWidth}
 use Rattle.table.specs.Rows.{Shaped, carriedBy, carriedRow}
 use Rattle.table.specs.Judgements.{rowsFault, shapeFault}
 use Rattle.table.proofs.Searches.{when-passes, when-fails, when-none, none-true, high-some, three-none}

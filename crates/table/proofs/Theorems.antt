@@ -3,7 +3,7 @@
 use mathlib.Core.Path.{_≡_, refl, sym, ap, _∙_}
 use mathlib.Core.Logic.{_↔_}
 use mathlib.Core.Bool.{Bool, true, false, not, _&&_}
-use mathlib.Core.List.{List, []}
+use mathlib.Core.List.{List, [], _∷_}
 use Prim.Native.Nat.{ℕ, _-_, _*_, _<_, _≤_}
 use native.Mathlib.Omega.{arith}
 use lib.ListN.{length}
@@ -15,9 +15,12 @@ use Rattle.gf2.specs.Check.{Rule4, Rule5, Rule6, Rule7, Symmetric, Accepted, ro
 use Rattle.gf2.proofs.Sums.{every-at}
 use Rattle.gf2.proofs.Theorems.{theoremA, theoremC, theoremF}
 use Rattle.gf2.proofs.CarriedTables.{carried}
-use Rattle.operand.specs.declared.fault.Fault.{Fault}
-use Rattle.operand.specs.declared.fault.Fault.the-variants.{None, Width, Length, HighBit, RowZero, RowPair, Triple, RowSum}
-use Rattle.operand.specs.Faults.{numberOf, isNone, when, firstOf}
+use Rattle.judging.specs.declared.fault.Fault.{Fault}
+use Rattle.judging.specs.declared.fault.Fault.the-variants.{None, Width, Length, HighBit, RowZero, RowPair, Triple, RowSum}
+use Rattle.operand.specs.Faults.{when, firstOf}
+use Rattle.judging.specs.FaultTable.{badWidth, badLength}
+use Rattle.judging.proofs.CauseLaws.{keeps}
+use Rattle.judging.specs.Faults.{numberOf, isNone}
 use Rattle.operand.specs.Judgements.{widthFault, lengthFault}
 use Rattle.operand.proofs.FaultLaws.{none-is, when-keeps, first-keeps, from-keeps}
 use Rattle.table.specs.Carried.{carried2, carried3, carried4, carried5}
@@ -119,10 +122,10 @@ none-first = no-fault
 
 module _ (m : ℕ) (t : List ℕ) where
   shape-first : First (shapeFault m t)
-  unfolding shapeFault rowsFault widthFault lengthFault
+  unfolding shapeFault rowsFault
   shape-first =
-      first-keeps First _ (other-when (not (leb 2 m && leb m maxWidth)) Width (λ e. omega arith)) (λ q.
-      first-keeps First _ (other-when (not (eqb (length t) (m * bytesFor m))) Length (λ e. omega arith)) (λ q.
+      first-keeps First _ (keeps First no-fault (badWidth m ∷ []) (other Width (λ e. omega arith), λ q. tt)) (λ q.
+      first-keeps First _ (keeps First no-fault (badLength (length t) (m * bytesFor m) ∷ []) (other Length (λ e. omega arith), λ q. tt)) (λ q.
       first-keeps First _ (other-when (not (every m (λ d. isClear m (row m t d)))) HighBit (λ e. omega arith)) (λ q. none-first)))
 
   pairs-first : First (rowPairFault m t)

@@ -9,8 +9,8 @@ use Rattle.gf2.specs.Operands.{bytesFor, isClear, turned}
 use Rattle.gf2.specs.Tables.{row, basis}
 use Rattle.gf2.specs.Products.{product}
 use Rattle.gf2.specs.Check.{rowSum}
-use Rattle.operand.specs.declared.fault.Fault.{Fault}
-use Rattle.operand.specs.declared.fault.Fault.the-variants.{HighBit, RowZero, RowPair, Triple, RowSum}
+use Rattle.judging.specs.declared.fault.Fault.{Fault}
+use Rattle.judging.specs.declared.fault.Fault.the-variants.{HighBit, RowZero, RowPair, Triple, RowSum}
 use Rattle.operand.specs.Faults.{when, firstOf, firstFrom}
 use Rattle.operand.specs.Judgements.{widthFault, lengthFault}
 

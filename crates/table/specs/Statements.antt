@@ -11,7 +11,7 @@ use Prim.Native.Nat.{ℕ, _<_}
 use lib.ListN.{getD}
 use Rattle.gf2.specs.Check.{Symmetric, Accepted}
 use Rattle.gf2.specs.Field.{Field, Squares}
-use Rattle.operand.specs.declared.fault.Fault.the-variants.{None, Triple}
+use Rattle.judging.specs.declared.fault.Fault.the-variants.{None, Triple}
 use Rattle.table.specs.Carried.{carried2, carried3, carried4, carried5}
 use Rattle.table.specs.Rows.{Shaped}
 use Rattle.table.specs.Judgements.{shapeFault, symmetryFault, tripleFault, rowSumFault, checkFault}

@@ -36,7 +36,7 @@ pub fn ones(width: usize, table: &[u8]) -> OnesAnswer
     ensures { λ r. ⌜ r ≡ onesCall width (now (table .entry)) ⌝ }
 {
     let fault = rows::judge_shape(width, table);
-    if operand::is_none(fault) {
+    if judging::is_none(fault) {
         OnesAnswer {
             fault,
             ones: count(table),

@@ -1,5 +1,5 @@
 // Tables of products of basis elements: their shape, their rows, their ones, the four that are carried, and the check.
-use operand::Fault;
+use judging::Fault;
 
 mod carried;
 mod counts;

@@ -8,16 +8,16 @@ ghost use Rattle.operand.specs.Faults.{firstOf};
 ghost use Rattle.operand.specs.Judgements.{widthFault, lengthFault};
 ghost use Rattle.table.specs.Rows.{Shaped, carriedRow};
 ghost use Rattle.table.specs.Judgements.{rowsFault, shapeFault};
-use operand::Fault;
+use judging::Fault;
 use operand::Operand;
 
 // The number of bytes is worked out only for a width that has passed: of any other it may be more than a usize holds.
 fn judge_size(width: usize, size: usize) -> Fault
     ensures { λ r. ⌜ r ≡ firstOf (widthFault width ∷ lengthFault size (width * bytesFor width) ∷ []) ⌝ }
 {
-    let fault = operand::judge_width(width);
-    if operand::is_none(fault) {
-        operand::judge_length(size, width * operand::bytes_for(width))
+    let fault = judging::judge_width(width);
+    if judging::is_none(fault) {
+        judging::judge_length(size, width * limbs::bytes_for(width))
     } else {
         fault
     }
@@ -28,7 +28,7 @@ pub(crate) fn row_bytes(width: usize, table: &[u8], d: usize) -> [u8; Operand::B
     requires { ⌜ (width ≤ maxWidth) × (length (now table) ≡ width * bytesFor width) × (d < width) ⌝ }
     ensures { λ r. ⌜ r ≡ carriedRow width (now (table .entry)) d ⌝ }
 {
-    let size = operand::bytes_for(width);
+    let size = limbs::bytes_for(width);
     let from = d * size;
     limbs::carried(&table[from..from + size])
 }
@@ -43,7 +43,7 @@ fn judge_ends(width: usize, table: &[u8]) -> Fault
     if used == 0 {
         return Fault::None;
     }
-    let size = operand::bytes_for(width);
+    let size = limbs::bytes_for(width);
     let mut all: u8 = 0;
     let mut d = 0;
     while d < width {
@@ -61,7 +61,7 @@ pub fn judge_shape(width: usize, table: &[u8]) -> Fault
     ensures { λ r. ⌜ r ≡ shapeFault width (now (table .entry)) ⌝ }
 {
     let fault = judge_size(width, table.len());
-    if !operand::is_none(fault) {
+    if !judging::is_none(fault) {
         return fault;
     }
     judge_ends(width, table)

@@ -6,7 +6,7 @@ ghost use Rattle.gf2.specs.Tables.{basis};
 ghost use Rattle.table.specs.Rows.{Shaped, carriedBy, mirrors};
 ghost use Rattle.table.specs.Judgements.{same, rowZeroFault, rowPairFault, symmetryFault};
 use crate::rows;
-use operand::Fault;
+use judging::Fault;
 use operand::Operand;
 
 // Compared as limbs: bytes just stored limb by limb are read the same way.
@@ -76,11 +76,11 @@ pub fn judge_symmetry(width: usize, table: &[u8]) -> Fault
     ensures { λ r. ⌜ r ≡ symmetryFault width (now (table .entry)) ⌝ }
 {
     let shape = rows::judge_shape(width, table);
-    if !operand::is_none(shape) {
+    if !judging::is_none(shape) {
         return shape;
     }
     let zero = judge_row_zero(width, table);
-    if !operand::is_none(zero) {
+    if !judging::is_none(zero) {
         return zero;
     }
     judge_row_pairs(width, table)

@@ -8,7 +8,7 @@ use crate::first;
 use crate::rows;
 use crate::sums;
 use crate::symmetry;
-use operand::Fault;
+use judging::Fault;
 use operand::Operand;
 
 // (β0·βi)·βj: the factor β0·βi is row i. Both factors are turned back j places, which makes β0 of βj, and their product j places on; by
@@ -94,11 +94,11 @@ pub fn check(width: usize, table: &[u8]) -> Fault
     ensures { λ r. ⌜ r ≡ checkFault width (now (table .entry)) ⌝ }
 {
     let fault = symmetry::judge_symmetry(width, table);
-    if !operand::is_none(fault) {
+    if !judging::is_none(fault) {
         return fault;
     }
     let triple = judge_triples(width, table);
-    if !operand::is_none(triple) {
+    if !judging::is_none(triple) {
         return triple;
     }
     judge_row_sum(width, table)

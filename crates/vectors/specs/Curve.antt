@@ -5,7 +5,7 @@ use Prim.Native.Nat.{ℕ}
 use Rattle.gf2.specs.Operands.{isClear}
 use Rattle.operand.specs.declared.Operand.{Operand}
 use Rattle.operand.specs.declared.OperandAnswer.{OperandAnswer}
-use Rattle.operand.specs.Faults.{isNone}
+use Rattle.judging.specs.Faults.{isNone}
 use Rattle.operand.specs.Calls.{squareCall, sumCall}
 use Rattle.product.specs.Calls.{productCall}
 use Rattle.vectors.specs.Published.{published}

@@ -29,7 +29,7 @@ fn is_zero(answer: OperandAnswer) -> bool
     ensures { λ r. ⌜ r ≡ isZero answer ⌝ }
 {
     let fault = answer.fault;
-    if operand::is_none(fault) {
+    if judging::is_none(fault) {
         let bytes = answer.value.bytes;
         return limbs::is_clear(bytes, 0);
     }

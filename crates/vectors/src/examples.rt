@@ -1,7 +1,7 @@
 // Each function runs one example of document 01 and prints what its calls answer.
 ghost use mathlib.Core.Path.{_≡_};
 ghost use Prim.Native.Nat.{_<_, _≤_};
-ghost use Rattle.operand.specs.Faults.{numberOf};
+ghost use Rattle.judging.specs.Faults.{numberOf};
 ghost use Rattle.gaussian.specs.Calls.{drawnInto};
 ghost use Rattle.card.specs.Calls.{writeCard};
 ghost use Rattle.vectors.specs.Curve.{pointOnCurve};
@@ -16,7 +16,7 @@ fn fault_of(answer: OperandAnswer) -> usize
     ensures { λ r. ⌜ r ≡ numberOf (answer .fault) .0 ⌝ }
 {
     let fault = answer.fault;
-    let number = operand::number(fault);
+    let number = judging::number(fault);
     number.0
 }
 
@@ -53,7 +53,7 @@ pub(crate) fn drawn(width: usize)
     let table = &mut whole[..width];
     let answer = gaussian::draw(width, table);
     let fault = answer.fault;
-    let number = operand::number(fault);
+    let number = judging::number(fault);
     printing::line(b"drawn width #: #, type #,", [width, number.0, answer.t, 0]);
     printing::bytes(table);
 }
@@ -69,7 +69,7 @@ pub(crate) fn list(lent: usize)
     let words = &mut whole[..lent];
     let answer = netlist::list_reduced(2, &table, words);
     let fault = answer.fault;
-    let number = operand::number(fault);
+    let number = judging::number(fault);
     printing::line(
         b"reduced list of width 2, # words lent: #, AND #, XOR #, words",
         [lent, number.0, answer.ands.0, answer.xors.0],
@@ -93,7 +93,7 @@ fn written(width: usize, table: &[u8], card: &mut [u8])
 {
     let answer = card::write(width, table, card);
     let fault = answer.fault;
-    let number = operand::number(fault);
+    let number = judging::number(fault);
     printing::line(
         b"card of width #: #, length #,",
         [width, number.0, answer.value, 0],
@@ -111,7 +111,7 @@ fn read(width: usize, table: &[u8], card: &[u8])
     let bytes = &mut whole[..width];
     let answer = card::read(card, bytes);
     let fault = answer.fault;
-    let number = operand::number(fault);
+    let number = judging::number(fault);
     let same = check::same(bytes, table) as usize;
     printing::line(
         b"card of width # read: #, width #, the carried table #\n",

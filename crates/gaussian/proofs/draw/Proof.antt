@@ -3,7 +3,7 @@ use mathlib.Core.Path.{_≡_, ap, _∙_}
 use mathlib.Core.Bool.{true}
 use native.Mathlib.Omega.{arith}
 use lib.ListN.{length}
-use Rattle.operand.specs.Faults.{isNone}
+use Rattle.judging.specs.Faults.{isNone}
 use Rattle.operand.proofs.FaultLaws.{judged}
 use Rattle.gaussian.specs.Table.{drawn}
 use Rattle.gaussian.specs.Calls.{drawFault}

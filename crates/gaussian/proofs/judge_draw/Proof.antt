@@ -6,7 +6,7 @@ use native.Mathlib.Nat.{le-refl}
 use native.Mathlib.Omega.{arith}
 use borrow.Author.Tests.{not-true, not-false}
 use Rattle.gf2.specs.Operands.{bytesFor}
-use Rattle.operand.specs.Faults.{isNone}
+use Rattle.judging.specs.Faults.{isNone}
 use Rattle.operand.specs.Judgements.{widthFault, lengthFault}
 use Rattle.operand.proofs.FaultLaws.{judged, width-fine}
 use Rattle.gaussian.proofs.Answers.{draw-width, draw-room, draw-type}

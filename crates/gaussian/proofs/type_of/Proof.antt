@@ -2,7 +2,7 @@
 use mathlib.Core.Path.{_≡_}
 use mathlib.Core.Bool.{true}
 use borrow.Author.Tests.{not-true, not-false}
-use Rattle.operand.specs.Faults.{isNone}
+use Rattle.judging.specs.Faults.{isNone}
 use Rattle.operand.specs.Judgements.{widthFault}
 use Rattle.operand.proofs.FaultLaws.{judged, width-fine}
 use Rattle.gaussian.proofs.Answers.{width-refused, type-refused, type-given}

@@ -5,7 +5,7 @@ use lib.ListN.{length, getD}
 use mir.Val.{Fits}
 use mir.Syntax.{w8}
 use Rattle.gf2.specs.Operands.{carriedBytes}
-use Rattle.operand.specs.declared.fault.Fault.the-variants.{None}
+use Rattle.judging.specs.declared.fault.Fault.the-variants.{None}
 use Rattle.operand.proofs.FaultLaws.{judged, answered, refusal}
 use Rattle.product.proofs.FaultOrder.{method-fine}
 use borrow.Author.Needs.{needs}

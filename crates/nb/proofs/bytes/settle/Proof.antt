@@ -1,6 +1,6 @@
 -- `nb::bytes::settle` meets its contract.
 use mathlib.Core.Path.{_≡_, refl, sym, _∙_}
-use Rattle.operand.specs.Faults.{isNone}
+use Rattle.judging.specs.Faults.{isNone}
 use borrow.Author.Needs.{needs}
 use Rattle.nb.proofs.bytes.settle.Statement.{statement}
 use Rattle.nb.proofs.bytes.settle.Tie as tie

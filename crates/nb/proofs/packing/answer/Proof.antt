@@ -1,7 +1,7 @@
 -- `nb::packing::answer` meets its contract.
 use mathlib.Core.Path.{sym, ap, _∙_}
 use native.Mathlib.Omega.{arith}
-use Rattle.operand.specs.declared.fault.FaultNumber.{FaultNumber}
+use Rattle.judging.specs.declared.fault.FaultNumber.{FaultNumber}
 use Rattle.nb.specs.Packing.{packed, packedFault, packedAnswer}
 use Rattle.operand.proofs.FaultLaws.{number-most}
 use borrow.Author.Needs.{needs}

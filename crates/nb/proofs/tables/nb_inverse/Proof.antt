@@ -2,7 +2,7 @@
 use mathlib.Core.Path.{_≡_, refl, _∙_}
 use mathlib.Core.Bool.{true}
 use Rattle.gf2.specs.Inverse.{inverse, productsMade}
-use Rattle.operand.specs.Faults.{isNone}
+use Rattle.judging.specs.Faults.{isNone}
 use Rattle.nb.specs.Judgements.{inverseBytesFault}
 use Rattle.nb.proofs.PackLaws.{answer-same, packs-same, packs, small-inverse-call}
 use Rattle.nb.proofs.Bounds.{inverse-packs}

@@ -1,26 +1,34 @@
 -- `operand::Operand::sum` meets its contract.
-use mathlib.Core.Path.{_≡_, sym, ap, _∙_}
 use Prim.Native.Nat.{_+_}
 use lib.ListN.{length}
 use Rattle.gf2.specs.Coordinates.{coord, pack}
 use Rattle.gf2.specs.Operands.{carriedBytes}
-use Rattle.operand.specs.Faults.{isNone}
-use Rattle.operand.proofs.FaultLaws.{answer-same, pair-fine}
-use Rattle.operand.proofs.CallLaws.{sum-bytes}
+use mathlib.Core.Path.{_≡_, sym, ap, _∙_}
+use mathlib.Core.List.{[], _∷_}
+use borrow.Author.Tests.{not-true, not-false}
+use Rattle.operand.specs.Causes.{pairCauses}
+use Rattle.judging.specs.Faults.{isNone}
+use Rattle.judging.specs.Causes.{faultOf}
+use Rattle.judging.specs.FaultTable.{badWidth}
+use Rattle.judging.proofs.CauseLaws.{fine}
+use Rattle.judging.proofs.Passed.{is-width, as-laid-down, is-clear}
+use Rattle.operand.proofs.CallLaws.{answer-same, sum-bytes}
 use borrow.Author.Needs.{needs}
 use Rattle.operand.proofs.Operand.sum.Statement.{statement}
 use Rattle.operand.proofs.Operand.sum.Tie as tie
 
 answered-requires : tie.Need-answered-requires
-answered-requires c κs = λ e. pair-fine _ _ (ap isNone (sym (c .before .judge-pair .ensures)) ∙ e) .left .greatest
+answered-requires c κs = λ e. is-width _ (fine (pairCauses _ _) (ap isNone (sym (c .before .judge-pair .ensures)) ∙ e) .0) .greatest
 
 returns : tie.Need-returns
 returns c =
     let a = c .before .before .before .before .before .before .args in
     let size : length (a .self .bytes) ≡ carriedBytes = search needs in
     c .answered .ensures ∙ answer-same _ (c .before .before .judge-pair .ensures) (λ e.
-    let fine = pair-fine (a .self) (a .other) e in
-    c .before .xored .ensures ∙ ap (λ n. pack n (λ i. coord (a .self .bytes) i + coord (a .other .bytes) i)) (sym size) ∙ sum-bytes _ _ _ (fine .left .clear) (fine .right))
+    let p = fine (pairCauses (a .self) (a .other)) e in
+    let w = as-laid-down (a .other .width) (a .self .width) (p .1 .1 .0) in
+    c .before .xored .ensures ∙ ap (λ n. pack n (λ i. coord (a .self .bytes) i + coord (a .other .bytes) i)) (sym size)
+    ∙ sum-bytes _ _ _ (is-clear (a .self .width) (a .self .bytes) (p .1 .1 .1 .0)) (rw w at (is-clear (a .other .width) (a .other .bytes) (p .1 .1 .1 .1 .0))))
 
 pub sum-spec : {M : Type 1} → statement M
 sum-spec = tie.close (tie.spec (λ c. search needs) (λ c κs. search needs) (λ c κs. search needs) answered-requires returns)

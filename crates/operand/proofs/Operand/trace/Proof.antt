@@ -2,24 +2,36 @@
 use Prim.Native.Nat.{_*_}
 use native.Mathlib.Omega.{arith}
 use Rattle.gf2.specs.Operands.{carriedBytes}
-use Rattle.operand.proofs.FaultLaws.{judged, operand-fine}
+use mathlib.Core.Path.{sym, _∙_}
+use mathlib.Core.List.{[], _∷_}
+use borrow.Author.Tests.{not-true, not-false}
+use Rattle.operand.specs.Causes.{operandCauses}
+use Rattle.operand.specs.Calls.{traceAnswer}
+use Rattle.judging.specs.Faults.{isNone}
+use Rattle.judging.specs.Causes.{faultOf}
+use Rattle.judging.specs.FaultTable.{badWidth}
+use Rattle.judging.proofs.CauseLaws.{fine, judged}
+use Rattle.judging.proofs.Passed.{is-width, is-clear}
 use Rattle.operand.proofs.CallLaws.{trace-bytes}
 use borrow.Author.Needs.{needs}
 use Rattle.operand.proofs.Operand.trace.Statement.{statement}
 use Rattle.operand.proofs.Operand.trace.Tie as tie
 
 returns : tie.Need-returns
+unfolding traceAnswer
 returns c =
     let s = c .before .before in
     let a = s .before .before .before .args .self in
-    let none = judged (s .before .judge-operand .ensures) (s .is-none .ensures) (c .before .if1 .taken) in
-    let fine = operand-fine a none in
-    rw (none, s .before .judge-operand .ensures, c .trace .ensures, trace-bytes (8 * carriedBytes) (a .width) (a .bytes) (omega (arith, fine .greatest)) (fine .clear))
+    let none = judged (operandCauses a) [] (s .before .judge-operand .ensures) (s .is-none .ensures) (c .before .if1 .taken) in
+    let p = fine (operandCauses a) none in
+    let g = is-width (a .width) (p .0) .greatest in
+    rw (none, s .before .judge-operand .ensures, c .trace .ensures, trace-bytes (8 * carriedBytes) (a .width) (a .bytes) (omega arith) (is-clear _ _ (p .1 .0)))
 
 returns-2 : tie.Need-returns-2
+unfolding traceAnswer
 returns-2 c =
     let s = c .before in
-    rw (judged (s .before .judge-operand .ensures) (s .is-none .ensures) (c .if1 .left), s .before .judge-operand .ensures)
+    rw (judged (operandCauses _) [] (s .before .judge-operand .ensures) (s .is-none .ensures) (c .if1 .left), s .before .judge-operand .ensures)
 
 pub trace-spec : {M : Type 1} → statement M
 trace-spec =

@@ -1,37 +1,53 @@
 -- `operand::Operand::turn` meets its contract.
-use mathlib.Core.Path.{_≡_, sym, ap, _∙_}
-use mathlib.Core.Bool.{true, true≢false}
+use mathlib.Core.Bool.{true}
+use mathlib.Core.Path.{_≡_, _∙_}
 use mathlib.Core.List.{[], _∷_}
-use Rattle.operand.specs.Faults.{isNone, firstOf}
-use Rattle.operand.specs.Judgements.{operandFault, turnFault}
-use Rattle.operand.proofs.FaultLaws.{judged, two-fine, answer-same, Fine, operand-fine, turn-fine}
+use borrow.Author.Tests.{not-true, not-false}
+use Rattle.judging.specs.declared.fault.Fault.{Fault}
+use Rattle.operand.specs.Causes.{turnCauses}
+use Rattle.judging.specs.Faults.{isNone}
+use Rattle.judging.specs.Causes.{faultOf}
+use Rattle.judging.specs.FaultTable.{badWidth, highBit, turnTooFar}
+use Rattle.judging.proofs.CauseLaws.{fine, judged, ends, ends-some, follows}
+use Rattle.judging.proofs.Passed.{IsWidth, is-width, is-clear, below-width}
+use Rattle.operand.proofs.CallLaws.{answer-same, refusal}
 use borrow.Author.Needs.{needs}
 use Rattle.operand.proofs.Operand.turn.Statement.{statement}
 use Rattle.operand.proofs.Operand.turn.Tie as tie
 
--- what holds where no fault is judged
-fine : (c : tie.Then1) → let a = c .before .before .before .before .before .args in isNone (firstOf (operandFault (a .self) ∷ turnFault (a .self .width) (a .k) ∷ [])) ≡ true
-fine c = judged (c .before .before .judge-turning .ensures) (c .before .is-none .ensures) (c .if1 .taken)
+-- where the width has passed: what it is, and the fault of the parts that follow
+width : (c : tie.Else1) → IsWidth (c .before .before .before .before .before .args .self .width)
+width c = is-width _ (fine (badWidth _ ∷ []) (judged (badWidth _ ∷ []) [] (c .before .before .judge-width .ensures) (c .before .is-none .ensures) (not-false _ (c .if1 .left))) .0)
 
-sound : (c : tie.Then1) → Fine (c .before .before .before .before .before .args .self)
-sound c = operand-fine _ (two-fine _ _ (fine c) .0)
-
-turned-requires : tie.Need-turned-requires
-turned-requires c κs = (sound c .greatest, turn-fine _ _ (two-fine _ _ (fine c) .1), sound c .clear)
-
-answered-requires : tie.Need-answered-requires
-answered-requires c κs = λ e. sound (c .before) .greatest
+whole : (c : tie.Else1) → let a = c .before .before .before .before .before .args in (f : Fault) → f ≡ faultOf (highBit (a .self .width) (a .self .bytes) ∷ turnTooFar (a .self .width) (a .k) ∷ []) → f ≡ faultOf (turnCauses (a .self) (a .k))
+whole c f = follows (badWidth _ ∷ []) (highBit _ _ ∷ turnTooFar _ _ ∷ []) (c .before .before .judge-width .ensures) (c .before .is-none .ensures) (not-false _ (c .if1 .left))
 
 returns : tie.Need-returns
-returns c = c .answered .ensures ∙ answer-same _ (c .before .before .before .before .judge-turning .ensures) (λ e. c .before .turned .ensures)
-
-answered-requires-2 : tie.Need-answered-requires-2
-answered-requires-2 c κs = λ e. operand-fine _ (two-fine _ _ (ap isNone (sym (c .before .before .judge-turning .ensures)) ∙ e) .0) .greatest
+returns c =
+    let s = c .before .before in
+    let q = not-true _ (c .before .if1 .taken) in
+    refusal _ _ _ (ends (badWidth _ ∷ []) (highBit _ _ ∷ turnTooFar _ _ ∷ []) (s .before .judge-width .ensures) (s .is-none .ensures) q)
+    (ends-some (badWidth _ ∷ []) (highBit _ _ ∷ turnTooFar _ _ ∷ []) (s .before .judge-width .ensures) (s .is-none .ensures) q) (c .refused .ensures)
 
 returns-2 : tie.Need-returns-2
 returns-2 c =
+    let s = c .before .before in
+    let all = whole (s .before .before) _ (s .before .judge-turn .ensures) in
+    refusal _ _ _ all (judged (badWidth _ ∷ highBit _ _ ∷ turnTooFar _ _ ∷ []) [] all (s .is-none2 .ensures) (not-true _ (c .before .if2 .taken))) (c .refused2 .ensures)
+
+turned-requires : tie.Need-turned-requires
+turned-requires c κs =
+    let s = c .before in
+    let p = fine (highBit _ _ ∷ turnTooFar _ _ ∷ []) (judged (highBit _ _ ∷ turnTooFar _ _ ∷ []) [] (s .before .judge-turn .ensures) (s .is-none2 .ensures) (not-false _ (c .if2 .left))) in
+    (width (s .before .before) .greatest, below-width _ _ (p .1 .0), is-clear _ _ (p .0))
+
+answered-requires : tie.Need-answered-requires
+answered-requires c κs = λ e. width (c .before .before .before .before) .greatest
+
+returns-3 : tie.Need-returns-3
+returns-3 c =
     let s = c .before .before .before in
-    c .answered2 .ensures ∙ answer-same _ (s .judge-turning .ensures) (λ e. absurd (true≢false (sym e ∙ judged (s .judge-turning .ensures) (c .before .before .is-none .ensures) (c .before .if1 .left))))
+    c .answered .ensures ∙ answer-same _ (whole (s .before .before) _ (s .before .judge-turn .ensures)) (λ e. c .before .turned .ensures)
 
 pub turn-spec : {M : Type 1} → statement M
 turn-spec =
@@ -40,8 +56,12 @@ turn-spec =
     (λ c. search needs)
     (λ c κs. search needs)
     (λ c κs. search needs)
+    (λ c κs. search needs)
+    returns
+    (λ c κs. search needs)
+    (λ c κs. search needs)
+    (λ c κs. search needs)
+    returns-2
     turned-requires
     answered-requires
-    returns
-    answered-requires-2
-    returns-2)
+    returns-3)

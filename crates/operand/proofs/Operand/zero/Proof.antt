@@ -1,14 +1,19 @@
 -- `operand::Operand::zero` meets its contract.
 use mathlib.Core.Path.{sym, ap, _∙_}
-use Rattle.operand.specs.Faults.{isNone}
-use Rattle.operand.proofs.FaultLaws.{answer-same, width-fine}
-use Rattle.operand.proofs.CallLaws.{zero-bytes}
+use mathlib.Core.List.{[], _∷_}
+use borrow.Author.Tests.{not-true, not-false}
+use Rattle.judging.specs.Faults.{isNone}
+use Rattle.judging.specs.Causes.{faultOf}
+use Rattle.judging.specs.FaultTable.{badWidth}
+use Rattle.judging.proofs.CauseLaws.{fine}
+use Rattle.judging.proofs.Passed.{is-width}
+use Rattle.operand.proofs.CallLaws.{answer-same, zero-bytes}
 use borrow.Author.Needs.{needs}
 use Rattle.operand.proofs.Operand.zero.Statement.{statement}
 use Rattle.operand.proofs.Operand.zero.Tie as tie
 
 answered-requires : tie.Need-answered-requires
-answered-requires c κs = λ e. width-fine _ (ap isNone (sym (c .judge-width .ensures)) ∙ e) .1
+answered-requires c κs = λ e. is-width _ (fine (badWidth _ ∷ []) (ap isNone (sym (c .judge-width .ensures)) ∙ e) .0) .greatest
 
 returns : tie.Need-returns
 returns c = c .answered .ensures ∙ answer-same _ (c .before .judge-width .ensures) (λ e. zero-bytes _)

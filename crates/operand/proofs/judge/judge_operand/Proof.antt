@@ -1,20 +1,21 @@
 -- `operand::judge::judge_operand` meets its contract.
-use Rattle.operand.specs.Judgements.{operandFault}
-use Rattle.operand.proofs.FaultLaws.{first-ends, first-goes, first-last}
+use mathlib.Core.List.{[], _∷_}
+use borrow.Author.Tests.{not-true, not-false}
+use Rattle.judging.specs.FaultTable.{badWidth, highBit}
+use Rattle.judging.proofs.CauseLaws.{ends, follows}
 use borrow.Author.Needs.{needs}
 use Rattle.operand.proofs.judge.judge_operand.Statement.{statement}
 use Rattle.operand.proofs.judge.judge_operand.Tie as tie
 
 returns : tie.Need-returns
-unfolding operandFault
-returns c =
-    first-goes _ _ _ (c .before .before .before .judge-width .ensures) (c .before .before .is-none .ensures) (c .before .if1 .taken) (first-last (c .judge-high .ensures))
+returns c = ends (badWidth _ ∷ []) (highBit _ _ ∷ []) (c .before .before .judge-width .ensures) (c .before .is-none .ensures) (not-true _ (c .if1 .taken))
 
 returns-2 : tie.Need-returns-2
-unfolding operandFault
-returns-2 c = first-ends _ _ _ (c .before .before .judge-width .ensures) (c .before .is-none .ensures) (c .if1 .left)
+returns-2 c =
+    let s = c .before .before in
+    follows (badWidth _ ∷ []) (highBit _ _ ∷ []) (s .before .judge-width .ensures) (s .is-none .ensures) (not-false _ (c .before .if1 .left)) (c .judge-high .ensures)
 
 pub judge-operand-spec : {M : Type 1} → statement M
 judge-operand-spec =
     tie.close
-    (tie.spec (λ c. search needs) (λ c κs. search needs) (λ c κs. search needs) (λ c κs. search needs) returns returns-2)
+    (tie.spec (λ c. search needs) (λ c κs. search needs) (λ c κs. search needs) returns (λ c κs. search needs) returns-2)

@@ -1,6 +1,6 @@
 -- `product::chain::inverted` meets its contract.
 use mathlib.Core.Path.{ap₂}
-use Rattle.operand.specs.declared.fault.Fault.the-variants.{None}
+use Rattle.judging.specs.declared.fault.Fault.the-variants.{None}
 use Rattle.product.proofs.ChainSteps.{last-turned, last-count}
 use borrow.Author.Needs.{needs}
 use Rattle.product.proofs.chain.inverted.Statement.{statement}

@@ -1,6 +1,6 @@
 -- `report::reporting::report` meets its contract.
 use mathlib.Core.Path.{sym, ap, _∙_}
-use Rattle.operand.specs.declared.fault.Fault.the-variants.{Length}
+use Rattle.judging.specs.declared.fault.Fault.the-variants.{Length}
 use Rattle.card.specs.declared.CardAnswer.{CardAnswer}
 use Rattle.reporting.specs.Report.{refusal}
 use Rattle.reporting.specs.Steps.{appended}

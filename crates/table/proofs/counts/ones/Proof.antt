@@ -1,7 +1,7 @@
 -- `table::counts::ones` meets its contract.
 use mathlib.Core.Path.{_≡_, _∙_}
 use mathlib.Core.Bool.{true}
-use Rattle.operand.specs.Faults.{isNone}
+use Rattle.judging.specs.Faults.{isNone}
 use Rattle.operand.proofs.FaultLaws.{judged, none-is}
 use Rattle.table.specs.Rows.{Shaped}
 use Rattle.table.specs.Judgements.{shapeFault}

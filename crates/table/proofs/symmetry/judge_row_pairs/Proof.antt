@@ -4,8 +4,9 @@ use Prim.Native.Nat.{_-_, _≤_}
 use native.Mathlib.Decide.{ℕ-discrete}
 use native.Mathlib.Omega.{arith}
 use borrow.Author.Tests.{not-true, not-false}
-use Rattle.operand.specs.declared.fault.Fault.the-variants.{RowPair}
-use Rattle.operand.specs.Faults.{isNone, firstFrom}
+use Rattle.judging.specs.declared.fault.Fault.the-variants.{RowPair}
+use Rattle.operand.specs.Faults.{firstFrom}
+use Rattle.judging.specs.Faults.{isNone}
 use Rattle.table.specs.Judgements.{rowPairFault}
 use Rattle.table.proofs.Searches.{when-passes, when-fails, none-true, first-hit, first-miss}
 use Rattle.table.proofs.Rules.{mirrorFault, mirror-search, MirrorsTo, half-search}

@@ -4,7 +4,7 @@ use native.Mathlib.Omega.{arith}
 use Rattle.gf2.specs.Tables.{basis}
 use Rattle.gf2.specs.Check.{rowSum}
 use Rattle.operand.specs.declared.Operand.{Operand}
-use Rattle.operand.specs.declared.fault.Fault.the-variants.{RowSum}
+use Rattle.judging.specs.declared.fault.Fault.the-variants.{RowSum}
 use Rattle.table.specs.Judgements.{same, rowSumFault}
 use Rattle.table.proofs.Searches.{when-passes, when-fails}
 use Rattle.table.proofs.Carrying.{same-carried, basis-operand, sum-operand}

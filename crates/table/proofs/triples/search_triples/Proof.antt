@@ -3,8 +3,9 @@ use mathlib.Core.Path.{_≡_, refl, sym, ap, _∙_}
 use Prim.Native.Nat.{_-_}
 use native.Mathlib.Omega.{arith}
 use borrow.Author.Tests.{not-true, not-false}
-use Rattle.operand.specs.declared.fault.Fault.the-variants.{None, Triple}
-use Rattle.operand.specs.Faults.{isNone, firstFrom}
+use Rattle.judging.specs.declared.fault.Fault.the-variants.{None, Triple}
+use Rattle.operand.specs.Faults.{firstFrom}
+use Rattle.judging.specs.Faults.{isNone}
 use Rattle.table.specs.Judgements.{tripleFault}
 use Rattle.table.proofs.Searches.{when-passes, when-fails, none-true, first-start, first-done, first-hit, first-miss}
 use Rattle.table.proofs.Rules.{pairFault, rowFault, triple-search}
