@@ -162,6 +162,15 @@ pub not-true : (b : Bool) → not b ≡ true → b ≡ false
 not-true true e = sym e
 not-true false e = refl
 
+-- the fault of one cause
+pub one-when : (c : Cause) → faultOf (c ∷ []) ≡ when (c .test) (c .fault)
+unfolding faultOf
+one-when c = go (c .test) refl
+  where
+    go : (b : Bool) → c .test ≡ b → faultOf (c ∷ []) ≡ when b (c .fault)
+    go true e = head-holds c [] e
+    go false e = head-fails c [] e
+
 -- the fault of a list, by that of its first cause
 pub list-or : (c : Cause) (cs : List Cause) → faultOf (c ∷ cs) ≡ orElse (faultOf (c ∷ [])) (faultOf cs)
 unfolding faultOf isNone

@@ -23,7 +23,8 @@ use Rattle.operand.specs.Judgements.{widthFault, lengthFault, highFault, operan
 use Rattle.operand.specs.Calls.{noOperand, answer}
 use Rattle.limbs.proofs.ByteLists.{Bytes}
 use Rattle.operand.proofs.CallLaws.{zero-bytes}
-use Rattle.operand.proofs.FaultLaws.{none-is, or-second, or-none, or-both, or-cong, or-assoc, width-fine, length-fine, high-fine}
+use Rattle.judging.specs.FaultTable.{badLength, highBit}
+use Rattle.operand.proofs.FaultLaws.{one-when, operand-first, pair-first, none-is, or-second, or-none, or-both, or-cong, or-assoc, width-fine, length-fine, high-fine}
 use Rattle.operand.proofs.FaultFree.{length-none}
 use Rattle.table.specs.Rows.{Shaped}
 use Rattle.table.specs.Judgements.{same, rowsFault, shapeFault, rowZeroFault, rowPairFault, symmetryFault}
@@ -38,8 +39,7 @@ use Rattle.product.specs.Judgements.{productFault, reducedFault, zeroFau
 
 -- two faults with one number may be judged in either order
 length-swap : (x y u v : ℕ) (f : Fault) → orElse (lengthFault x y) (orElse (lengthFault u v) f) ≡ orElse (lengthFault u v) (orElse (lengthFault x y) f)
-unfolding lengthFault
-length-swap x y u v f = go (not (eqb x y)) (not (eqb u v))
+length-swap x y u v f = rw (one-when (badLength x y), one-when (badLength u v)) (go (not (eqb x y)) (not (eqb u v)))
   where
     go : (a b : Bool) → orElse (when a Length) (orElse (when b Length) f) ≡ orElse (when b Length) (orElse (when a Length) f)
     go true true = refl
@@ -55,13 +55,13 @@ shape-after m t f e = ap (λ z. orElse z f) (or-second _ _ e ∙ ap (orElse (len
 
 -- the bits of operands whose widths were judged before
 operand-after : (a : Operand) → isNone (widthFault (a .width)) ≡ true → operandFault a ≡ highFault (a .width) (a .bytes)
-unfolding operandFault firstOf
-operand-after a e = or-second _ _ e ∙ or-none _
+unfolding firstOf
+operand-after a e = operand-first a ∙ or-second _ _ e ∙ or-none _
 
 pair-after : (a b : Operand) → isNone (widthFault (a .width)) ≡ true → isNone (widthFault (b .width)) ≡ true → b .width ≡ a .width →
     pairFault a b ≡ orElse (highFault (a .width) (a .bytes)) (orElse (highFault (b .width) (b .bytes)) None)
-unfolding pairFault firstOf
-pair-after a b wa wb e = or-second _ _ wa ∙ or-second _ _ wb ∙ or-second _ _ (none-true (length-none _ _ e))
+unfolding firstOf
+pair-after a b wa wb e = pair-first a b ∙ or-second _ _ wa ∙ or-second _ _ wb ∙ or-second _ _ (none-true (length-none _ _ e))
 
 module _ (m : ℕ) (t : List ℕ) (a b : Operand) where
   pub product-fault : orElse (orElse (widthFault m) (orElse (widthFault (a .width)) (widthFault (b .width))))
@@ -115,8 +115,8 @@ clear-zero w x size small = bool-ext _ _
     (λ e. clear-of 0 x (λ i l. ap (λ z. coord z i) (same-correct x _ .0 e ∙ sym (zero-bytes w)) ∙ coord-none carriedBytes i))
 
 high-clear : (m : ℕ) (x : List ℕ) → isNone (highFault m x) ≡ isClear m x
-unfolding highFault isNone
-high-clear m x = go (isClear m x)
+unfolding isNone
+high-clear m x = ap isNone (one-when (highBit m x)) ∙ go (isClear m x)
   where
     go : (b : Bool) → isNone (when (not b) HighBit) ≡ b
     go true = refl

@@ -6,7 +6,8 @@ use mir.Val.{Fits}
 use mir.Syntax.{w8}
 use Rattle.gf2.specs.Operands.{carriedBytes}
 use Rattle.judging.specs.declared.fault.Fault.the-variants.{None}
-use Rattle.operand.proofs.FaultLaws.{judged, answered, refusal}
+use Rattle.operand.proofs.FaultLaws.{judged, answered}
+use Rattle.operand.proofs.CallLaws.{refusal}
 use Rattle.product.proofs.FaultOrder.{method-fine}
 use borrow.Author.Needs.{needs}
 use Rattle.product.proofs.multiply.Statement.{statement}
