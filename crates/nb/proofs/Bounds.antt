@@ -37,7 +37,6 @@ use Rattle.card.specs.declared.CardAnswer.{CardAnswer}
 use Rattle.card.specs.Cards.{card}
 use Rattle.card.specs.Calls.{writeFault, writeCall, readCall}
 use Rattle.card.proofs.Lengths.{card-most}
-use Rattle.card.proofs.WriteSteps.{shape-size}
 use Rattle.card.proofs.Theorems.{card-laws}
 use Rattle.nb.specs.Packing.{valueLimit, Small, Packs}
 use Rattle.nb.specs.Judgements.{inverseBytesFault}
@@ -151,7 +150,7 @@ module _ (m : ℕ) (t old : List ℕ) {r : CardAnswer} where
   unfolding writeFault firstOf
   write-packs e = subst (λ (r : CardAnswer). Packs (r .fault) (r .value) 0) (sym e) (
     small-or (small-shape m t) (λ e. small-or (small-output (length old) (length (card m t))) (λ e. small-none)),
-    λ n. (rw n (omega (arith, card-most m t (shape-size m t (or-both _ _ n .0) .0))), omega arith),
+    λ n. (rw n (omega (arith, card-most m t (shape-greatest m t (or-both _ _ n .0)))), omega arith),
   )
 
 module _ (s old : List ℕ) (small : Bytes s) {r : CardAnswer} where

@@ -41,7 +41,12 @@ use Rattle.product.specs.Calls.{productCall, reducedCall, inverseCall}
 use Rattle.nb.specs.Packing.{packedAnswer}
 use Rattle.nb.specs.Judgements.{constantBytesFault, turnBytesFault, sumBytesFault, solveBytesFault, productBytesFault, reducedBytesFault, zeroBytesFault, inverseBytesFault}
 use Rattle.nb.specs.Inner.{oneSizes, twoSizes, carriedAs}
-use Rattle.nb.proofs.CarryLaws.{HasBytes, same-coord, high-carried, turned-carried, turned-is, root-carried, root-is, added-carried, added-is, product-carried, product-is, reduced-carried, reduced-is, inverse-carried, inverse-is, count-carried}
+use Rattle.gf2.proofs.Carrying.{HasBytes, same-coord, product-carried, product-is, reduced-carried, reduced-is, inverse-carried, inverse-is, count-carried}
+use Rattle.operand.proofs.CallLaws.{high-same}
+
+-- bits may be judged on the carried bytes
+pub high-carried : {m : ℕ} {a : List ℕ} → HasBytes m a → highFault m (carriedBy a) ≡ highFault m a
+high-carried h = high-same h [] [] (λ q. refl)
 
 -- two lists of causes, one after the other
 pub first-append : (fs gs : List Fault) → orElse (firstOf fs) (firstOf gs) ≡ firstOf (fs ++ gs)
@@ -198,15 +203,6 @@ module _ {m : ℕ} (w : IsWidth m) where
   same-length : isNone (lengthFault m m) ≡ true
   same-length = none-true (length-none m m refl)
 
-  operand-high : {a : List ℕ} → HasBytes m a → operandFault (carry m (carriedBy a)) ≡ highFault m a
-  unfolding operandFault firstOf
-  operand-high h = or-second _ _ same-width ∙ or-none _ ∙ high-carried h
-
-  pair-high : {a b : List ℕ} → HasBytes m a → HasBytes m b → pairFault (carry m (carriedBy a)) (carry m (carriedBy b)) ≡ firstOf (highFault m a ∷ highFault m b ∷ [])
-  unfolding pairFault firstOf
-  pair-high h k = or-second _ _ same-width ∙ or-second _ _ same-width ∙ or-second _ _ same-length
-      ∙ ap₂ (λ f g. orElse f (orElse g None)) (high-carried h) (high-carried k)
-
 -- the causes that a product judges after the lengths of its operands
 abbrev productOwn : ℕ → List ℕ → List ℕ → List ℕ → List Fault
 productOwn m t a b = lengthFault (length t) (m * bytesFor m) ∷ rowsFault m t ∷ highFault m a ∷ highFault m b ∷ []
@@ -244,29 +240,13 @@ module _ {m : ℕ} (w : IsWidth m) (t : List ℕ) where
 abbrev withoutCount : InverseAnswer → OperandAnswer
 withoutCount r = record { fault = r .fault; value = r .value }
 
-trace-carried : {m : ℕ} {a : List ℕ} → HasBytes m a → trace m (carriedBy a) ≡ trace m a
-unfolding trace
-trace-carried {m} h = ap (λ f. sum m f % 2) (same-coord h)
-
 -- the causes of each call: those of its lengths, and its own
 module _ (m : ℕ) (a old : List ℕ) where
-  pub turn-begins : (k : ℕ) → Begins (oneSizes m (length a) (length old)) (highFault m a ∷ turnFault m k ∷ []) (turnBytesFault m a k old)
-  unfolding turnBytesFault
-  turn-begins k = record { all = refl }
-
-  pub solve-begins : Begins (oneSizes m (length a) (length old)) (highFault m a ∷ traceFault m a ∷ []) (solveBytesFault m a old)
-  unfolding solveBytesFault
-  solve-begins = record { all = refl }
-
   pub inverse-begins : (t : List ℕ) → Begins (oneSizes m (length a) (length old)) (inverseOwn m t a) (inverseBytesFault m t a old)
   unfolding inverseBytesFault
   inverse-begins t = record { all = refl }
 
 module _ (m : ℕ) (a b old : List ℕ) where
-  pub sum-begins : Begins (twoSizes m (length a) (length b) (length old)) (highFault m a ∷ highFault m b ∷ []) (sumBytesFault m a b old)
-  unfolding sumBytesFault
-  sum-begins = record { all = refl }
-
   pub product-begins : (t : List ℕ) → Begins (twoSizes m (length a) (length b) (length old)) (productOwn m t a b) (productBytesFault m t a b old)
   unfolding productBytesFault
   product-begins t = record { all = refl }
@@ -274,24 +254,6 @@ module _ (m : ℕ) (a b old : List ℕ) where
   pub reduced-begins : (t : List ℕ) → Begins (twoSizes m (length a) (length b) (length old)) (productOwn m t a b ++ (rowZeroFault m t ∷ rowPairFault m t ∷ [])) (reducedBytesFault m t a b old)
   unfolding reducedBytesFault
   reduced-begins t = record { all = refl }
-
--- each call, from its lengths to its result
-module _ (m : ℕ) (a old : List ℕ) {s fault : Fault} {b : Bool} {x : Operand} {r : OperandAnswer} {new : List ℕ}
-    (sizes : s ≡ firstOf (oneSizes m (length a) (length old))) (t : b ≡ isNone s) (q : not b ≡ false) (carried : x ≡ carriedAs m a)
-    (settled : Settled old (r .fault) (r .value) fault new) where
-  pub turn-done : (k : ℕ) → r ≡ turnCall x k → Done (turnBytesFault m a k old) (turned m k a) old fault new
-  turn-done k e =
-      let one = one-fine m a old sizes t q carried in
-      done (turn-begins m a old k) sizes t q (answers _ (e ∙ ap (λ x. turnCall x k) (one .carried)) (ap (λ f. firstOf (f ∷ turnFault m k ∷ [])) (operand-high (one .width) (one .operand)))
-      (turned-carried (one .operand) k) (one .width) (turned-is (one .operand) k) (one .room)) settled
-
-  pub solve-done : r ≡ solveCall x → Done (solveBytesFault m a old) (root m a) old fault new
-  unfolding traceFault
-  solve-done e =
-      let one = one-fine m a old sizes t q carried in
-      done (solve-begins m a old) sizes t q (answers _ (e ∙ ap solveCall (one .carried))
-      (ap₂ (λ f t. firstOf (f ∷ when (eqb t 1) TraceOne ∷ [])) (operand-high (one .width) (one .operand)) (trace-carried (one .operand)))
-      (root-carried (one .operand)) (one .width) (root-is (one .operand)) (one .room)) settled
 
 module _ (m : ℕ) (a b old : List ℕ) {s fault : Fault} {c : Bool} {x y : Operand} {r : OperandAnswer} {new : List ℕ}
     (sizes : s ≡ firstOf (twoSizes m (length a) (length b) (length old))) (t : c ≡ isNone s) (q : not c ≡ false) (left : x ≡ carriedAs m a) (right : y ≡ carriedAs m b)
@@ -304,10 +266,6 @@ module _ (m : ℕ) (a b old : List ℕ) {s fault : Fault} {c : Bool} {x y : Oper
       let two = two-fine m a b old sizes t q left right in
       let w = h two in
       done begins sizes t q (answers _ (e ∙ ap₂ call (two .isLeft) (two .isRight) ∙ w .0) (w .1) (w .2) (two .width) (w .3) (two .room)) settled
-
-  pub sum-done : r ≡ sumCall x y → Done (sumBytesFault m a b old) (added m a b) old fault new
-  sum-done = two-done sumCall (sum-begins m a b old) (λ two.
-      (refl, pair-high (two .width) (two .left) (two .right), added-carried (two .left) (two .right), added-is (two .left) (two .right)))
 
   pub product-done : (t : List ℕ) → r ≡ productCall m t x y → Done (productBytesFault m t a b old) (product m t a b) old fault new
   product-done t = two-done (productCall m t) (product-begins m a b old t) (λ two.
@@ -339,58 +297,3 @@ module _ (m : ℕ) (t a old : List ℕ) (small : Bytes a) {s fault : Fault} {b :
       let own = inverse-own (one .width) t small (one .operand) in
       ap (λ (r : InverseAnswer). r .count) (e ∙ ap (inverseCall m t) (one .carried))
       ∙ ap (λ b. choose b (productsMade m t (carriedBy a)) 0) (ap isNone (append-goes (oneSizes m (length a) (length old)) (inverseOwn m t a) sizes p q own ∙ sym (inverse-begins m a old t .all)) ∙ n) ∙ count-carried t (one .operand)
-
--- beside a fault of the width stands the operand of width 0, which is refused with 1
-bad-width : (m : ℕ) → isNone (widthFault m) ≡ false → widthFault m ≡ Width
-unfolding widthFault isNone
-bad-width m = go (not (leb 2 m && leb m maxWidth))
-  where
-    go : (b : Bool) → isNone (when b Width) ≡ false → when b Width ≡ Width
-    go true e = refl
-    go false e = absurd (true≢false e)
-
-bad-room : (size : ℕ) → roomFault noOperand size ≡ Width
-unfolding roomFault widthFault firstOf orElse isNone
-bad-room size = refl
-
--- zero and one, by their coordinates f: the call below makes the operand, and writes it as its W bytes
-module _ (m : ℕ) (f : ℕ → ℕ) (old : List ℕ) {r : OperandAnswer} (e : r ≡ answer (widthFault m) m (fromCoords carriedBytes m f)) where
-  constant-fault : roomFault (r .value) (length old) ≡ constantBytesFault m old
-  unfolding answer roomFault constantBytesFault firstOf
-  constant-fault = ap (λ (r : OperandAnswer). roomFault (r .value) (length old)) e ∙ go (isNone (widthFault m)) refl
-    where
-      go : (b : Bool) → isNone (widthFault m) ≡ b → roomFault (choose b (carry m (fromCoords carriedBytes m f)) noOperand) (length old) ≡ constantBytesFault m old
-      go true n = ap (λ g. orElse (widthFault m) (orElse (lengthFault (length old) (bytesFor m)) g)) (or-second _ _ (none-true (high-none m _ (from-operand carriedBytes m f))))
-      go false n = bad-room (length old) ∙ sym (or-first _ _ n ∙ bad-width m n)
-
-  constant-value : isNone (constantBytesFault m old) ≡ true → pack (length old) (coord (r .value .bytes)) ≡ fromCoords (bytesFor m) m f
-  unfolding constantBytesFault
-  constant-value n =
-      let fine = both-fine _ _ n in
-      let w = width-of m (fine .0) in
-      ap (λ (v : Operand). pack (length old) (coord (v .bytes)))
-      (answer-value (widthFault m) e (fine .0) ∙ ap (carry m) (sym (carried-from {n = bytesFor m} (omega (arith, w .greatest)) (omega arith) f)))
-      ∙ writes old w (from-operand (bytesFor m) m f) (length-fine _ _ (fine .1))
-
-  pub constant-done : {fault : Fault} {new : List ℕ} → fault ≡ roomFault (r .value) (length old) → new ≡ writeCall (r .value) old →
-      Done (constantBytesFault m old) (fromCoords (bytesFor m) m f) old fault new
-  constant-done p q = record {
-    fault = p ∙ constant-fault;
-    bytes = q ∙ ap (λ g. choose (isNone g) (pack (length old) (coord (r .value .bytes))) old) constant-fault ∙ chosen _ old constant-value;
-  }
-
--- the trace of an operand that is read
-module _ (m : ℕ) (a : List ℕ) {q : OperandAnswer} {r : TraceAnswer} (read : q ≡ readCall m a) (e : r ≡ traceCall (q .value)) where
-  pub trace-fault : q .fault ≡ bytesFault m a
-  trace-fault = answer-fault m _ read
-
-  pub trace-works : isNone (bytesFault m a) ≡ true → r .trace ≡ trace m a
-  unfolding bytesFault firstOf
-  trace-works n =
-      let w = or-both _ _ n in
-      let l = or-both _ _ (w .1) in
-      let h = or-both _ _ (l .1) in
-      let width = width-of m (w .0) in
-      let bytes : HasBytes m a = record { greatest = width .greatest; size = length-fine _ _ (l .0) } in
-      ap (λ (r : TraceAnswer). r .trace) e ∙ ap (λ v. traceCall v .trace) (answer-value (bytesFault m a) read n)
-      ∙ ap (λ b. choose b (trace m (carriedBy a)) 0) (ap isNone (operand-high width bytes) ∙ h .0) ∙ trace-carried bytes

@@ -22,7 +22,8 @@ use Rattle.netlist.specs.Judgements.{widthsFault, wordsFault, lengthsFault, bit
 use Rattle.netlist.specs.Calls.{runResult, runWires}
 use Rattle.nb.specs.Judgements.{runBytesFault}
 use Rattle.nb.specs.Inner.{twoSizes, carriedAs}
-use Rattle.nb.proofs.CarryLaws.{HasBytes, same-coord, high-carried}
+use Rattle.gf2.proofs.Carrying.{HasBytes, same-coord}
+use Rattle.nb.proofs.CallLaws.{high-carried}
 use Rattle.nb.proofs.CallLaws.{first-append, append-goes, Begins, Two, two-fine, first-then}
 
 -- the runner looks at coordinates alone

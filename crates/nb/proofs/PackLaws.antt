@@ -16,7 +16,11 @@ use Rattle.judging.specs.declared.fault.Fault.{Fault}
 use Rattle.judging.specs.declared.fault.Fault.the-variants.{None, Width, Length, HighBit, RowZero, RowPair, Triple, RowSum, TurnCount, InverseOfZero, TraceOne, OutputShort, NoType, BadGate}
 use Rattle.operand.specs.Faults.{when, orElse, firstOf, firstFrom}
 use Rattle.judging.specs.Faults.{numberOf, isNone}
-use Rattle.operand.specs.Judgements.{widthFault, lengthFault, highFault, turnFault, traceFault, bytesFault}
+use Rattle.judging.specs.Causes.{Cause, faultOf}
+use Rattle.judging.specs.FaultTable.{badWidth, badLength, highBit}
+use Rattle.judging.proofs.CauseLaws.{Each, keeps}
+use Rattle.operand.specs.Causes.{bytesCauses, constantCauses, turnBytesCauses, sumBytesCauses, solveBytesCauses}
+use Rattle.operand.specs.Judgements.{widthFault, lengthFault, highFault, bytesFault}
 use Rattle.operand.proofs.FaultLaws.{none-is, number-most, when-keeps, or-keeps, first-keeps, from-keeps, or-both, width-fine}
 use Rattle.table.specs.Judgements.{same, rowsFault, shapeFault, rowZeroFault, rowPairFault, tripleFault, rowSumFault, symmetryFault, checkFault}
 use Rattle.table.proofs.Searches.{none-true}
@@ -95,25 +99,26 @@ small-first fs p q = small-then fs p (λ e. q)
 pub small-from : (start count : ℕ) (f : ℕ → Fault) → ((d : ℕ) → start ≤ d → d < start + count → Small (f d)) → Small (firstFrom start count f)
 small-from = from-keeps Small (bare None refl refl)
 
+-- causes beside whose faults nothing is returned
+abbrev pub Bare : List Cause → Type 0
+Bare [] = Unit
+Bare (c ∷ cs) = ((numberOf (c .fault) .1 ≡ 0) × (numberOf (c .fault) .2 ≡ 0)) × Bare cs
+
+each-bare : (cs : List Cause) → Bare cs → Each Small (bare None refl refl) cs
+each-bare [] h = tt
+each-bare (c ∷ cs) h = (bare (c .fault) (h .0 .0) (h .0 .1), λ q. each-bare cs (h .1))
+
+pub small-causes : (cs : List Cause) → Bare cs → Small (faultOf cs)
+small-causes cs h = keeps Small (bare None refl refl) cs (each-bare cs h)
+
 pub small-width : (m : ℕ) → Small (widthFault m)
-unfolding widthFault
-small-width m = bare-when (not (leb 2 m && leb m maxWidth)) Width refl refl
+small-width m = small-causes (badWidth m ∷ []) ((refl, refl), tt)
 
 pub small-length : (given laidDown : ℕ) → Small (lengthFault given laidDown)
-unfolding lengthFault
-small-length given laidDown = bare-when (not (eqb given laidDown)) Length refl refl
+small-length given laidDown = small-causes (badLength given laidDown ∷ []) ((refl, refl), tt)
 
 pub small-high : (m : ℕ) (x : List ℕ) → Small (highFault m x)
-unfolding highFault
-small-high m x = bare-when (not (isClear m x)) HighBit refl refl
-
-pub small-turn : (m k : ℕ) → Small (turnFault m k)
-unfolding turnFault
-small-turn m k = bare-when (leb m k) TurnCount refl refl
-
-pub small-trace : (m : ℕ) (c : List ℕ) → Small (traceFault m c)
-unfolding traceFault
-small-trace m c = bare-when (eqb (trace m c) 1) TraceOne refl refl
+small-high m x = small-causes (highBit m x ∷ []) ((refl, refl), tt)
 
 pub small-zero : (m : ℕ) (a : List ℕ) → Small (zeroBytesFault m a)
 unfolding zeroBytesFault
@@ -140,11 +145,10 @@ unfolding typeFault
 small-type m = bare-when (eqb (typeOf m) 0) NoType refl refl
 
 -- what `search` needs for the first of several faults
-pub ruleset smalls = (small-first, small-none, small-width, small-length, small-high, small-turn, small-trace, small-zero, small-rows, small-words, small-gates)
+pub ruleset smalls = (small-first, small-none, small-width, small-length, small-high, small-zero, small-rows, small-words, small-gates)
 
 pub small-bytes : (m : ℕ) (x : List ℕ) → Small (bytesFault m x)
-unfolding bytesFault
-small-bytes m x = search smalls
+small-bytes m x = small-causes (bytesCauses m x) ((refl, refl), ((refl, refl), ((refl, refl), tt)))
 
 -- the faults of a table whose width has passed
 module _ (m : ℕ) (t : List ℕ) where
@@ -170,20 +174,16 @@ module _ (m : ℕ) (t : List ℕ) where
 
 -- the faults of the calls on operands of W bytes
 pub small-constant-call : (m : ℕ) (old : List ℕ) → Small (constantBytesFault m old)
-unfolding constantBytesFault
-small-constant-call m old = search smalls
+small-constant-call m old = small-causes (constantCauses m old) ((refl, refl), ((refl, refl), tt))
 
 pub small-turn-call : (m : ℕ) (a : List ℕ) (k : ℕ) (old : List ℕ) → Small (turnBytesFault m a k old)
-unfolding turnBytesFault
-small-turn-call m a k old = search smalls depth 12
+small-turn-call m a k old = small-causes (turnBytesCauses m a k old) ((refl, refl), ((refl, refl), ((refl, refl), ((refl, refl), ((refl, refl), tt)))))
 
 pub small-sum-call : (m : ℕ) (a b old : List ℕ) → Small (sumBytesFault m a b old)
-unfolding sumBytesFault
-small-sum-call m a b old = search smalls depth 12
+small-sum-call m a b old = small-causes (sumBytesCauses m a b old) ((refl, refl), ((refl, refl), ((refl, refl), ((refl, refl), ((refl, refl), ((refl, refl), tt))))))
 
 pub small-solve-call : (m : ℕ) (c old : List ℕ) → Small (solveBytesFault m c old)
-unfolding solveBytesFault
-small-solve-call m c old = search smalls depth 12
+small-solve-call m c old = small-causes (solveBytesCauses m c old) ((refl, refl), ((refl, refl), ((refl, refl), ((refl, refl), ((refl, refl), tt)))))
 
 pub small-product-call : (m : ℕ) (t a b old : List ℕ) → Small (productBytesFault m t a b old)
 unfolding productBytesFault

@@ -7,48 +7,28 @@ use Rattle.gf2.specs.Operands.{bytesFor, zeroes}
 use Rattle.judging.specs.declared.fault.Fault.{Fault}
 use Rattle.judging.specs.declared.fault.Fault.the-variants.{InverseOfZero}
 use Rattle.operand.specs.Faults.{when, firstOf}
-use Rattle.operand.specs.Judgements.{widthFault, lengthFault, highFault, turnFault, traceFault}
+use Rattle.judging.specs.Causes.{faultOf}
+use Rattle.operand.specs.Causes.{constantCauses, turnBytesCauses, sumBytesCauses, solveBytesCauses}
+use Rattle.operand.specs.Judgements.{widthFault, lengthFault, highFault}
 use Rattle.table.specs.Judgements.{same, rowsFault, rowZeroFault, rowPairFault}
 use Rattle.netlist.specs.Running.{gateCount}
 use Rattle.netlist.specs.Judgements.{wordsFault, gatesFault}
 
 -- zero and one: 1 and 2
-unfoldable pub constantBytesFault : ℕ → List ℕ → Fault
-constantBytesFault m result = firstOf (widthFault m ∷ lengthFault (length result) (bytesFor m) ∷ [])
+abbrev pub constantBytesFault : ℕ → List ℕ → Fault
+constantBytesFault m result = faultOf (constantCauses m result)
 
 -- the turn: 1 to 3 and 8
-unfoldable pub turnBytesFault : ℕ → List ℕ → ℕ → List ℕ → Fault
-turnBytesFault m a k result =
-    firstOf
-    (widthFault m
-    ∷ lengthFault (length a) (bytesFor m)
-    ∷ lengthFault (length result) (bytesFor m)
-    ∷ highFault m a
-    ∷ turnFault m k
-    ∷ [])
+abbrev pub turnBytesFault : ℕ → List ℕ → ℕ → List ℕ → Fault
+turnBytesFault m a k result = faultOf (turnBytesCauses m a k result)
 
 -- the sum: 1 to 3
-unfoldable pub sumBytesFault : ℕ → List ℕ → List ℕ → List ℕ → Fault
-sumBytesFault m a b result =
-    firstOf
-    (widthFault m
-    ∷ lengthFault (length a) (bytesFor m)
-    ∷ lengthFault (length b) (bytesFor m)
-    ∷ lengthFault (length result) (bytesFor m)
-    ∷ highFault m a
-    ∷ highFault m b
-    ∷ [])
+abbrev pub sumBytesFault : ℕ → List ℕ → List ℕ → List ℕ → Fault
+sumBytesFault m a b result = faultOf (sumBytesCauses m a b result)
 
 -- the solution of z² + z = c: 1 to 3 and 10
-unfoldable pub solveBytesFault : ℕ → List ℕ → List ℕ → Fault
-solveBytesFault m c result =
-    firstOf
-    (widthFault m
-    ∷ lengthFault (length c) (bytesFor m)
-    ∷ lengthFault (length result) (bytesFor m)
-    ∷ highFault m c
-    ∷ traceFault m c
-    ∷ [])
+abbrev pub solveBytesFault : ℕ → List ℕ → List ℕ → Fault
+solveBytesFault m c result = faultOf (solveBytesCauses m c result)
 
 -- the plain product: 1 to 3
 unfoldable pub productBytesFault : ℕ → List ℕ → List ℕ → List ℕ → List ℕ → Fault

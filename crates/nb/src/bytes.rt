@@ -7,10 +7,10 @@ ghost use Rattle.operand.specs.Faults.{firstOf};
 ghost use Rattle.judging.specs.Faults.{isNone};
 ghost use Rattle.nb.specs.Inner.{oneSizes, twoSizes, narrowed, carriedAs};
 use judging::Fault;
-use operand::Operand;
-use operand::OperandAnswer;
 use judging::judge_length;
 use judging::judge_width;
+use operand::Operand;
+use operand::OperandAnswer;
 
 // The lengths of an operand and a result.
 pub(crate) fn judge_one(m: usize, a: usize, result: usize) -> Fault

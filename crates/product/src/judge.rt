@@ -4,9 +4,9 @@ ghost use Rattle.product.specs.Judgements.{productFault, zeroFault, inve
 ghost use Rattle.product.specs.Inner.{methodFault};
 use crate::kernel::Method;
 use judging::Fault;
-use operand::Operand;
 use judging::judge_length;
 use judging::judge_width;
+use operand::Operand;
 use operand::or_else;
 
 // A table and two operands of its width.

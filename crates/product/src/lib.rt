@@ -3,8 +3,8 @@
 ghost use mathlib.Core.Path.{_≡_};
 ghost use Rattle.product.specs.Calls.{productCall, reducedCall, inverseCall};
 ghost use Rattle.product.specs.Inner.{multiplyCall};
-use kernel::Method;
 use judging::Fault;
+use kernel::Method;
 use operand::Operand;
 use operand::OperandAnswer;
 

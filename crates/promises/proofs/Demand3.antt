@@ -29,7 +29,7 @@ use Rattle.netlist.specs.Statements.{ListsHold, Holds as ListHolds, Counted, Co
 use Rattle.netlist.proofs.Theorems.{theoremLists, theoremCommon}
 use Rattle.nb.specs.Judgements.{runBytesFault}
 use Rattle.nb.specs.Calls.{inverseResult, runResult, runWires}
-use Rattle.nb.proofs.CarryLaws.{inverse-is}
+use Rattle.gf2.proofs.Carrying.{inverse-is}
 use Rattle.promises.specs.Demand3.{wordsWritten, Multiplies, Reduces, Runs, RunsToProduct, Inverts, HasGates, UnderAccepted, Demand3}
 use Rattle.promises.proofs.NoFaults.{Passed, product-none, reduced-none, inverse-none, run-none, list-none}
 

@@ -7,8 +7,8 @@ ghost use Rattle.reporting.specs.Text.{textOf};
 ghost use Rattle.reporting.specs.Steps.{appended, front, InFront};
 ghost use Rattle.reporting.specs.Report.{refusal, countsLine, acceptance, tableReport, report as printed};
 use crate::text::Text;
-use netlist::CountsAnswer;
 use judging::Fault;
+use netlist::CountsAnswer;
 use operand::Operand;
 
 // Document 01's limit. A card of a table whose row 0 is right has 65,283 bytes at most; that of width 255 with every bit set has 65,538,

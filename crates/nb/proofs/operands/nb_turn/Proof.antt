@@ -1,50 +1,21 @@
 -- `nb::operands::nb_turn` meets its contract.
-use Rattle.gf2.specs.Operands.{turned}
-use Rattle.nb.specs.Judgements.{turnBytesFault}
+use mathlib.Core.Path.{ap, _∙_}
+use Rattle.nb.specs.Packing.{packedAnswer}
 use Rattle.nb.proofs.PackLaws.{packs, small-turn-call}
-use Rattle.nb.proofs.CallLaws.{refused, kept, refuses, Done, answered, turn-begins, turn-done}
 use borrow.Author.Needs.{needs}
 use Rattle.nb.proofs.operands.nb_turn.Statement.{statement}
 use Rattle.nb.proofs.operands.nb_turn.Tie as tie
 
--- the call where its lengths are not at fault
-call : (c : tie.After-slice-known2) → let a = c .before .before .before .before .before .before .before .before .before .before .before .args in
-    Done (turnBytesFault (a .width) (a .a .now) (a .k) (a .result .now)) (turned (a .width) (a .k) (a .a .now)) (a .result .now) (c .before .before .settle .result) (c .before .before .settle .last .1 .0)
-call c =
-    let s = c .before .before .before .before .before .before in
-    turn-done _ _ _ (s .before .before .judge-one .ensures) (s .before .is-none .ensures) (s .if1 .left) (c .before .before .before .before .before .carry .ensures) (c .before .before .settle .ensures) _ (c .before .before .before .before .turn .ensures)
-
 answer-requires : tie.Need-answer-requires
 answer-requires c κs =
-    let a = c .before .before .before .before .before .args in
-    packs (refused (turn-begins (a .width) (a .a .now) (a .result .now) (a .k)) (c .before .before .judge-one .ensures) (c .before .is-none .ensures) (c .if1 .taken)) (small-turn-call _ _ _ _)
+    let s = c .before .before in
+    let a = s .before .before .before .before .args in
+    packs (s .turn-into .ensures .0) (small-turn-call (a .width) (a .a .now) (a .k) (a .result .now))
 
 returns : tie.Need-returns
 returns c =
-    let a = c .before .before .before .before .before .before .args in
-    let s = c .before in
-    let call = turn-begins (a .width) (a .a .now) (a .result .now) (a .k) in (
-      refuses call (s .before .before .judge-one .ensures) (s .before .is-none .ensures) (s .if1 .taken) 0 0 (c .answer .ensures),
-      kept call (s .before .before .judge-one .ensures) (s .before .is-none .ensures) (s .if1 .taken) _ _,
-    )
-
-answer-requires-2 : tie.Need-answer-requires-2
-answer-requires-2 c κs = packs (call c .fault) (small-turn-call _ _ _ _)
-
-returns-2 : tie.Need-returns-2
-returns-2 c = answered (call (c .before)) (c .answer2 .ensures)
+    let s = c .before .before .before .turn-into .ensures in
+    (c .answer .ensures ∙ ap (λ f. packedAnswer f 0 0) (s .0), s .1)
 
 pub nb-turn-spec : {M : Type 1} → statement M
-nb-turn-spec =
-    tie.close
-    (tie.spec
-    (λ c κs. search needs)
-    (λ c κs. search needs)
-    answer-requires
-    returns
-    (λ c κs. search needs)
-    (λ c κs. search needs)
-    (λ c κs. search needs)
-    answer-requires-2
-    (λ c. search needs)
-    returns-2)
+nb-turn-spec = tie.close (tie.spec (λ c κs. search needs) answer-requires (λ c. search needs) returns)
