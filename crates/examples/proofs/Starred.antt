@@ -2,7 +2,7 @@
 use mathlib.Core.Path.{_≡_, refl}
 use Rattle.gf2.specs.Sums.{sum, every}
 use Rattle.gf2.specs.Coordinates.{coord, value, tabulate, pack}
-use Rattle.gf2.specs.Operands.{minus, isClear, below, fromCoords, zeroes, ones, added, turned, squared}
+use Rattle.gf2.specs.Operands.{minus, isClear, below, fromCoords, zeroes, ones, added, turned, squared, same}
 use Rattle.gf2.specs.Quadratic.{trace, rootCoord, root}
 use Rattle.gf2.specs.Tables.{row, basis, pairProduct, onesIn}
 use Rattle.gf2.specs.Products.{product}
@@ -11,7 +11,7 @@ use Rattle.gf2.specs.Inverse.{halvings, binaryOnes, doubling, adding, digits, i
 use Rattle.operand.specs.Faults.{orElse, firstOf, firstFrom}
 use Rattle.judging.specs.Faults.{isNone}
 use Rattle.operand.specs.Judgements.{widthFault, lengthFault, highFault, traceFault}
-use Rattle.table.specs.Judgements.{same, rowsFault, shapeFault, rowZeroFault, rowPairFault, tripleFault, rowSumFault, symmetryFault, checkFault}
+use Rattle.table.specs.Judgements.{rowsFault, shapeFault, rowZeroFault, rowPairFault, tripleFault, rowSumFault, symmetryFault, checkFault}
 use Rattle.table.specs.Calls.{onesCall}
 use Rattle.netlist.specs.Gates.{andGates, xorGates}
 use Rattle.netlist.specs.Lists.{each, only, pairs, ands, onto, start, folds, folded, plainTerms, plain, mixes, reducedTerms, reduced, allOnes, fullRows, common}

@@ -12,7 +12,7 @@ use lib.ListN.{length}
 use borrow.Author.Tests.{le-leb, not-true, not-false}
 use Rattle.gf2.specs.Sums.{sum}
 use Rattle.gf2.specs.Coordinates.{coord, pack}
-use Rattle.gf2.specs.Operands.{maxWidth, bytesFor, carriedBytes, choose, IsOperand, fromCoords, zeroes, added, turned}
+use Rattle.gf2.specs.Operands.{maxWidth, bytesFor, carriedBytes, choose, IsOperand, fromCoords, zeroes, added, turned, carriedBy, same}
 use Rattle.gf2.specs.Quadratic.{trace, root}
 use Rattle.gf2.specs.Products.{product, reduced}
 use Rattle.gf2.specs.Inverse.{inverse, productsMade}
@@ -31,8 +31,7 @@ use Rattle.operand.proofs.FaultLaws.{judged, or-first, or-second, or-none, or-b
 use Rattle.operand.proofs.FaultFree.{carry, width-none, length-none, high-none}
 use Rattle.judging.proofs.Passed.{IsWidth}
 use Rattle.limbs.proofs.ByteLists.{Bytes}
-use Rattle.table.specs.Rows.{carriedBy}
-use Rattle.table.specs.Judgements.{same, rowsFault, rowZeroFault, rowPairFault}
+use Rattle.table.specs.Judgements.{rowsFault, rowZeroFault, rowPairFault}
 use Rattle.table.proofs.Searches.{none-true}
 use Rattle.table.proofs.Carrying.{carried-from, same-carried}
 use Rattle.product.specs.declared.InverseAnswer.{InverseAnswer}

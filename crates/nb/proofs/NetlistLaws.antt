@@ -5,7 +5,7 @@ use mathlib.Core.List.{List, [], _∷_, _++_}
 use Prim.Native.Nat.{ℕ, _+_, _*_}
 use lib.ListN.{length, getD}
 use Rattle.gf2.specs.Coordinates.{tabulate}
-use Rattle.gf2.specs.Operands.{bytesFor, fromCoords, choose}
+use Rattle.gf2.specs.Operands.{bytesFor, fromCoords, choose, carriedBy}
 use Rattle.operand.specs.declared.Operand.{Operand}
 use Rattle.judging.specs.declared.fault.Fault.{Fault}
 use Rattle.judging.specs.declared.fault.Fault.the-variants.{None}
@@ -14,7 +14,6 @@ use Rattle.judging.specs.Faults.{isNone}
 use Rattle.operand.specs.Judgements.{lengthFault, highFault}
 use Rattle.operand.proofs.FaultLaws.{or-second}
 use Rattle.operand.proofs.FaultFree.{carry, width-none, length-none}
-use Rattle.table.specs.Rows.{carriedBy}
 use Rattle.table.proofs.Searches.{none-true}
 use Rattle.netlist.specs.Gates.{Netlist}
 use Rattle.netlist.specs.Running.{gateCount, readList, inputs, run, valueOn, wires, result}
@@ -23,8 +22,7 @@ use Rattle.netlist.specs.Calls.{runResult, runWires}
 use Rattle.nb.specs.Judgements.{runBytesFault}
 use Rattle.nb.specs.Inner.{twoSizes, carriedAs}
 use Rattle.gf2.proofs.Carrying.{HasBytes, same-coord}
-use Rattle.nb.proofs.CallLaws.{high-carried}
-use Rattle.nb.proofs.CallLaws.{first-append, append-goes, Begins, Two, two-fine, first-then}
+use Rattle.nb.proofs.CallLaws.{high-carried, first-append, append-goes, Begins, Two, two-fine, first-then}
 
 -- the runner looks at coordinates alone
 module _ {m : ℕ} {a b : List ℕ} (h : HasBytes m a) (k : HasBytes m b) (list : Netlist) where

@@ -7,7 +7,7 @@ use native.Mathlib.Omega.{arith}
 use lib.Dec.{leb, ltb, eqb}
 use lib.ListN.{length}
 use Rattle.gf2.specs.Sums.{every}
-use Rattle.gf2.specs.Operands.{maxWidth, bytesFor, choose, isClear, zeroes, turned}
+use Rattle.gf2.specs.Operands.{maxWidth, bytesFor, choose, isClear, zeroes, turned, same}
 use Rattle.gf2.specs.Quadratic.{trace}
 use Rattle.gf2.specs.Tables.{row, basis}
 use Rattle.gf2.specs.Products.{product}
@@ -22,7 +22,7 @@ use Rattle.judging.proofs.CauseLaws.{Each, keeps}
 use Rattle.operand.specs.Causes.{bytesCauses, constantCauses, turnBytesCauses, sumBytesCauses, solveBytesCauses}
 use Rattle.operand.specs.Judgements.{widthFault, lengthFault, highFault, bytesFault}
 use Rattle.operand.proofs.FaultLaws.{none-is, number-most, when-keeps, or-keeps, first-keeps, from-keeps, or-both, width-fine}
-use Rattle.table.specs.Judgements.{same, rowsFault, shapeFault, rowZeroFault, rowPairFault, tripleFault, rowSumFault, symmetryFault, checkFault}
+use Rattle.table.specs.Judgements.{rowsFault, shapeFault, rowZeroFault, rowPairFault, tripleFault, rowSumFault, symmetryFault, checkFault}
 use Rattle.table.proofs.Searches.{none-true}
 use Rattle.netlist.specs.Running.{gateCount}
 use Rattle.netlist.specs.Judgements.{wordsFault, isGate, isOutput, gatesFault}

@@ -2,11 +2,10 @@
 use mathlib.Core.List.{List, [], _∷_}
 use Prim.Native.Nat.{ℕ}
 use lib.Dec.{leb}
-use Rattle.gf2.specs.Operands.{maxWidth, bytesFor, choose}
+use Rattle.gf2.specs.Operands.{maxWidth, bytesFor, choose, carriedBy}
 use Rattle.operand.specs.declared.Operand.{Operand}
 use Rattle.judging.specs.declared.fault.Fault.{Fault}
 use Rattle.operand.specs.Judgements.{widthFault, lengthFault}
-use Rattle.table.specs.Rows.{carriedBy}
 
 -- 1 and 2 of an operand and a result of these lengths
 abbrev pub oneSizes : ℕ → ℕ → ℕ → List Fault

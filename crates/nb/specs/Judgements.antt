@@ -3,14 +3,14 @@
 use mathlib.Core.List.{List, [], _∷_}
 use Prim.Native.Nat.{ℕ, _+_, _*_}
 use lib.ListN.{length}
-use Rattle.gf2.specs.Operands.{bytesFor, zeroes}
+use Rattle.gf2.specs.Operands.{bytesFor, zeroes, same}
 use Rattle.judging.specs.declared.fault.Fault.{Fault}
 use Rattle.judging.specs.declared.fault.Fault.the-variants.{InverseOfZero}
 use Rattle.operand.specs.Faults.{when, firstOf}
 use Rattle.judging.specs.Causes.{faultOf}
 use Rattle.operand.specs.Causes.{constantCauses, turnBytesCauses, sumBytesCauses, solveBytesCauses}
 use Rattle.operand.specs.Judgements.{widthFault, lengthFault, highFault}
-use Rattle.table.specs.Judgements.{same, rowsFault, rowZeroFault, rowPairFault}
+use Rattle.table.specs.Judgements.{rowsFault, rowZeroFault, rowPairFault}
 use Rattle.netlist.specs.Running.{gateCount}
 use Rattle.netlist.specs.Judgements.{wordsFault, gatesFault}
 

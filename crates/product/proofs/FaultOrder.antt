@@ -7,7 +7,7 @@ use Prim.Native.Nat.{ℕ, _-_, _*_, _≤_}
 use native.Mathlib.Omega.{arith}
 use lib.ListN.{length}
 use lib.Dec.{eqb}
-use Rattle.gf2.specs.Operands.{carriedBytes, bytesFor, isClear, zeroes}
+use Rattle.gf2.specs.Operands.{carriedBytes, bytesFor, isClear, zeroes, same}
 use Rattle.gf2.specs.Check.{Symmetric}
 use Rattle.gf2.specs.Coordinates.{coord}
 use Rattle.gf2.proofs.Parity.{bool-ext}
@@ -27,7 +27,7 @@ use Rattle.judging.specs.FaultTable.{badLength, highBit}
 use Rattle.operand.proofs.FaultLaws.{one-when, operand-first, pair-first, none-is, or-second, or-none, or-both, or-cong, or-assoc, width-fine, length-fine, high-fine}
 use Rattle.operand.proofs.FaultFree.{length-none}
 use Rattle.table.specs.Rows.{Shaped}
-use Rattle.table.specs.Judgements.{same, rowsFault, shapeFault, rowZeroFault, rowPairFault, symmetryFault}
+use Rattle.table.specs.Judgements.{rowsFault, shapeFault, rowZeroFault, rowPairFault, symmetryFault}
 use Rattle.table.proofs.Searches.{none-true, when-none, same-correct, first-none}
 use Rattle.table.proofs.Shapes.{shape-fine}
 use Rattle.product.specs.declared.InverseAnswer.{InverseAnswer}

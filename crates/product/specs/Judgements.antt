@@ -2,13 +2,13 @@
 use mathlib.Core.List.{List, [], _∷_}
 use Prim.Native.Nat.{ℕ, _*_}
 use lib.ListN.{length}
-use Rattle.gf2.specs.Operands.{carriedBytes, bytesFor, zeroes}
+use Rattle.gf2.specs.Operands.{carriedBytes, bytesFor, zeroes, same}
 use Rattle.operand.specs.declared.Operand.{Operand}
 use Rattle.judging.specs.declared.fault.Fault.{Fault}
 use Rattle.judging.specs.declared.fault.Fault.the-variants.{InverseOfZero}
 use Rattle.operand.specs.Faults.{when, firstOf}
 use Rattle.operand.specs.Judgements.{widthFault, lengthFault, highFault}
-use Rattle.table.specs.Judgements.{same, rowsFault, rowZeroFault, rowPairFault}
+use Rattle.table.specs.Judgements.{rowsFault, rowZeroFault, rowPairFault}
 
 -- 1 to 3: "Lowest number first"; "An operand whose carried width isn't that of the table .. gets 2"
 unfoldable pub productFault : ℕ → List ℕ → Operand → Operand → Fault

@@ -12,7 +12,7 @@ use lib.ListN.{length, getD}
 use borrow.Author.Tests.{ltb-true, ltb-false, leb-true, leb-false, le-leb, eqb-true, eqb-false}
 use Rattle.gf2.specs.Sums.{every}
 use Rattle.gf2.specs.Coordinates.{coord}
-use Rattle.gf2.specs.Operands.{maxWidth, bytesFor, isClear, zeroes}
+use Rattle.gf2.specs.Operands.{maxWidth, bytesFor, isClear, zeroes, same}
 use Rattle.gf2.specs.Quadratic.{trace}
 use Rattle.gf2.specs.Tables.{row}
 use Rattle.gf2.proofs.Sums.{every-at}
@@ -22,7 +22,7 @@ use Rattle.gf2.proofs.Parity.{and-both}
 use Rattle.judging.specs.declared.fault.Fault.the-variants.{Length, InverseOfZero}
 use Rattle.operand.specs.Faults.{when}
 use Rattle.operand.specs.Judgements.{widthFault, lengthFault, highFault, turnFault, traceFault}
-use Rattle.table.specs.Judgements.{same, rowsFault, shapeFault, rowZeroFault, rowPairFault, tripleFault, rowSumFault, symmetryFault, checkFault}
+use Rattle.table.specs.Judgements.{rowsFault, shapeFault, rowZeroFault, rowPairFault, tripleFault, rowSumFault, symmetryFault, checkFault}
 use Rattle.table.proofs.Searches.{same-correct}
 use Rattle.netlist.specs.Running.{kindAt, leftAt, rightAt, gateCount, outputAt}
 use Rattle.netlist.specs.Judgements.{wordsFault, isGate, isOutput, gatesFault, outputFault}

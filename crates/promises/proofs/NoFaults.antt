@@ -5,7 +5,7 @@ use mathlib.Core.List.{List, [], _∷_}
 use Prim.Native.Nat.{ℕ, _+_, _*_, _≤_}
 use lib.ListN.{length}
 use borrow.Author.Tests.{le-ltb}
-use Rattle.gf2.specs.Operands.{bytesFor, carriedBytes, zeroes}
+use Rattle.gf2.specs.Operands.{bytesFor, carriedBytes, zeroes, same}
 use Rattle.gf2.specs.Field.{Op}
 use Rattle.gf2.proofs.Operands.{from-operand}
 use Rattle.operand.specs.declared.Operand.{Operand}
@@ -16,7 +16,7 @@ use Rattle.operand.specs.Judgements.{widthFault, lengthFault}
 use Rattle.operand.proofs.FaultLaws.{none-is, or-both, or-second, length-fine}
 use Rattle.operand.proofs.FaultFree.{carry, width-none, length-none, high-none}
 use Rattle.table.specs.Rows.{Shaped}
-use Rattle.table.specs.Judgements.{same, rowsFault, rowZeroFault, rowPairFault, shapeFault, symmetryFault}
+use Rattle.table.specs.Judgements.{rowsFault, rowZeroFault, rowPairFault, shapeFault, symmetryFault}
 use Rattle.table.proofs.Searches.{same-correct, none-true}
 use Rattle.netlist.specs.Gates.{Netlist, words}
 use Rattle.netlist.specs.Running.{gateCount}

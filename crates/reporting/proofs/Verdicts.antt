@@ -7,16 +7,17 @@ use native.Mathlib.Nat.{mul-le-mul}
 use native.Mathlib.Omega.{arith}
 use lib.ListN.{length}
 use lib.Dec.{ltb, leb, eqb}
-use Rattle.gf2.specs.Operands.{maxWidth, bytesFor, choose}
+use Rattle.gf2.specs.Operands.{maxWidth, bytesFor, choose, same}
 use Rattle.gf2.specs.Tables.{row, basis, onesIn}
 use Rattle.judging.specs.declared.fault.Fault.{Fault}
 use Rattle.judging.specs.declared.fault.Fault.the-variants.{None, Width, Length, RowZero, RowPair, Triple}
 use Rattle.operand.specs.Faults.{when, orElse, firstOf, firstFrom}
 use Rattle.judging.specs.Faults.{numberOf, isNone}
 use Rattle.operand.specs.Judgements.{widthFault}
-use Rattle.operand.proofs.FaultLaws.{none-is, when-keeps, or-keeps, from-keeps, width-fine}
+use Rattle.judging.specs.FaultTable.{badWidth}
+use Rattle.operand.proofs.FaultLaws.{one-when, none-is, when-keeps, or-keeps, from-keeps, width-fine}
 use Rattle.table.specs.Rows.{Shaped, mirrors, associates}
-use Rattle.table.specs.Judgements.{same, shapeFault, rowZeroFault, rowPairFault, tripleFault, symmetryFault, checkFault}
+use Rattle.table.specs.Judgements.{shapeFault, rowZeroFault, rowPairFault, tripleFault, symmetryFault, checkFault}
 use Rattle.table.proofs.Searches.{three-first, three-second, three-third}
 use Rattle.table.proofs.Rules.{mirrorFault, mirror-search, pairFault, rowFault, triple-search}
 use Rattle.table.proofs.Shapes.{shape-none}
@@ -97,8 +98,7 @@ module _ (m : ℕ) (t : List ℕ) (shaped : Shaped m t) where
       go true true p q = ap barred (three-third _ _ _ p q ∙ row-sums m t (none-is _ p) (none-is _ q)) ∙ none-apart
 
 width-apart : (m : ℕ) → barred (widthFault m) ≡ false
-unfolding widthFault
-width-apart m = when-apart (not (leb 2 m && leb m maxWidth)) Width width-one
+width-apart m = ap barred (one-when (badWidth m)) ∙ when-apart (not (leb 2 m && leb m maxWidth)) Width width-one
 
 -- the lent table has room for every width that passes
 lent-apart : (m : ℕ) → isNone (lentFault lent m) ≡ false → barred (lentFault lent m) ≡ false

@@ -11,7 +11,7 @@ use lib.Dec.{eqb}
 use borrow.Author.Tests.{eqb-true, ne-eqb}
 use Rattle.gf2.specs.Sums.{every}
 use Rattle.gf2.specs.Coordinates.{coord, tabulate}
-use Rattle.gf2.specs.Operands.{bytesFor, carriedBytes, minus, choose, IsOperand, below, fromCoords, turned}
+use Rattle.gf2.specs.Operands.{bytesFor, carriedBytes, minus, choose, IsOperand, below, fromCoords, turned, carriedBy, same}
 use Rattle.gf2.specs.Tables.{basis}
 use Rattle.gf2.specs.Products.{product}
 use Rattle.gf2.specs.Check.{rowSum}
@@ -19,8 +19,7 @@ use Rattle.gf2.proofs.Sums.{every-at}
 use Rattle.gf2.proofs.Coordinates.{length-pack, pack-of}
 use Rattle.gf2.proofs.Operands.{below-in, below-out, coord-from, length-from, from-operand, from-ext, from-eq, operand-ext}
 use Rattle.gf2.proofs.Carrying.{coord-carried}
-use Rattle.table.specs.Rows.{carriedBy, leftProduct, rightProduct}
-use Rattle.table.specs.Judgements.{same}
+use Rattle.table.specs.Rows.{leftProduct, rightProduct}
 use Rattle.table.proofs.Searches.{same-both}
 use Rattle.table.proofs.Shapes.{carried-operand}
 

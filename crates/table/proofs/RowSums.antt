@@ -10,7 +10,7 @@ use native.Mathlib.Numerals.{add-one}
 use native.Mathlib.Omega.{arith}
 use Rattle.gf2.specs.Sums.{sum}
 use Rattle.gf2.specs.Coordinates.{coord}
-use Rattle.gf2.specs.Operands.{bytesFor, carriedBytes, minus, IsOperand, fromCoords, zeroes, added, turned}
+use Rattle.gf2.specs.Operands.{bytesFor, carriedBytes, minus, IsOperand, fromCoords, zeroes, added, turned, carriedBy}
 use Rattle.gf2.specs.Tables.{row}
 use Rattle.gf2.specs.Check.{Symmetric, rowSum}
 use Rattle.gf2.proofs.Operands.{coord-from, from-operand, from-ext, length-from}
@@ -26,7 +26,7 @@ use Rattle.operand.specs.Calls.{answer, zeroCall}
 use Rattle.operand.proofs.FaultFree.{done, width-none}
 use Rattle.judging.proofs.Passed.{IsWidth}
 use Rattle.gf2.proofs.Carrying.{coord-carried}
-use Rattle.table.specs.Rows.{Shaped, carriedBy, carriedRow, rowsAt, leftProduct, rightProduct}
+use Rattle.table.specs.Rows.{Shaped, carriedRow, rowsAt, leftProduct, rightProduct}
 use Rattle.table.proofs.Shapes.{sized, row-short}
 use Rattle.table.proofs.Carrying.{carried-from}
 

@@ -16,7 +16,7 @@ use lib.Seq.{ext-getD}
 use lib.Bits.{bitXor, xor-add-and, xor-self, and-le-l, and-le-r}
 use borrow.Author.Tests.{eqb-true, eq-eqb}
 use Rattle.gf2.specs.Coordinates.{coord}
-use Rattle.gf2.specs.Operands.{carriedBytes}
+use Rattle.gf2.specs.Operands.{carriedBytes, same}
 use Rattle.gf2.proofs.Parity.{and-both, bool-ext}
 use Rattle.gf2.proofs.Coordinates.{coord-lt, pack-eq}
 use Rattle.judging.specs.declared.fault.Fault.{Fault}
@@ -28,7 +28,6 @@ use Rattle.limbs.proofs.ByteLists.{Bytes}
 use Rattle.limbs.proofs.LimbCoords.{length-limbs, limbs-coord}
 use Rattle.limbs.proofs.LimbLoops.{ored, ored-at, ored-of}
 use Rattle.operand.proofs.FaultLaws.{none-is, or-first, or-second, or-both, first-two, first-more}
-use Rattle.table.specs.Judgements.{same}
 
 same-eq : (a b : List ℕ) → same a b ≡ true → a ≡ b
 unfolding same

@@ -14,7 +14,7 @@ use lib.Pow.{shr-shr, shr-le, pow-mono}
 use lib.Seq.{length-take-le, getD-take, getD-drop}
 use Rattle.gf2.specs.Sums.{sum, every}
 use Rattle.gf2.specs.Coordinates.{coord, value}
-use Rattle.gf2.specs.Operands.{maxWidth, bytesFor, carriedBytes, IsOperand, isClear}
+use Rattle.gf2.specs.Operands.{maxWidth, bytesFor, carriedBytes, IsOperand, isClear, carriedBy}
 use Rattle.gf2.specs.Tables.{row, IsTable}
 use Rattle.gf2.proofs.Parity.{bool-ext}
 use Rattle.gf2.proofs.Sums.{every-at, every-of}
@@ -31,7 +31,7 @@ use Rattle.gf2.proofs.Carrying.{coord-carried}
 use Rattle.operand.proofs.FaultLaws.{or-second, or-assoc, first-two, first-more, two-fine, width-fine, length-fine}
 use Rattle.operand.proofs.FaultFree.{width-none, length-none}
 use Rattle.judging.proofs.Passed.{IsWidth}
-use Rattle.table.specs.Rows.{Shaped, carriedBy, carriedRow}
+use Rattle.table.specs.Rows.{Shaped, carriedRow}
 use Rattle.table.specs.Judgements.{rowsFault, shapeFault}
 use Rattle.table.proofs.Searches.{when-passes, when-fails, when-none, none-true, high-some, three-none}
 

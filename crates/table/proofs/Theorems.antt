@@ -9,7 +9,7 @@ use native.Mathlib.Omega.{arith}
 use lib.ListN.{length}
 use lib.Dec.{leb, eqb, lit≤}
 use Rattle.gf2.specs.Sums.{every}
-use Rattle.gf2.specs.Operands.{maxWidth, bytesFor, isClear}
+use Rattle.gf2.specs.Operands.{maxWidth, bytesFor, isClear, same}
 use Rattle.gf2.specs.Tables.{IsTable, row, basis}
 use Rattle.gf2.specs.Check.{Rule4, Rule5, Rule6, Rule7, Symmetric, Accepted, rowSum}
 use Rattle.gf2.proofs.Sums.{every-at}
@@ -25,7 +25,7 @@ use Rattle.operand.specs.Judgements.{widthFault, lengthFault}
 use Rattle.operand.proofs.FaultLaws.{none-is, when-keeps, first-keeps, from-keeps}
 use Rattle.table.specs.Carried.{carried2, carried3, carried4, carried5}
 use Rattle.table.specs.Rows.{Shaped, mirrors, leftProduct, rightProduct, associates}
-use Rattle.table.specs.Judgements.{same, rowsFault, shapeFault, rowZeroFault, rowPairFault, tripleFault, rowSumFault, symmetryFault, checkFault}
+use Rattle.table.specs.Judgements.{rowsFault, shapeFault, rowZeroFault, rowPairFault, tripleFault, rowSumFault, symmetryFault, checkFault}
 use Rattle.table.specs.Statements.{Shape, Symmetry, Acceptance, Fields, RowSums, FirstTriples, CarriedPass}
 use Rattle.table.proofs.Searches.{same-correct, when-passes, when-none, three-none, first-none, first-start, first-hit}
 use Rattle.table.proofs.Shapes.{shape-none, shape-rows, shape-fine}

@@ -3,9 +3,8 @@ use mathlib.Core.Bool.{Bool, true, false, not, _&&_}
 use mathlib.Core.List.{List, [], _∷_}
 use Prim.Native.Nat.{ℕ, _-_, _*_}
 use lib.ListN.{length}
-use lib.Dec.{eqb}
 use Rattle.gf2.specs.Sums.{every}
-use Rattle.gf2.specs.Operands.{bytesFor, isClear, turned}
+use Rattle.gf2.specs.Operands.{bytesFor, isClear, turned, same}
 use Rattle.gf2.specs.Tables.{row, basis}
 use Rattle.gf2.specs.Products.{product}
 use Rattle.gf2.specs.Check.{rowSum}
@@ -13,13 +12,6 @@ use Rattle.judging.specs.declared.fault.Fault.{Fault}
 use Rattle.judging.specs.declared.fault.Fault.the-variants.{HighBit, RowZero, RowPair, Triple, RowSum}
 use Rattle.operand.specs.Faults.{when, firstOf, firstFrom}
 use Rattle.operand.specs.Judgements.{widthFault, lengthFault}
-
--- the same bytes
-unfoldable pub same : List ℕ → List ℕ → Bool
-same [] [] = true
-same [] (y ∷ ys) = false
-same (x ∷ xs) [] = false
-same (x ∷ xs) (y ∷ ys) = eqb x y && same xs ys
 
 -- 3: "bit set at m or above", in some row
 unfoldable pub rowsFault : ℕ → List ℕ → Fault

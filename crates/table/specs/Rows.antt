@@ -4,21 +4,16 @@ use mathlib.Core.List.{List}
 use Prim.Native.Nat.{ℕ, _+_, _-_, _*_, _/_, _%_, _^_, _≤_}
 use Rattle.gf2.specs.Sums.{sum}
 use Rattle.gf2.specs.Coordinates.{coord, pack}
-use Rattle.gf2.specs.Operands.{maxWidth, carriedBytes, fromCoords, turned}
+use Rattle.gf2.specs.Operands.{maxWidth, carriedBytes, carriedBy, fromCoords, turned, same}
 use Rattle.gf2.specs.Tables.{row, IsTable, basis}
 use Rattle.gf2.specs.Products.{product}
 use Rattle.limbs.specs.Limbs.{carriedLimbs, limbCoord, packLimbs}
-use Rattle.table.specs.Judgements.{same}
 
 -- "m is the width, 2 to 255"; "A table is m rows, each an operand of W bytes, m·W in all"
 pub record Shaped (m : ℕ) (table : List ℕ) : Type 0 where
   pub least : 2 ≤ m
   pub greatest : m ≤ maxWidth
   pub isTable : IsTable m table
-
--- "Inside the program an operand is carried as 32 bytes": the coordinates of W bytes
-abbrev pub carriedBy : List ℕ → List ℕ
-carriedBy bytes = pack carriedBytes (coord bytes)
 
 -- "A table is m rows, each an operand of W bytes": row d, carried
 abbrev pub carriedRow : ℕ → List ℕ → ℕ → List ℕ

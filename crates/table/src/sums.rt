@@ -2,11 +2,11 @@
 ghost use mathlib.Core.Path.{_≡_};
 ghost use Prim.Native.Nat.{ℕ, _+_, _/_, _%_, _^_, _<_, _≤_};
 ghost use Rattle.gf2.specs.Coordinates.{coord};
-ghost use Rattle.gf2.specs.Operands.{carriedBytes, IsOperand};
+ghost use Rattle.gf2.specs.Operands.{carriedBytes, IsOperand, carriedBy};
 ghost use Rattle.gf2.specs.Tables.{row};
 ghost use Rattle.gf2.specs.Check.{rowSum};
 ghost use Rattle.limbs.specs.Limbs.{carriedLimbs, limbCoord, packLimbs};
-ghost use Rattle.table.specs.Rows.{Shaped, carriedBy, rowsAt, plusRows};
+ghost use Rattle.table.specs.Rows.{Shaped, rowsAt, plusRows};
 use crate::rows;
 use operand::Operand;
 

@@ -1,10 +1,10 @@
 // Rules 4 and 5 of the check: row 0, and row d against row m-d.
 ghost use mathlib.Core.Path.{_≡_};
 ghost use Prim.Native.Nat.{_-_, _<_, _≤_};
-ghost use Rattle.gf2.specs.Operands.{maxWidth};
+ghost use Rattle.gf2.specs.Operands.{maxWidth, carriedBy, same};
 ghost use Rattle.gf2.specs.Tables.{basis};
-ghost use Rattle.table.specs.Rows.{Shaped, carriedBy, mirrors};
-ghost use Rattle.table.specs.Judgements.{same, rowZeroFault, rowPairFault, symmetryFault};
+ghost use Rattle.table.specs.Rows.{Shaped, mirrors};
+ghost use Rattle.table.specs.Judgements.{rowZeroFault, rowPairFault, symmetryFault};
 use crate::rows;
 use judging::Fault;
 use operand::Operand;

@@ -2,7 +2,8 @@
 ghost use mathlib.Core.Path.{_≡_};
 ghost use Prim.Native.Nat.{_<_};
 ghost use Rattle.gf2.specs.Check.{Symmetric};
-ghost use Rattle.table.specs.Rows.{Shaped, carriedBy, leftProduct, rightProduct, associates};
+ghost use Rattle.table.specs.Rows.{Shaped, leftProduct, rightProduct, associates};
+ghost use Rattle.gf2.specs.Operands.{carriedBy};
 ghost use Rattle.table.specs.Judgements.{tripleFault, rowSumFault, checkFault};
 use crate::first;
 use crate::rows;

@@ -3,8 +3,7 @@ use mathlib.Core.Path.{ap, ap₂, _∙_}
 use native.Mathlib.Nat.{mod-lt}
 use native.Mathlib.Omega.{arith}
 use Prim.Native.Nat.{_<_}
-use Rattle.gf2.specs.Operands.{turned}
-use Rattle.table.specs.Judgements.{same}
+use Rattle.gf2.specs.Operands.{turned, same}
 use Rattle.table.specs.Rows.{carriedRow, rowsAt, associates}
 use Rattle.table.proofs.Shapes.{row-operand, row-turns}
 use Rattle.table.proofs.Carrying.{same-carried, left-operand, right-operand}

@@ -3,7 +3,8 @@ use mathlib.Core.Path.{_≡_, sym, ap₂, _∙_}
 use native.Mathlib.Omega.{arith}
 use Rattle.gf2.specs.Tables.{row, basis}
 use Rattle.judging.specs.declared.fault.Fault.the-variants.{RowZero}
-use Rattle.table.specs.Judgements.{same, rowZeroFault}
+use Rattle.table.specs.Judgements.{rowZeroFault}
+use Rattle.gf2.specs.Operands.{same}
 use Rattle.table.proofs.Searches.{when-passes, when-fails}
 use Rattle.table.proofs.Carrying.{same-carried, basis-operand}
 use borrow.Author.Needs.{needs}

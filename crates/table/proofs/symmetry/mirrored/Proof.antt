@@ -2,11 +2,10 @@
 use mathlib.Core.Path.{ap, ap₂, _∙_}
 use Prim.Native.Nat.{_-_, _<_, _≤_}
 use native.Mathlib.Omega.{arith}
-use Rattle.gf2.specs.Operands.{bytesFor, carriedBytes, turned}
+use Rattle.gf2.specs.Operands.{bytesFor, carriedBytes, turned, same}
 use Rattle.gf2.proofs.Operands.{turned-operand}
 use Rattle.gf2.proofs.OperandVectors.{bytes-fit}
 use Rattle.table.specs.Rows.{mirrors}
-use Rattle.table.specs.Judgements.{same}
 use Rattle.table.proofs.Shapes.{row-turns}
 use Rattle.table.proofs.Carrying.{same-carried, turned-carried}
 use borrow.Author.Needs.{needs}
