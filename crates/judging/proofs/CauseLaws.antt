@@ -119,10 +119,16 @@ first-of (c ∷ cs) f n e = cases (c .test)
     (λ q. inl (c .exact .0 q, sym e ∙ head-holds c cs q))
     (λ q. inr (fails c q, first-of cs f n (sym (head-fails c cs q) ∙ e)))
 
-of-first : (cs : List Cause) (f : Fault) → First cs f → faultOf cs ≡ f
+pub of-first : (cs : List Cause) (f : Fault) → First cs f → faultOf cs ≡ f
 of-first [] f k = absurd k
 of-first (c ∷ cs) f (inl k) = head-holds c cs (c .exact .1 (k .0)) ∙ sym (k .1)
 of-first (c ∷ cs) f (inr k) = cases (c .test) (λ q. absurd (k .0 (c .exact .0 q))) (λ q. head-fails c cs q ∙ of-first cs f (k .1))
+
+-- the first cause that holds gives some fault
+pub first-some : (cs : List Cause) (f : Fault) → First cs f → ¬ (f ≡ None)
+first-some [] f k e = absurd k
+first-some (c ∷ cs) f (inl k) e = unlike c (sym (k .1) ∙ e)
+first-some (c ∷ cs) f (inr k) e = first-some cs f (k .1) e
 
 pub no-cause : (cs : List Cause) → Fine cs → NoCause cs
 no-cause [] n = tt

@@ -7,7 +7,7 @@
 -- SizeLaws: the ones of a table, and the gates and words of its lists, at most.
 -- Theorems: the proofs of the statements in specs/Statements.antt.
 -- StoreLaws: stores of several elements in a row.
--- RunLaws: the runner's tests and loops. JudgeLaws: its faults.
+-- RunLaws: the runner's tests and loops. JudgeLaws: its faults. GateTests: the test of its gates decides.
 -- TermLaws: the bits of a table in its bytes, and the wires of pairs.
 -- SuccessorLaws: the next pair that is folded.
 -- WriteLaws: a fold term by term. PutLaws: the writer's loops, and a whole list.
@@ -22,6 +22,7 @@ pub mod Theorems
 pub mod StoreLaws
 pub mod RunLaws
 pub mod JudgeLaws
+pub mod GateTests
 pub mod TermLaws
 pub mod SuccessorLaws
 pub mod WriteLaws

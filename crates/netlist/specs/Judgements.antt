@@ -1,7 +1,8 @@
 -- The faults of a list that is run, and of a buffer for a list that is written, each by its cause in document 01's table.
+use mathlib.Core.Logic.{_⊎_}
 use mathlib.Core.Bool.{Bool, not, _&&_}
 use mathlib.Core.List.{List, [], _∷_}
-use Prim.Native.Nat.{ℕ, _+_, _*_}
+use Prim.Native.Nat.{ℕ, _+_, _*_, _<_, _≤_}
 use lib.ListN.{length, getD}
 use lib.Dec.{leb, ltb}
 use Rattle.gf2.specs.Sums.{every}
@@ -40,6 +41,20 @@ lengthsFault m list aWidth bWidth resultLength wiresLength =
 -- 3: "bit set at m or above"
 unfoldable pub bitsFault : ℕ → List ℕ → List ℕ → Fault
 bitsFault m a b = firstOf (highFault m a ∷ highFault m b ∷ [])
+
+-- "gate wire not earlier" than the gate's own
+abbrev pub IsLate : ℕ → ℕ → ℕ → Type 0
+IsLate m k wire = 2 * m + k ≤ wire
+
+-- "kind above 1, gate wire not earlier", of gate k
+abbrev pub IsBadGate : ℕ → List ℕ → ℕ → Type 0
+IsBadGate m list k = (1 < kindAt list k) ⊎ IsLate m k (leftAt list k) ⊎ IsLate m k (rightAt list k)
+
+-- "kind above 1, gate wire not earlier, output wire absent"
+abbrev pub HasBadGate : ℕ → List ℕ → Type 0
+HasBadGate m list =
+    ((k : ℕ) × (k < gateCount list) × IsBadGate m list k)
+    ⊎ ((r : ℕ) × (r < m) × (2 * m + gateCount list ≤ outputAt list r))
 
 -- a kind that is there, and wires that are earlier than the gate's own
 unfoldable pub isGate : ℕ → List ℕ → ℕ → Bool

@@ -11,7 +11,7 @@ use Rattle.operand.proofs.FaultLaws.{none-is}
 use Rattle.table.proofs.Searches.{none-true}
 use Rattle.nb.specs.Packing.{packedAnswer, Packs, Unpacks}
 use Rattle.nb.proofs.PackLaws.{unpack-refused, unpack-answered}
-use Rattle.promises.specs.Causes.{Cause}
+use Rattle.judging.specs.Causes.{Cause}
 use Rattle.promises.specs.Answers.{Numbered, Lent, Fills}
 use Rattle.promises.proofs.CauseLaws.{Decided, exact}
 

@@ -23,8 +23,8 @@ use Rattle.card.proofs.Numbers.{no-value, parts, read-written, written-read}
 use Rattle.card.proofs.Places.{after-got, row-read, row-written}
 use Rattle.card.proofs.Trips.{lent-none, head-parts, card-read, card-written}
 use Rattle.card.specs.Calls.{readAnswer}
-use Rattle.promises.specs.Causes.{badWidth as wrongWidth, tooShort, BadWidth, Holds}
-use Rattle.promises.proofs.CauseLaws.{Decides, Decided, then, last}
+use Rattle.judging.specs.FaultTable.{badWidth as wrongWidth, tooShort, BadWidth}
+use Rattle.promises.proofs.CauseLaws.{Decides, Decided, cases, then, last}
 use Rattle.promises.proofs.CauseTests.{wide, by-width, by-room}
 use Rattle.promises.specs.CardCauses.{Stands, BadNumber, noGroup, noSecond, badSecond, Ordered, freeAfter, BadPlace, noPlace, placeAbove, BadRow, noCount, countAbove, atPlace, RowsStand, HeadStands, BadCard, noForm, otherForm, noWidth, badWidth, noRoom, atRow, bytesAfter, GoodCard, ExactCard}
 
@@ -227,8 +227,8 @@ by-lent room m = then (by-width m) (last (by-room room (m * bytesFor m))) .first
 
 lent-causes : (room m : ℕ) (f : Fault) → isNone (lentFault room m) ≡ false → f ≡ lentFault room m →
     (BadWidth m × (f ≡ Width)) ⊎ ((2 ≤ m) × (m ≤ maxWidth) × (room < m * bytesFor m) × (f ≡ OutputShort))
-unfolding Holds isNone
-lent-causes room m f some e = go (by-lent room m .decides)
+unfolding isNone
+lent-causes room m f some e = go (cases (by-lent room m))
   where
     go : Decides (wrongWidth m ∷ tooShort room (m * bytesFor m) ∷ []) (lentFault room m) → (BadWidth m × (f ≡ Width)) ⊎ ((2 ≤ m) × (m ≤ maxWidth) × (room < m * bytesFor m) × (f ≡ OutputShort))
     go (inl h) = inl (h .0, e ∙ h .1)
@@ -236,16 +236,14 @@ lent-causes room m f some e = go (by-lent room m .decides)
     go (inr (n, inr h)) = absurd (true≢false (sym (ap isNone (h .1)) ∙ some))
 
 lent-bad : (room m : ℕ) → BadWidth m → lentFault room m ≡ Width
-unfolding Holds
-lent-bad room m b = go (by-lent room m .decides)
+lent-bad room m b = go (cases (by-lent room m))
   where
     go : Decides (wrongWidth m ∷ tooShort room (m * bytesFor m) ∷ []) (lentFault room m) → lentFault room m ≡ Width
     go (inl h) = h .1
     go (inr h) = absurd (h .0 b)
 
 lent-short : (room m : ℕ) → 2 ≤ m → m ≤ maxWidth → room < m * bytesFor m → lentFault room m ≡ OutputShort
-unfolding Holds
-lent-short room m least greatest short = go (by-lent room m .decides)
+lent-short room m least greatest short = go (cases (by-lent room m))
   where
     go : Decides (wrongWidth m ∷ tooShort room (m * bytesFor m) ∷ []) (lentFault room m) → lentFault room m ≡ OutputShort
     go (inl h) = absurd (h .0 (least, greatest))

@@ -12,11 +12,11 @@ use Rattle.operand.specs.Calls.{answer}
 use Rattle.table.proofs.Searches.{none-true}
 use Rattle.product.specs.Judgements.{productFault, reducedFault, zeroFault, inverseFault}
 use Rattle.netlist.specs.Judgements.{widthsFault, lengthsFault, bitsFault, runFault}
-use Rattle.promises.specs.Causes.{Cause, turnTooFar, isZero, traceOne}
-use Rattle.promises.specs.CallCauses.{ruleCauses}
+use Rattle.judging.specs.Causes.{Cause}
+use Rattle.judging.specs.FaultTable.{turnTooFar, isZero, traceIsOne, ruleCauses}
 use Rattle.promises.specs.CarriedCalls.{carriedCauses, pairCauses, factorCauses, invertedCauses, ranCauses, Gives, GivesNumber, CarriedCalls}
 use Rattle.promises.proofs.CauseLaws.{Decided, then, last, exact}
-use Rattle.promises.proofs.CauseTests.{by-width, by-length, by-high, by-rows, by-turn, by-trace, by-zero-of, by-row-zero, by-row-pairs, by-words, by-gates}
+use Rattle.promises.proofs.CauseTests.{by-width, by-length, by-high, by-rows, by-zero-of, by-row-zero, by-row-pairs, by-words, by-gates}
 use Rattle.promises.proofs.AnswerLaws.{some-false, chosen, lent}
 
 -- an operand's answer, and a number's
@@ -29,14 +29,13 @@ gives-number {causes} {f} d n = record { exact = exact d; refused = λ e. rw (so
 
 module _ (a : Operand) where
   one-decided : Decided (carriedCauses a) (operandFault a)
-  unfolding operandFault
-  one-decided = then (by-width (a .width)) (last (by-high (a .width) (a .bytes))) .first
+  one-decided = record { is = refl }
 
-  turn-decided : (k : ℕ) → Decided (carriedCauses a ++ (turnTooFar (a .width) k ∷ [])) (firstOf (operandFault a ∷ turnFault (a .width) k ∷ []))
-  turn-decided k = then one-decided (last (by-turn (a .width) k)) .first
+  turn-decided : (k : ℕ) → Decided (carriedCauses a ++ (turnTooFar (a .width) k ∷ [])) (faultOf (turnCauses a k))
+  turn-decided k = record { is = refl }
 
-  solve-decided : Decided (carriedCauses a ++ (traceOne (a .width) (a .bytes) ∷ [])) (firstOf (operandFault a ∷ traceFault (a .width) (a .bytes) ∷ []))
-  solve-decided = then one-decided (last (by-trace (a .width) (a .bytes))) .first
+  solve-decided : Decided (carriedCauses a ++ (traceIsOne (a .width) (a .bytes) ∷ [])) (faultOf (solveCauses a))
+  solve-decided = record { is = refl }
 
   zero-decided : Decided (isZero carriedBytes (a .width) (a .bytes) ∷ []) (zeroFault a)
   unfolding zeroFault
@@ -49,9 +48,7 @@ module _ (a : Operand) where
 
 module _ (a b : Operand) where
   pair-decided : Decided (pairCauses a b) (pairFault a b)
-  unfolding pairFault
-  pair-decided =
-      then (by-width (a .width)) (then (by-width (b .width)) (then (by-length (b .width) (a .width)) (then (by-high (a .width) (a .bytes)) (last (by-high (b .width) (b .bytes)))))) .first
+  pair-decided = record { is = refl }
 
   product-decided : (m : ℕ) (t : List ℕ) → Decided (factorCauses m t a b) (productFault m t a b)
   unfolding productFault

@@ -28,13 +28,14 @@ use Rattle.nb.specs.Judgements.{constantBytesFault, turnBytesFault, sumBytesFau
 use Rattle.nb.specs.Calls.{countsAnswer, cardAnswer}
 use Rattle.nb.proofs.PackLaws.{packs, small-check, small-constant-call, small-turn-call, small-sum-call, small-solve-call, small-product-call, small-reduced-call, small-run-call}
 use Rattle.nb.proofs.Bounds.{PacksCounts, inverse-packs, trace-packs, ones-packs, plain-packs, reduced-packs, common-packs, plain-list-packs, reduced-list-packs, common-list-packs, type-answer-packs, draw-packs, write-packs, read-packs}
-use Rattle.promises.specs.Causes.{badWidth, badLength, turnTooFar, traceOne, typeZero, tooShort}
+use Rattle.judging.specs.FaultTable.{badWidth, badLength, turnTooFar, traceIsOne, tooShort, ruleCauses, symmetryCauses, shapeCauses}
+use Rattle.promises.specs.Causes.{typeZero}
 use Rattle.promises.specs.CardCauses.{GoodCard}
-use Rattle.promises.specs.CallCauses.{productCauses, ruleCauses, inverseCauses, unaryCauses, sumCauses, runCauses, symmetryCauses, shapeCauses, operandCauses}
+use Rattle.promises.specs.CallCauses.{productCauses, inverseCauses, unaryCauses, sumCauses, runCauses, operandCauses}
 use Rattle.promises.specs.Answers.{Lent, Asks}
 use Rattle.promises.specs.Demand1.{Lists, Reads, Demand1}
 use Rattle.promises.proofs.CauseLaws.{Decided, then, last, exact}
-use Rattle.promises.proofs.CauseTests.{by-width, by-length, by-high, by-rows, by-turn, by-trace, by-zero, by-row-zero, by-row-pairs, by-shape, by-symmetry, by-check, by-room, by-type, by-words, by-gates}
+use Rattle.promises.proofs.CauseTests.{by-width, by-length, by-high, by-rows, by-zero, by-row-zero, by-row-pairs, by-shape, by-symmetry, by-check, by-room, by-type, by-words, by-gates}
 use Rattle.promises.proofs.CardTests.{good-read, card-exact}
 use Rattle.promises.proofs.AnswerLaws.{some-false, numbered, plainly, chosen, lent, fills}
 use Rattle.promises.proofs.CarriedCalls.{carried-calls}
@@ -66,24 +67,19 @@ module _ (m : ℕ) where
   tabled t = by-length (length t) (m * bytesFor m)
 
   constant-decided : (old : List ℕ) → Decided (badWidth m ∷ badLength (length old) (bytesFor m) ∷ []) (constantBytesFault m old)
-  unfolding constantBytesFault
-  constant-decided old = then (by-width m) (last (sized old)) .first
+  constant-decided old = record { is = refl }
 
   operand-decided : (a : List ℕ) → Decided (operandCauses m a) (bytesFault m a)
-  unfolding bytesFault
-  operand-decided a = then (by-width m) (then (sized a) (last (by-high m a))) .first
+  operand-decided a = record { is = refl }
 
   turn-decided : (a : List ℕ) (k : ℕ) (old : List ℕ) → Decided (unaryCauses m a old ++ (turnTooFar m k ∷ [])) (turnBytesFault m a k old)
-  unfolding turnBytesFault
-  turn-decided a k old = then (by-width m) (then (sized a) (then (sized old) (then (by-high m a) (last (by-turn m k))))) .first
+  turn-decided a k old = record { is = refl }
 
-  solve-decided : (c old : List ℕ) → Decided (unaryCauses m c old ++ (traceOne m c ∷ [])) (solveBytesFault m c old)
-  unfolding solveBytesFault
-  solve-decided c old = then (by-width m) (then (sized c) (then (sized old) (then (by-high m c) (last (by-trace m c))))) .first
+  solve-decided : (c old : List ℕ) → Decided (unaryCauses m c old ++ (traceIsOne m c ∷ [])) (solveBytesFault m c old)
+  solve-decided c old = record { is = refl }
 
   sum-decided : (a b old : List ℕ) → Decided (sumCauses m a b old) (sumBytesFault m a b old)
-  unfolding sumBytesFault
-  sum-decided a b old = then (by-width m) (then (sized a) (then (sized b) (then (sized old) (then (by-high m a) (last (by-high m b)))))) .first
+  sum-decided a b old = record { is = refl }
 
   product-decided : (t a b old : List ℕ) → Decided (productCauses m t a b old) (productBytesFault m t a b old)
   unfolding productBytesFault

@@ -15,9 +15,9 @@ use Rattle.gaussian.proofs.Theorems.{type-list, drawn-table}
 use Rattle.card.proofs.Theorems.{card-laws}
 use Rattle.nb.specs.Judgements.{productBytesFault, reducedBytesFault}
 use Rattle.nb.specs.Calls.{productResult, reducedResult}
-use Rattle.promises.specs.Causes.{Holds}
 use Rattle.promises.specs.Demand2.{bilinear, halved, HasCoords, DrawnBy, Demand2}
-use Rattle.promises.proofs.CauseTests.{wide, long}
+use Rattle.promises.proofs.CauseTests.{wide}
+use Rattle.gf2.proofs.Decisions.{equal-unless}
 use Rattle.promises.proofs.Demand1.{demand1}
 
 -- the bytes of an operand that is given by its coordinates
@@ -25,19 +25,18 @@ given : (m : ℕ) (x : List ℕ) (f : ℕ → ℕ) → length x ≡ bytesFor m �
 given m x f size = rw size (record { operand = from-operand (bytesFor m) m f; coords = λ r l. coord-from (bytesFor m) m f (omega arith) r l })
 
 products : (m : ℕ) (table a b old : List ℕ) → productBytesFault m table a b old ≡ None → HasCoords m (productResult m table a b old) (bilinear m table a b)
-unfolding product Holds
+unfolding product
 products m table a b old e =
     let call = demand1 .product m table a b old in
-    rw (call .buffer .written e) (given m a _ (long (call .exact .none .0 e .1 .0)))
+    rw (call .buffer .written e) (given m a _ (equal-unless _ _ (call .exact .none .0 e .1 .0)))
 
 reducedProducts : (m : ℕ) (table a b old : List ℕ) → reducedBytesFault m table a b old ≡ None → HasCoords m (reducedResult m table a b old) (halved m table a b)
-unfolding reduced Holds
+unfolding reduced
 reducedProducts m table a b old e =
     let call = demand1 .reduced m table a b old in
-    rw (call .buffer .written e) (given m a _ (long (call .exact .none .0 e .1 .0)))
+    rw (call .buffer .written e) (given m a _ (equal-unless _ _ (call .exact .none .0 e .1 .0)))
 
 drawn-by : (m : ℕ) (old : List ℕ) → drawFault m (length old) ≡ None → DrawnBy m (typeOf m) (drawnInto m old)
-unfolding Holds
 drawn-by m old e =
     let call = demand1 .draw m old in
     let no = call .exact .none .0 e in

@@ -19,11 +19,12 @@ use Rattle.card.specs.Statements.{Bytes}
 use Rattle.reporting.specs.Text.{ascii, line}
 use Rattle.reporting.specs.Report.{inputLimit, lent, refusal, countsLine, acceptance, tableReport, readReport, report}
 use Rattle.reporting.proofs.Reports.{long-report, short-report}
-use Rattle.promises.specs.Causes.{First, NoCause}
-use Rattle.promises.specs.CallCauses.{checkCauses}
+use Rattle.judging.specs.Causes.{First, NoCause}
+use Rattle.judging.specs.FaultTable.{checkCauses}
 use Rattle.promises.specs.CardCauses.{BadCard, GoodCard}
 use Rattle.promises.specs.Reports.{head, gates, Reports}
-use Rattle.promises.proofs.CauseLaws.{exact, first-is, first-some}
+use Rattle.promises.proofs.CauseLaws.{exact, first-is}
+use Rattle.judging.proofs.CauseLaws.{first-some}
 use Rattle.promises.proofs.CauseTests.{by-check}
 use Rattle.promises.proofs.CardTests.{good-read, card-exact}
 use Rattle.promises.proofs.AnswerLaws.{some-false}
@@ -33,8 +34,8 @@ module _ (m : ℕ) (table : List ℕ) where
   table-refused : (f : Fault) → First (checkCauses m table) f → tableReport m table ≡ head m table ++ refusal f
   unfolding tableReport
   table-refused f h =
-      let e = first-is (by-check m table) h in
-      rw (some-false (checkFault m table) (λ q. first-some (checkCauses m table) h (sym e ∙ q)), e) (sym (append-assoc (line (ascii "width") (m ∷ [])) _ _))
+      let e = first-is (by-check m table) f h in
+      rw (some-false (checkFault m table) (λ q. first-some (checkCauses m table) f h (sym e ∙ q)), e) (sym (append-assoc (line (ascii "width") (m ∷ [])) _ _))
 
   -- the counts' line of a list, where rules 4 and 5 hold
   gates-line : symmetryFault m table ≡ None → (word : List ℕ) (list : Netlist) → countsLine word (countsCall m table list) ≡ gates word list

@@ -7,7 +7,7 @@ use Rattle.judging.specs.declared.fault.Fault.{Fault}
 use Rattle.judging.specs.declared.fault.Fault.the-variants.{None}
 use Rattle.judging.specs.Faults.{numberOf}
 use Rattle.nb.specs.Packing.{Unpacks}
-use Rattle.promises.specs.Causes.{Cause, Exact}
+use Rattle.judging.specs.Causes.{Cause, Exact}
 
 -- a fault's number, and what document 01 returns beside it, come out of the answer
 abbrev pub Refuses : ℕ → Fault → Type 0

@@ -12,7 +12,7 @@ use Rattle.judging.specs.declared.fault.Fault.the-variants.{None, Width, Output
 use Rattle.card.specs.Numbers.{number, numberLimit}
 use Rattle.card.specs.Rows.{steps, rowCard}
 use Rattle.card.specs.Cards.{card}
-use Rattle.promises.specs.Causes.{BadWidth}
+use Rattle.judging.specs.FaultTable.{BadWidth}
 
 -- "Numbers are in seven-bit groups, .. shortest form, at most two groups": the number n stands in s before the rest
 pub record Stands (n : ℕ) (s rest : List ℕ) : Type 0 where

@@ -18,8 +18,9 @@ use Rattle.product.specs.Calls.{productCall, reducedCall, inverseCall}
 use Rattle.netlist.specs.Running.{gateCount, readList, wires as wiresOf, result as resultOf}
 use Rattle.netlist.specs.Judgements.{runFault}
 use Rattle.netlist.specs.Calls.{runResult, runWires}
-use Rattle.promises.specs.Causes.{Cause, badWidth, badLength, fewWords, highBit, highBitInRow, turnTooFar, isZero, traceOne, badGates, Exact}
-use Rattle.promises.specs.CallCauses.{notTable, ruleCauses}
+use Rattle.judging.specs.Causes.{Cause, Exact}
+use Rattle.judging.specs.FaultTable.{badWidth, badLength, highBit, highBitInRow, turnTooFar, isZero, traceIsOne, notTable, ruleCauses}
+use Rattle.promises.specs.Causes.{fewWords, badGates}
 use Rattle.promises.specs.Answers.{Lent}
 
 -- a width, given or carried
@@ -113,7 +114,7 @@ pub record CarriedCalls : Type 0 where
   pub sum : (a b : Operand) → Gives (pairCauses a b) (sumCall a b) (a .width) (added (a .width) (a .bytes) (b .bytes))
   pub trace : (a : Operand) → GivesNumber (carriedCauses a) (traceCall a .fault) (traceCall a .trace) (trace (a .width) (a .bytes))
   pub solve : (c : Operand) →
-      Gives (carriedCauses c ++ (traceOne (c .width) (c .bytes) ∷ [])) (solveCall c) (c .width) (root (c .width) (c .bytes))
+      Gives (carriedCauses c ++ (traceIsOne (c .width) (c .bytes) ∷ [])) (solveCall c) (c .width) (root (c .width) (c .bytes))
   pub product : (m : ℕ) (table : List ℕ) (a b : Operand) →
       Gives (factorCauses m table a b) (productCall m table a b) m (product m table (a .bytes) (b .bytes))
   pub reduced : (m : ℕ) (table : List ℕ) (a b : Operand) →

@@ -27,9 +27,10 @@ use Rattle.card.specs.Statements.{Bytes}
 use Rattle.nb.specs.Packing.{Unpacks}
 use Rattle.nb.specs.Judgements.{constantBytesFault, turnBytesFault, sumBytesFault, solveBytesFault, productBytesFault, reducedBytesFault, inverseBytesFault, runBytesFault}
 use Rattle.nb.specs.Calls.{checkAnswer, onesAnswer, zeroAnswer, zeroResult, oneAnswer, oneResult, turnAnswer, turnResult, sumAnswer, sumResult, traceAnswer, solveAnswer, solveResult, productAnswer, productResult, reducedAnswer, reducedResult, inverseAnswer, inverseResult, countsAnswer, runAnswer, runResult, runWires, typeAnswer, cardAnswer}
-use Rattle.promises.specs.Causes.{badWidth, turnTooFar, traceOne, tooShort, typeZero}
+use Rattle.judging.specs.FaultTable.{badWidth, turnTooFar, traceIsOne, tooShort, notW, notTable, shapeCauses, ruleCauses, symmetryCauses, checkCauses}
+use Rattle.promises.specs.Causes.{typeZero}
 use Rattle.promises.specs.CardCauses.{GoodCard, ExactCard}
-use Rattle.promises.specs.CallCauses.{notW, notTable, shapeCauses, ruleCauses, symmetryCauses, checkCauses, operandCauses, unaryCauses, sumCauses, productCauses, inverseCauses, runCauses}
+use Rattle.promises.specs.CallCauses.{operandCauses, unaryCauses, sumCauses, productCauses, inverseCauses, runCauses}
 use Rattle.promises.specs.Answers.{Refuses, Lent, Asks, Fills}
 use Rattle.promises.specs.CarriedCalls.{CarriedCalls}
 use Rattle.promises.specs.Reports.{Reports}
@@ -87,7 +88,7 @@ pub record Demand1 : Type 0 where
       Fills (sumCauses m a b old) (sumBytesFault m a b old) (sumAnswer m a b old) 0 0 (sumResult m a b old) old (added m a b)
   pub trace : (m : ℕ) (a : List ℕ) → Asks (operandCauses m a) (bytesFault m a) (traceAnswer m a) (trace m a) 0
   pub solve : (m : ℕ) (c old : List ℕ) →
-      Fills (unaryCauses m c old ++ (traceOne m c ∷ [])) (solveBytesFault m c old) (solveAnswer m c old) 0 0
+      Fills (unaryCauses m c old ++ (traceIsOne m c ∷ [])) (solveBytesFault m c old) (solveAnswer m c old) 0 0
       (solveResult m c old) old (root m c)
   -- counts of gates, and gate lists
   pub countsPlain : (m : ℕ) (table : List ℕ) → Counts m table (plain m table) (countsPlainCall m table)

@@ -10,8 +10,8 @@ use Rattle.netlist.specs.Gates.{Netlist, andGates, xorGates}
 use Rattle.netlist.specs.Lists.{plain, reduced, common}
 use Rattle.reporting.specs.Text.{ascii, line}
 use Rattle.reporting.specs.Report.{inputLimit, lent, refusal, report}
-use Rattle.promises.specs.Causes.{First, NoCause}
-use Rattle.promises.specs.CallCauses.{checkCauses}
+use Rattle.judging.specs.Causes.{First, NoCause}
+use Rattle.judging.specs.FaultTable.{checkCauses}
 use Rattle.promises.specs.CardCauses.{BadCard, GoodCard}
 
 -- "m; C"
