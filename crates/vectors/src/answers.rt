@@ -69,7 +69,7 @@ pub(crate) fn put_list(
     requires { ⌜ at + length (now words) + 3 ≤ room ⌝ }
     ensures { λ r. ⌜ Stored at (listNumbers width (now (table .entry)) (now (words .entry))) (now (out .entry)) r (now (out .exit)) × (now (words .exit) ≡ listBuffer width (now (table .entry)) (reduced width (now (table .entry))) (now (words .entry))) ⌝ }
 {
-    let answer = netlist::list_reduced(width, table, words);
+    let answer = list_writer::list_reduced(width, table, words);
     let fault = answer.fault;
     let ands = put(out, at, number(fault));
     let xors = put(out, ands, answer.ands.0);
