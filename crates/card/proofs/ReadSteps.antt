@@ -6,7 +6,7 @@ use mathlib.Core.Path.{_≡_, refl, sym, ap, _∙_}
 use mathlib.Core.List.{List, [], _∷_, _++_, append-assoc, append-nil}
 use mathlib.Core.Bool.{Bool, true, false}
 use Prim.Native.Nat.{ℕ, zero, suc, _+_, _-_, _*_, _/_, _%_, _^_, _<_, _≤_}
-use native.Mathlib.Nat.{zero-add}
+use native.Mathlib.Nat.{zero-add, add-zero, zero-mul, mul-comm, mul-le-mul-left}
 use native.Mathlib.Decide.{ℕ-discrete, decLt}
 use native.Mathlib.Omega.{arith}
 use lib.ListN.{length, getD, take, drop, set, replicate, length-append, length-set, drop-of-length-le}
@@ -26,15 +26,25 @@ use Rattle.operand.specs.declared.fault.Fault.the-variants.{None, CardPlace, Ca
 use Rattle.operand.specs.Faults.{isNone}
 use Rattle.operand.proofs.CallLaws.{zero-bytes}
 use Rattle.card.specs.declared.CardAnswer.{CardAnswer}
+use Rattle.card.specs.declared.reading.Step.{Step}
+use Rattle.card.specs.declared.reading.Step.the-variants.{Got, Refused}
 use Rattle.card.specs.Numbers.{Read, refused, got, readNumber}
 use Rattle.card.specs.Rows.{after, readPlaces, readRow, isPlace, rowOf, readRows}
 use Rattle.card.specs.Cards.{lentFault, readWidth, readHead, ended, readCard}
 use Rattle.card.specs.Calls.{readCall, readTable, readAnswer, readInto}
-use Rattle.card.specs.Steps.{carriedPlaces, endOf, RowsRead}
+use Rattle.card.specs.Steps.{told, carriedPlaces, endOf, RowsRead}
 use Rattle.card.proofs.Numbers.{no-value}
 use Rattle.card.proofs.Places.{place-here, place-there}
 use Rattle.card.proofs.Stores.{sets-append, sets-front}
 use Rattle.card.proofs.Trips.{head-parts, rows-table}
+
+-- what is to be read, where the code says a step
+module _ (s : List ℕ) {r : Step} {x : Read ℕ} (e : told s r ≡ x) where
+  pub got-of : {v n : ℕ} → r ≡ Got v n → x ≡ got v (drop n s)
+  got-of g = sym e ∙ ap (told s) g
+
+  pub refused-of : {f : Fault} → r ≡ Refused f → x ≡ refused f
+  refused-of g = sym e ∙ ap (told s) g
 
 after-nil : (x : Read (List ℕ)) → x ≡ after [] x
 after-nil (refused f) = refl
@@ -51,8 +61,12 @@ power-bit s j h l = eqb-true _ _ (every-at 8 (row s) (every-at 8 (λ s. every 8 
     row : ℕ → ℕ → Bool
     row s j = eqb (2 ^ s / 2 ^ j % 2) (choose (eqb j s) 1 0)
 
-pub power-byte : (s : ℕ) → s < 8 → 2 ^ s < 256
+power-byte : (s : ℕ) → s < 8 → 2 ^ s < 256
 power-byte s h = omega (arith, pow-mono {i = s} {j = 7} (omega arith))
+
+-- the bit of place p in its byte
+pub bit-value : (p : ℕ) → 1 * 2 ^ (p % 8) % 256 ≡ 2 ^ (p % 8)
+bit-value p = omega (arith, power-byte (p % 8) (omega arith))
 
 -- bytes with the bit at p turned over
 module _ (n : ℕ) (f : ℕ → ℕ) (p : ℕ) (h : p < 8 * n) where
@@ -76,7 +90,7 @@ module _ (n : ℕ) (f : ℕ → ℕ) (p : ℕ) (h : p < 8 * n) where
       in-byte : i / 8 ≡ p / 8 → getD (pack n f) (p / 8) 0 / 2 ^ (i % 8) % 2 ≡ f i % 2
       in-byte e = rw e at (coord-pack n f i l)
 
-      same-bit : i / 8 ≡ p / 8 → choose (eqb (i % 8) (p % 8)) 1 0 ≡ choose (eqb i p) 1 0
+      same-bit : i / 8 ≡ p / 8 → _≡_ {A = ℕ} (choose (eqb (i % 8) (p % 8)) 1 0) (choose (eqb i p) 1 0)
       same-bit e = elim (ℕ-discrete i p) [
         | yes q ↦ rw (eq-eqb i p q, eq-eqb (i % 8) (p % 8) (omega arith))
         | no q ↦ rw (ne-eqb i p q, ne-eqb (i % 8) (p % 8) (λ r. q (omega arith)))
@@ -212,57 +226,59 @@ unfolding fromCoords pack
 take-row m f h = take-tabulate carriedBytes (bytesFor m) _ (omega arith)
 
 -- the loop over the rows: those in `front` are read, and stored
-pub record RowsTo (m count : ℕ) (x : Read (List ℕ)) (s old new : List ℕ) (from d : ℕ) : Type 0 where
+pub record RowsTo (m first count : ℕ) (s₀ s old new : List ℕ) (from left : ℕ) : Type 0 where
   pub front : List ℕ
-  pub within : d ≤ count
-  pub short : from ≤ carriedBytes * d
-  pub size : length front ≡ from
-  pub reads : x ≡ after front (readRows m (count - d) s)
-  pub stored : new ≡ sets old 0 front
+  pub short : from + carriedBytes * left ≤ carriedBytes * maxWidth
+  pub size : first * bytesFor m + length front ≡ from
+  pub reads : readRows m count s₀ ≡ after front (readRows m left s)
+  pub stored : new ≡ sets old (first * bytesFor m) front
   pub kept : length new ≡ length old
 
-pub rows-none : (m count : ℕ) (s old : List ℕ) → RowsTo m count (readRows m count s) s old old 0 0
-rows-none m count s old =
-    let z : count - 0 ≡ count = omega arith in record {
-      front = [];
-      within = omega arith;
-      short = omega arith;
-      size = refl;
-      reads = rw z (after-nil (readRows m count s));
-      stored = refl;
-      kept = refl;
-    }
+-- the first row has its place in the table
+pub row-place : (m first count size : ℕ) → m ≤ maxWidth → first + count ≤ m → size ≡ bytesFor m → first * size + carriedBytes * count ≤ carriedBytes * maxWidth
+row-place m first count size small h e =
+    let w : size ≤ carriedBytes = omega arith in
+    omega (arith, mul-le-mul-left first w, mul-comm first carriedBytes)
 
-module _ {m count from d : ℕ} {x : Read (List ℕ)} {s old new : List ℕ} (to : RowsTo m count x s old new from d) where
-  row-left : d < count → count - d ≡ suc (count - (d + 1))
+pub rows-none : (m first count size : ℕ) (s old : List ℕ) → m ≤ maxWidth → first + count ≤ m → size ≡ bytesFor m → RowsTo m first count s s old old (first * size) count
+rows-none m first count size s old small h e = record {
+  front = [];
+  short = row-place m first count size small h e;
+  size = rw e (add-zero (first * bytesFor m));
+  reads = after-nil (readRows m count s);
+  stored = refl;
+  kept = refl;
+}
+
+module _ {m first count from left : ℕ} {s₀ s old new : List ℕ} (to : RowsTo m first count s₀ s old new from left) where
+  row-left : 0 < left → left ≡ suc (left - 1)
   row-left h = omega arith
 
-  pub rows-refused : {f : Fault} → d < count → readRow m s ≡ refused f → RowsRead x (refused f) old new
+  pub rows-refused : {f : Fault} → 0 < left → readRow m s ≡ refused f → RowsRead m first count s₀ (refused f) old new
   unfolding readRows
   rows-refused {f} h e =
-      let q : x ≡ refused f = rw (row-left h) at (to .reads) ∙ rw e in
+      let q : readRows m count s₀ ≡ refused f = rw (row-left h) at (to .reads) ∙ rw e in
       record { ends = sym (ap endOf q); stores = λ t rest g. no-value (sym q ∙ g) }
 
-  pub rows-more : {ps r bytes next : List ℕ} → m ≤ maxWidth → d < count → readRow m s ≡ got ps r → bytes ≡ fromCoords carriedBytes m (isPlace ps) →
-      next ≡ sets new from (take (bytesFor m) bytes) → length next ≡ length new → RowsTo m count x r old next (from + bytesFor m) (d + 1)
+  pub rows-more : {ps r bytes next : List ℕ} → m ≤ maxWidth → 0 < left → readRow m s ≡ got ps r → bytes ≡ fromCoords carriedBytes m (isPlace ps) →
+      next ≡ sets new from (take (bytesFor m) bytes) → length next ≡ length new → RowsTo m first count s₀ r old next (from + bytesFor m) (left - 1)
   unfolding readRows
   rows-more {ps} {r} small h e b n k =
       let size = length-from (bytesFor m) m (isPlace ps) in
       let short = to .short in record {
         front = to .front ++ rowOf m ps;
-        within = omega arith;
         short = omega arith;
-        size = rw (length-append, size, to .size);
-        reads = rw (row-left h) at (to .reads) ∙ rw e (after-after (to .front) (rowOf m ps) (readRows m (count - (d + 1)) r));
-        stored = n ∙ rw (b, take-row m (isPlace ps) small, to .stored, ← to .size) (sym (sets-append old 0 (to .front) (rowOf m ps) ∙ rw zero-add));
+        size = omega (arith, length-append (to .front) (rowOf m ps), size, to .size);
+        reads = rw (row-left h) at (to .reads) ∙ rw e (after-after (to .front) (rowOf m ps) (readRows m (left - 1) r));
+        stored = n ∙ rw (b, take-row m (isPlace ps) small, to .stored, ← to .size) (sym (sets-append old (first * bytesFor m) (to .front) (rowOf m ps)));
         kept = k ∙ to .kept;
       }
 
-  pub rows-done : count ≤ d → RowsRead x (got 0 s) old new
+  pub rows-done : left ≤ 0 → RowsRead m first count s₀ (got 0 s) old new
   unfolding readRows
   rows-done h =
-      let z : count - d ≡ 0 = omega arith in
-      let q : x ≡ got (to .front ++ []) s = rw z at (to .reads) in record {
+      let z : left ≡ 0 = omega arith in
+      let q : readRows m count s₀ ≡ got (to .front ++ []) s = rw z at (to .reads) in record {
         ends = sym (ap endOf q);
         stores = λ t rest g. (let e : to .front ≡ t = sym (append-nil (to .front)) ∙ (cc (sym q ∙ g)) in rw (← e) (to .stored));
       }
@@ -325,21 +341,21 @@ module _ (s old : List ℕ) where
     unfolding readCard
     card-is q = rw (head, q)
 
-    pub card-rows : {f : Fault} → refused f ≡ endOf (readRows m m rows) → Answered s old (record { fault = f; value = 0 }) old
-    card-rows e = refusal (card-is (end-refused (readRows m m rows) (sym e)))
+    pub card-rows : {f : Fault} → endOf (readRows m m rows) ≡ refused f → Answered s old (record { fault = f; value = 0 }) old
+    card-rows e = refusal (card-is (end-refused (readRows m m rows) e))
 
-    pub card-tail : {v end : ℕ} → got v (drop end s) ≡ endOf (readRows m m rows) → end < length s → Answered s old (record { fault = CardTail; value = 0 }) old
+    pub card-tail : {v end : ℕ} → endOf (readRows m m rows) ≡ got v (drop end s) → end < length s → Answered s old (record { fault = CardTail; value = 0 }) old
     card-tail {end = end} e h =
-        let (t, q) = end-got (readRows m m rows) (sym e) in
+        let (t, q) = end-got (readRows m m rows) e in
         refusal (card-is q ∙ ended-more m end t s h)
 
-    pub card-done : {v end : ℕ} {r : Read ℕ} {new : List ℕ} → got v (drop end s) ≡ endOf (readRows m m rows) → length s ≤ end →
-        RowsRead (readRows m m rows) r old new → Answered s old (record { fault = None; value = m }) new
+    pub card-done : {v end : ℕ} {r : Read ℕ} {new : List ℕ} → endOf (readRows m m rows) ≡ got v (drop end s) → length s ≤ end →
+        RowsRead m 0 m rows r old new → Answered s old (record { fault = None; value = m }) new
     card-done {end = end} e h f =
-        let (t, q) = end-got (readRows m m rows) (sym e) in
+        let (t, q) = end-got (readRows m m rows) e in
         let c : readCard (length old) s ≡ got (record { width = m; bytes = t }) [] = card-is q ∙ ended-all m end t s h in
         let lent = head-parts (length old) s m rows head .lent in
         let fits : length t ≤ length old = omega (arith, rows-table m m rows t (drop end s) q .size, lent .fits) in record {
           answers = sym (ap readAnswer c);
-          leaves = f .stores t (drop end s) q ∙ sets-front old t fits ∙ sym (ap (λ x. readInto x old) c);
+          leaves = f .stores t (drop end s) q ∙ ap (λ k. sets old k t) (zero-mul (bytesFor m)) ∙ sets-front old t fits ∙ sym (ap (λ x. readInto x old) c);
         }

@@ -22,7 +22,7 @@ use Rattle.card.specs.Cards.{card, Table, readCard}
 use Rattle.card.specs.Calls.{inFront, readAnswer, readInto, readCall, writeFault, writeCall, writeCard}
 use Rattle.card.specs.Statements.{Bytes, TableTrip, widthRead, tableRead, CardTrip, CardLaws, CardLengths, CarriedCards}
 use Rattle.card.proofs.Numbers.{read-written, written-read}
-use Rattle.card.proofs.Trips.{rows-read, rows-written, card-read, CardRead, card-written}
+use Rattle.card.proofs.Trips.{rows-placed, rows-read, rows-written, card-read, CardRead, card-written}
 use Rattle.card.proofs.Lengths.{card-le, ones-table, ones-longest}
 use Rattle.card.proofs.Refusals.{card-refusals}
 
@@ -108,6 +108,7 @@ card-laws = record {
   rows = λ m h. record {
     readWritten = λ table start count rest o. rows-read m table start count rest h o;
     writtenRead = λ table start count s rest small e. rows-written m table start count s rest small e .areRows;
+    inPlace = rows-placed m;
   };
   tables = tables;
   cards = cards;

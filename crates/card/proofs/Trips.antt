@@ -1,16 +1,16 @@
 -- Laws of rows and cards that are written and read.
--- Ranges: the bytes of a range of rows, row by row.
+-- Ranges: the bytes of a range of rows, row by row, and stored at their own place.
 -- Rows: a range written is read as it was; a range read is written as it was, and its rows are operands.
 -- Cards: a table's card is read as the table; a card read is the card of its table.
 use mathlib.Core.Path.{_≡_, refl, sym, ap, _∙_}
 use mathlib.Core.List.{List, [], _∷_, _++_, append-assoc, append-nil}
 use mathlib.Core.Bool.{Bool, true, false, true≢false}
-use Prim.Native.Nat.{ℕ, zero, suc, _+_, _*_, _<_, _≤_}
-use native.Mathlib.Nat.{zero-mul, suc-mul}
+use Prim.Native.Nat.{ℕ, zero, suc, _+_, _-_, _*_, _<_, _≤_}
+use native.Mathlib.Nat.{zero-mul, suc-mul, add-mul, mul-le-mul-right}
 use native.Mathlib.Numerals.{add-one}
 use native.Mathlib.Omega.{arith}
-use lib.ListN.{length, take, drop, length-append}
-use lib.Seq.{take-add, take-all, take-take, take-at, drop-at, drop-drop, drop-append-add}
+use lib.ListN.{length, take, drop, length-append, length-drop, take-append-drop}
+use lib.Seq.{sets, sets-eq, take-add, take-all, take-take, take-at, take-append-le, length-take-le, drop-at, drop-drop, drop-append-add, drop-append-le}
 use lib.Dec.{ltb, eqb}
 use borrow.Author.Tests.{lt-ltb, le-ltb, ltb-false, eqb-true}
 use Rattle.gf2.specs.Operands.{maxWidth, bytesFor, IsOperand, choose}
@@ -56,6 +56,46 @@ module _ (m : ℕ) (table : List ℕ) (start : ℕ) where
 pub range-all : (m : ℕ) (table : List ℕ) → length table ≡ m * bytesFor m → rowRange m table 0 m ≡ table
 unfolding rowRange
 range-all m table h = rw zero-mul (take-all (m * bytesFor m) table (omega arith))
+
+-- a row within the front of a list
+front-row : (w k : ℕ) (x y : List ℕ) → k + w ≤ length x → take w (drop k (x ++ y)) ≡ take w (drop k x)
+front-row w k x y h =
+    ap (take w) (drop-append-le k x y (omega arith)) ∙ take-append-le w (drop k x) y (omega (arith, length-drop k x))
+
+-- the rows of a range, stored at their own place, are those of the table
+module _ (m : ℕ) (table old : List ℕ) (start count : ℕ) (has : (start + count) * bytesFor m ≤ length table) (fits : (start + count) * bytesFor m ≤ length old) where
+  both-parts : (start + count) * bytesFor m ≡ start * bytesFor m + count * bytesFor m
+  both-parts = add-mul start count (bytesFor m)
+
+  range-size : length (rowRange m table start count) ≡ count * bytesFor m
+  unfolding rowRange
+  range-size = length-take-le (count * bytesFor m) (drop (start * bytesFor m) table) (omega (arith, length-drop (start * bytesFor m) table, both-parts))
+
+  range-rest : drop (start * bytesFor m) table ≡ rowRange m table start count ++ drop (count * bytesFor m) (drop (start * bytesFor m) table)
+  unfolding rowRange
+  range-rest = sym (take-append-drop (count * bytesFor m) (drop (start * bytesFor m) table))
+
+  -- row d of a list in which the range starts at its own place
+  range-row : (d : ℕ) → start ≤ d → d < start + count → (l rest : List ℕ) → drop (start * bytesFor m) l ≡ rowRange m table start count ++ rest →
+      row m l d ≡ take (bytesFor m) (drop ((d - start) * bytesFor m) (rowRange m table start count))
+  unfolding row
+  range-row d low high l rest e =
+      let split : start + (d - start) ≡ d = omega arith in
+      let at : start * bytesFor m + (d - start) * bytesFor m ≡ d * bytesFor m = sym (add-mul start (d - start) (bytesFor m)) ∙ ap (λ k. k * bytesFor m) split in
+      let within : (d - start) * bytesFor m + bytesFor m ≤ count * bytesFor m = rw (← suc-mul) (mul-le-mul-right {m = suc (d - start)} {n = count} (bytesFor m) (omega arith)) in
+      ap (λ k. take (bytesFor m) (drop k l)) (sym at) ∙ ap (take (bytesFor m)) (sym (drop-drop ((d - start) * bytesFor m) (start * bytesFor m) l))
+      ∙ ap (λ s. take (bytesFor m) (drop ((d - start) * bytesFor m) s)) e
+      ∙ front-row (bytesFor m) ((d - start) * bytesFor m) (rowRange m table start count) rest (omega (arith, range-size))
+
+  pub rows-placed : (d : ℕ) → start ≤ d → d < start + count → row m (sets old (start * bytesFor m) (rowRange m table start count)) d ≡ row m table d
+  rows-placed d low high =
+      let range = rowRange m table start count in
+      let i = start * bytesFor m in
+      let front : length (take i old) ≡ i = length-take-le i old (omega (arith, both-parts)) in
+      let stored : drop i (sets old i range) ≡ range ++ drop (i + length range) old =
+      ap (drop i) (sets-eq range old i (omega (arith, range-size, both-parts)) ∙ append-assoc (take i old) range (drop (i + length range) old)) ∙ drop-at (take i old) (range ++ drop (i + length range) old) i front in
+      range-row d low high (sets old i range) _ stored
+      ∙ sym (range-row d low high table _ range-rest)
 
 pub rows-read : (m : ℕ) (table : List ℕ) (start count : ℕ) (rest : List ℕ) → m ≤ maxWidth →
     ((d : ℕ) → start ≤ d → d < start + count → IsOperand (bytesFor m) m (row m table d)) →

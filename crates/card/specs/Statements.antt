@@ -4,7 +4,9 @@
 use mathlib.Core.Path.{_≡_}
 use mathlib.Core.List.{List, [], _∷_, _++_}
 use Prim.Native.Nat.{ℕ, zero, suc, _+_, _*_, _<_, _≤_}
-use lib.ListN.{length, getD, take}
+use lib.ListN.{length, take}
+use lib.Seq.{sets}
+pub use Rattle.gf2.specs.Coordinates.{Bytes}
 use Rattle.gf2.specs.Operands.{maxWidth, bytesFor, ones, IsOperand}
 use Rattle.gf2.specs.Tables.{row, IsTable}
 use Rattle.operand.specs.declared.fault.Fault.the-variants.{None}
@@ -13,10 +15,6 @@ use Rattle.card.specs.Numbers.{number, numberLimit, got, readNumber}
 use Rattle.card.specs.Rows.{rowsCard, rowRange, readRows}
 use Rattle.card.specs.Cards.{card, longest}
 use Rattle.card.specs.Calls.{inFront, readCall, readTable, writeCall, writeCard}
-
--- every element of a list is a byte
-abbrev pub Bytes : List ℕ → Type 0
-Bytes l = (b : ℕ) → getD l b 0 < 256
 
 pub record NumberTrips : Type 0 where
   pub readWritten : (n : ℕ) (rest : List ℕ) → n < numberLimit → readNumber (number n ++ rest) ≡ got n rest
@@ -30,6 +28,10 @@ pub record RowTrips (m : ℕ) : Type 0 where
   pub writtenRead : (table : List ℕ) (start count : ℕ) (s rest : List ℕ) → Bytes s →
       readRows m count s ≡ got (rowRange m table start count) rest →
       s ≡ rowsCard m table start count ++ rest
+  -- stored at their own place of a buffer that has it, they are the rows of the table
+  pub inPlace : (table old : List ℕ) (start count : ℕ) → (start + count) * bytesFor m ≤ length table → (start + count) * bytesFor m ≤ length old →
+      (d : ℕ) → start ≤ d → d < start + count →
+      row m (sets old (start * bytesFor m) (rowRange m table start count)) d ≡ row m table d
 
 -- a table of width m and its card
 pub record TableTrip (m : ℕ) (table : List ℕ) : Type 0 where

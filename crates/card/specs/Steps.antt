@@ -1,21 +1,21 @@
--- What the code's steps through a card say: a place in its bytes stands for the bytes that are left from there.
+-- Inner definitions, which no demand cites: what the code's steps through a card say.
+-- Reading: a place in a card's bytes stands for the bytes that are left from there.
+-- Writing: bytes are put at a place of a buffer, and the place after them is said.
 use mathlib.Core.Path.{_≡_}
 use mathlib.Core.List.{List}
-use Prim.Native.Nat.{ℕ, _-_, _<_, _≤_}
-use lib.ListN.{drop}
+use Prim.Native.Nat.{ℕ, _+_, _*_, _<_, _≤_}
+use lib.ListN.{length, drop}
 use lib.Seq.{sets}
-use Rattle.gf2.specs.Operands.{carriedBytes, fromCoords}
+use Rattle.gf2.specs.Coordinates.{coord}
+use Rattle.gf2.specs.Operands.{maxWidth, bytesFor, carriedBytes, fromCoords}
+use Rattle.gf2.specs.Tables.{row}
+use Rattle.limbs.specs.Limbs.{carriedLimbs, limbCoord}
 use Rattle.card.specs.Numbers.{Read, refused, got}
-use Rattle.card.specs.Rows.{places, isPlace}
+use Rattle.card.specs.Rows.{places, isPlace, readRows}
+use Rattle.card.specs.Cards.{longest}
 use Rattle.card.specs.declared.reading.Step.{Step}
 use Rattle.card.specs.declared.reading.Step.the-variants.{Got, Refused}
 use Rattle.card.specs.declared.reading.Row.{Row}
-
--- r is the first place from `from` on where f isn't 0, or m or above where there is none below m: what is left from there is the same
-pub record Begins (m : ℕ) (f : ℕ → ℕ) (from r : ℕ) : Type 0 where
-  pub above : from ≤ r
-  pub same : places f r (m - r) ≡ places f from (m - from)
-  pub isOne : r < m → f r ≡ 0 → ⊥
 
 -- a value and where it ends
 abbrev pub told : List ℕ → Step → Read ℕ
@@ -40,7 +40,25 @@ abbrev pub endOf : Read (List ℕ) → Read ℕ
 endOf (refused f) = refused f
 endOf (got t rest) = got 0 rest
 
--- reading rows: x is what there is to be read, r what the code says; the bytes of rows without fault are stored in front
-pub record RowsRead (x : Read (List ℕ)) (r : Read ℕ) (old new : List ℕ) : Type 0 where
-  pub ends : r ≡ endOf x
-  pub stores : (t rest : List ℕ) → x ≡ got t rest → new ≡ sets old 0 t
+-- reading `count` rows from s: r is what the code says; rows without fault are stored in the table, from its row `first` on
+pub record RowsRead (m first count : ℕ) (s : List ℕ) (r : Read ℕ) (old new : List ℕ) : Type 0 where
+  pub ends : r ≡ endOf (readRows m count s)
+  pub stores : (t rest : List ℕ) → readRows m count s ≡ got t rest → new ≡ sets old (first * bytesFor m) t
+
+-- bytes are put at a place of a buffer, as far as it goes, and r is the place after them
+pub record Put (at : ℕ) (bytes : List ℕ) (r : ℕ) (old new : List ℕ) : Type 0 where
+  pub ends : r ≡ at + length bytes
+  pub stored : new ≡ sets old at bytes
+
+-- bytes at a place end within the longest card
+pub record InCard (at : ℕ) (bytes : List ℕ) : Type 0 where
+  pub within : at + length bytes ≤ longest maxWidth
+
+-- the places of the ones of a row that is carried in limbs
+abbrev pub limbOnes : List ℕ → List ℕ
+limbOnes x = places (limbCoord x) 0 (64 * carriedLimbs)
+
+-- a table that can be written: no row has a bit at the width or above
+pub record Writable (m : ℕ) (table : List ℕ) : Type 0 where
+  pub greatest : m ≤ maxWidth
+  pub clear : (d i : ℕ) → d < m → m ≤ i → coord (row m table d) i ≡ 0

@@ -1,15 +1,14 @@
 // Reading a card, in byte order. A part is read from a place in the card on; the code says its value and the place after it, or a fault.
 ghost use mathlib.Core.Path.{_≡_};
-ghost use Prim.Native.Nat.{_^_, _<_, _≤_};
+ghost use Prim.Native.Nat.{_+_, _≤_};
 ghost use lib.ListN.{drop};
 ghost use Rattle.gf2.specs.Operands.{maxWidth};
 ghost use Rattle.card.specs.Numbers.{readNumber};
-ghost use Rattle.card.specs.Rows.{readPlaces, readRow, readRows};
+ghost use Rattle.card.specs.Rows.{readPlaces, readRow};
 ghost use Rattle.card.specs.Cards.{lentFault, readWidth, readHead};
 ghost use Rattle.card.specs.Calls.{readCall, readTable};
 ghost use Rattle.card.specs.Steps.{told, toldRow, carriedPlaces, RowsRead};
 use crate::CardAnswer;
-use crate::refused;
 use crate::store;
 use operand::Fault;
 use operand::Operand;
@@ -51,14 +50,6 @@ fn number_at(card: &[u8], at: usize) -> Step
     }
 }
 
-// The value of bit j of a byte.
-fn bit_value(j: usize) -> u8
-    requires { ⌜ j < 8 ⌝ }
-    ensures { λ r. ⌜ r ≡ 2 ^ j ⌝ }
-{
-    1u8 << j
-}
-
 // A row of `count` ones. Each place is above the ones before, so that its bit is still 0.
 fn places_at(card: &[u8], at: usize, width: usize, count: usize) -> Row
     requires { ⌜ width ≤ maxWidth ⌝ }
@@ -84,7 +75,7 @@ fn places_at(card: &[u8], at: usize, width: usize, count: usize) -> Row
                     };
                 }
                 let place = free + step;
-                bytes[place / 8] = bytes[place / 8] ^ bit_value(place % 8);
+                bytes[place / 8] = bytes[place / 8] ^ (1u8 << (place % 8));
                 free = place + 1;
                 next = then;
             }
@@ -117,16 +108,23 @@ fn row_at(card: &[u8], at: usize, width: usize) -> Row
     }
 }
 
-// Where `count` rows end; their bytes go to the front of the table.
-fn rows_at(card: &[u8], at: usize, width: usize, count: usize, table: &mut [u8]) -> Step
-    requires { ⌜ (width ≤ maxWidth) × (count ≤ maxWidth) ⌝ }
-    ensures { λ r. ⌜ RowsRead (readRows width count (drop at (now (card .entry)))) (told (now (card .entry)) r) (now (table .entry)) (now (table .exit)) ⌝ }
+// Where the rows from `first` on end, `count` of them; their bytes go to their own place in the table.
+fn rows_at(
+    card: &[u8],
+    at: usize,
+    width: usize,
+    first: usize,
+    count: usize,
+    table: &mut [u8],
+) -> Step
+    requires { ⌜ (width ≤ maxWidth) × (first + count ≤ width) ⌝ }
+    ensures { λ r. ⌜ RowsRead width first count (drop at (now (card .entry))) (told (now (card .entry)) r) (now (table .entry)) (now (table .exit)) ⌝ }
 {
     let size = operand::bytes_for(width);
     let mut next = at;
-    let mut from = 0;
-    let mut d = 0;
-    while d < count {
+    let mut from = first * size;
+    let mut left = count;
+    while 0 < left {
         let row = row_at(card, next, width);
         let end = row.end;
         match end {
@@ -140,7 +138,7 @@ fn rows_at(card: &[u8], at: usize, width: usize, count: usize, table: &mut [u8])
             }
         }
         from += size;
-        d += 1;
+        left -= 1;
     }
     Step::Got(0, next)
 }
@@ -196,15 +194,18 @@ pub fn read(card: &[u8], table: &mut [u8]) -> CardAnswer
     ensures table { λ _. ⌜ now (table .exit) ≡ readTable (now (card .entry)) (now (table .entry)) ⌝ }
 {
     match head_at(card, table.len()) {
-        Step::Refused(f) => refused(f),
+        Step::Refused(f) => CardAnswer { fault: f, value: 0 },
         Step::Got(width, rows) => {
             let mut spare = [0u8; 1];
-            match rows_at(card, rows, width, width, &mut spare) {
-                Step::Refused(f) => refused(f),
+            match rows_at(card, rows, width, 0, width, &mut spare) {
+                Step::Refused(f) => CardAnswer { fault: f, value: 0 },
                 Step::Got(_, end) => if end < card.len() {
-                    refused(Fault::CardTail)
+                    CardAnswer {
+                        fault: Fault::CardTail,
+                        value: 0,
+                    }
                 } else {
-                    rows_at(card, rows, width, width, table);
+                    rows_at(card, rows, width, 0, width, table);
                     CardAnswer {
                         fault: Fault::None,
                         value: width,

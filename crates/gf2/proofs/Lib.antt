@@ -7,6 +7,8 @@
 -- TrailingZeros: the zeros below the lowest one of a number.
 -- Loops: the invariant of a loop that fills a list.
 -- Operands: laws of operands as bytes, by their coordinates.
+-- Decisions: each test of the definitions is true exactly when its proposition holds.
+-- Carrying: operands of W bytes and the same operands carried.
 -- Index: the indices 0 .. p, added and subtracted modulo p + 1.
 -- IndexSums: sums over all indices.
 -- Vector: vectors of bits: turn, basis, linear combination, sum.
@@ -28,6 +30,8 @@ pub mod Remainders
 pub mod TrailingZeros
 pub mod Loops
 pub mod Operands
+pub mod Decisions
+pub mod Carrying
 pub mod Index
 pub mod IndexSums
 pub mod Vector

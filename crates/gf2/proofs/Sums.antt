@@ -80,3 +80,13 @@ every-not n test k l h = go (every n test) refl
     go : (b : Bool) → every n test ≡ b → b ≡ false
     go true e = sym (every-at n test e k l) ∙ h
     go false e = refl
+
+-- a test that fails somewhere
+pub every-fails : (n : ℕ) (test : ℕ → Bool) → every n test ≡ false → (i : ℕ) × (i < n) × (test i ≡ false)
+unfolding every
+every-fails zero test e = absurd (true≢false e)
+every-fails (suc n) test e = go (every n test) refl e (every-fails n test)
+  where
+    go : (a : Bool) → every n test ≡ a → (a && test n) ≡ false → (every n test ≡ false → (i : ℕ) × (i < n) × (test i ≡ false)) → (i : ℕ) × (i < suc n) × (test i ≡ false)
+    go true p e h = (n, omega arith, e)
+    go false p e h = let w = h p in (w .0, (let l = w .1 in omega arith), w .2)

@@ -1,8 +1,8 @@
 -- Operands as lists of bytes: their form, zero, one, the sum, the turn.
 -- An operand may have more bytes than its width needs: inside the program each is carried as `carriedBytes` bytes.
 use mathlib.Core.Path.{_≡_}
-use mathlib.Core.Bool.{Bool, true, false, _||_}
-use mathlib.Core.List.{List}
+use mathlib.Core.Bool.{Bool, true, false, _&&_, _||_}
+use mathlib.Core.List.{List, [], _∷_}
 use Prim.Native.Nat.{ℕ, _+_, _-_, _*_, _/_, _%_, _<_, _≤_}
 use lib.ListN.{length, getD}
 use lib.Dec.{ltb, eqb}
@@ -31,9 +31,20 @@ pub record IsOperand (n m : ℕ) (a : List ℕ) : Type 0 where
   pub byte : (b : ℕ) → getD a b 0 < 256
   pub clear : (i : ℕ) → m ≤ i → coord a i ≡ 0
 
+-- "bit set at m or above"
+abbrev pub HasHighBit : ℕ → List ℕ → Type 0
+HasHighBit m a = (i : ℕ) × (m ≤ i) × (coord a i ≡ 1)
+
 -- "bits at m and above are 0", as a test
 unfoldable pub isClear : ℕ → List ℕ → Bool
 isClear m a = every (8 * length a) (λ i. ltb i m || eqb (coord a i) 0)
+
+-- the same bytes, as a test
+unfoldable pub same : List ℕ → List ℕ → Bool
+same [] [] = true
+same [] (y ∷ ys) = false
+same (x ∷ xs) [] = false
+same (x ∷ xs) (y ∷ ys) = eqb x y && same xs ys
 
 -- x where the test is true, else y
 abbrev pub choose : {A : Type 0} → Bool → A → A → A
@@ -47,6 +58,10 @@ below m f i = choose (ltb i m) (f i) 0
 -- the operand of width m, in n bytes, whose coordinates are f 0, .., f (m - 1), each modulo 2
 unfoldable pub fromCoords : ℕ → ℕ → (ℕ → ℕ) → List ℕ
 fromCoords n m f = pack n (below m f)
+
+-- "Inside the program an operand is carried as 32 bytes": the coordinates of W bytes
+abbrev pub carriedBy : List ℕ → List ℕ
+carriedBy a = pack carriedBytes (coord a)
 
 -- "Zero is a fixed operand of every width"
 unfoldable pub zeroes : ℕ → ℕ → List ℕ

@@ -4,10 +4,18 @@ ghost use mathlib.Core.Path.{_≡_};
 ghost use Prim.Native.Nat.{_+_};
 ghost use lib.ListN.{length};
 ghost use Rattle.gf2.specs.Coordinates.{coord, pack};
-ghost use Rattle.gf2.specs.Operands.{carriedBytes, fromCoords, isClear};
+ghost use Rattle.gf2.specs.Operands.{bytesFor, carriedBytes, fromCoords, isClear};
 use crate::BYTES;
 use crate::LIMBS;
 use crate::limbs;
+
+// The number of bytes of an operand: the width over 8, rounded up.
+pub fn bytes_for(width: usize) -> usize
+    ensures { λ r. ⌜ r ≡ bytesFor width ⌝ }
+{
+    let whole = width / 8;
+    if width % 8 == 0 { whole } else { whole + 1 }
+}
 
 // The sum of the coordinates, modulo 2.
 pub fn xored(x: [u8; BYTES], y: [u8; BYTES]) -> [u8; BYTES]

@@ -2,7 +2,9 @@
 // The three sizes of the house stand here.
 mod bytes;
 mod limbs;
+mod rows;
 
+pub use bytes::bytes_for;
 pub use bytes::carried;
 pub use bytes::cleared;
 pub use bytes::copy_out;
@@ -16,6 +18,10 @@ pub use limbs::raise_pair;
 pub use limbs::to_bytes;
 pub use limbs::to_limbs;
 pub use limbs::xored_limbs;
+pub use rows::next_one;
+pub use rows::ones_in;
+pub use rows::ones_of;
+pub use rows::row_limbs;
 
 // The greatest width.
 pub const MAX_WIDTH: usize = 255;

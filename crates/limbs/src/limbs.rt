@@ -63,8 +63,8 @@ fn few(s: &[u8]) -> u64
 }
 
 // Limb w of a slice, 0 past its end. Where the slice ends in it, its last eight bytes are read and shifted down.
-fn slice_limb(s: &[u8], w: usize) -> u64
-    requires { ⌜ w < carriedLimbs ⌝ }
+pub(crate) fn slice_limb(s: &[u8], w: usize) -> u64
+    requires { ⌜ w < 2 ^ 60 ⌝ }
     ensures { λ r. ⌜ r ≡ value 64 (λ j. coord (now (s .entry)) (w * 64 + j)) ⌝ }
 {
     let b = w * 8;

@@ -18,8 +18,7 @@ use Rattle.operand.specs.declared.OperandAnswer.{OperandAnswer}
 use Rattle.operand.specs.Calls.{turnCall}
 use Rattle.table.specs.Rows.{Shaped}
 use Rattle.product.specs.declared.chain.State.{State}
-use Rattle.product.specs.Kernels.{Sound, carried}
-use Rattle.product.specs.ChainStates.{chainOf, stateOf, Underway}
+use Rattle.product.specs.Inner.{Sound, carried, chainOf, stateOf, Underway}
 use Rattle.product.proofs.SoundOperands.{is-carried, made-sound, turn-value, turn-made}
 
 -- log2 by one halving more; fuel enough makes no difference

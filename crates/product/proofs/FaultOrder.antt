@@ -29,7 +29,9 @@ use Rattle.table.specs.Judgements.{same, rowsFault, shapeFault, rowZeroFault, r
 use Rattle.table.proofs.Searches.{none-true, when-none, same-correct, first-none}
 use Rattle.table.proofs.Shapes.{shape-fine}
 use Rattle.product.specs.declared.InverseAnswer.{InverseAnswer}
-use Rattle.product.specs.Kernels.{Sound, carried}
+use Rattle.product.specs.Inner.{Sound, Serves, methodFault, carried}
+use Rattle.product.specs.declared.kernel.Method.{Method}
+use Rattle.product.specs.declared.kernel.Method.the-variants.{Plain, Reduced}
 use Rattle.product.specs.Calls.{counted}
 use Rattle.product.specs.Judgements.{productFault, reducedFault, zeroFault, inverseFault}
 
@@ -175,6 +177,10 @@ module _ (m : ℕ) (t : List ℕ) (bytes : Bytes t) (a : Operand) (size : length
         let q = or-both _ _ (z .1) in
         let f = product-fine (p .0) in
         (f .0, symmetric-fine m t (f .0 .least) (none-is _ (z .0)) (none-is _ (q .0)), f .1, f .2)
+
+    pub method-fine : (how : Method) → isNone (methodFault how m t a b) ≡ true → Serves how m t × Sound m a × Sound m b
+    method-fine Plain e = product-fine e
+    method-fine Reduced e = let f = reduced-fine e in ((f .0, f .1), f .2, f .3)
 
 -- the answer of an inverse whose fault is g, without and with a fault
 pub inverse-answered : (g : Fault) {m n : ℕ} {x : List ℕ} {r : InverseAnswer} → isNone g ≡ true → r ≡ (record { fault = None; value = carried m x; count = n }) →

@@ -6,20 +6,22 @@ use Prim.Native.Nat.{ℕ, _+_, _-_, _*_, _%_, _<_, _≤_}
 use native.Mathlib.Nat.{add-zero, zero-add, mod-lt, mod-mod}
 use native.Mathlib.Decide.{decLt}
 use native.Mathlib.Omega.{arith}
+use lib.ListN.{length}
 use Rattle.gf2.specs.Sums.{sum}
 use Rattle.gf2.specs.Coordinates.{coord}
-use Rattle.gf2.specs.Operands.{carriedBytes, minus, below}
+use Rattle.gf2.specs.Operands.{carriedBytes, minus, choose, below}
 use Rattle.gf2.proofs.Sums.{sum-ext, sum-plus, sum-none, sum-split, sum-swap, sum-mod}
 use Rattle.gf2.proofs.Operands.{minus-below, minus-round, below-in, below-out, from-ext}
 use Rattle.operand.specs.declared.Operand.{Operand}
 use Rattle.operand.specs.declared.OperandAnswer.{OperandAnswer}
 use Rattle.limbs.specs.Limbs.{carriedLimbs, limbCoord, packLimbs}
 use Rattle.operand.specs.Calls.{sumCall}
-use Rattle.limbs.proofs.LimbCoords.{limb-pack}
+use Rattle.limbs.proofs.LimbCoords.{limb-pack, length-limbs}
 use Rattle.limbs.proofs.TurnLimbs.{raised-in, raised-out}
-use Rattle.product.specs.Kernels.{carried}
-use Rattle.product.specs.Cells.{twiceLimbs, places, cell, cellRaised, Within, IsWidth}
-use Rattle.product.proofs.SoundOperands.{made, sum-parts, sum-made}
+use Rattle.product.specs.Inner.{Within, IsWidth, carried, made, gatheredAt}
+use Rattle.scatter.specs.Cells.{twiceLimbs, places, HasPlaces, cell, cellRaised, spreadSum, seenFrom}
+use Rattle.scatter.proofs.CellLaws.{seen-at, places-there}
+use Rattle.product.proofs.SoundOperands.{sum-parts, sum-made}
 
 -- place by place: of the two parts, one has the coordinate that comes to place i and the other has 0 there
 module _ (m : ℕ) (g : List ℕ) (fits : m ≤ places) (within : Within m g) where
@@ -62,12 +64,12 @@ module _ (m : ℕ) (g : List ℕ) (fits : m ≤ places) (within : Within m g) wh
       ∙ add-zero _
 
 -- and as operands
-pub gathered-made : {m : ℕ} {g : List ℕ} → IsWidth m → Within m g → {all l h : List ℕ} {low round : Operand} {r : OperandAnswer}
-    → all ≡ packLimbs twiceLimbs (λ i. sum places (λ s. cellRaised g s s i))
-    → l ≡ packLimbs carriedLimbs (λ i. limbCoord all (0 + i)) → low ≡ made m (limbCoord l)
-    → h ≡ packLimbs carriedLimbs (λ i. limbCoord all (m + i)) → round ≡ made m (limbCoord h)
-    → r ≡ sumCall low round → r .value ≡ made m (λ i. sum m (λ s. cell g s (minus m i s)))
-gathered-made {m} {g} width within {all} {l} {h} ea el eo eh er e =
+pub gathered-made : {m : ℕ} {g : List ℕ} → IsWidth m → HasPlaces g → Within m g → {all l h : List ℕ} {low round : Operand} {r : OperandAnswer}
+    → all ≡ packLimbs twiceLimbs (spreadSum g)
+    → l ≡ packLimbs carriedLimbs (seenFrom all 0) → low ≡ made m (limbCoord l)
+    → h ≡ packLimbs carriedLimbs (seenFrom all m) → round ≡ made m (limbCoord h)
+    → r ≡ sumCall low round → r .value ≡ made m (gatheredAt m g)
+gathered-made {m} {g} width there within {all} {l} {h} ea el eo eh er e =
     sum-made (width .0) (width .1) (limbCoord l) (limbCoord h) eo er e
     ∙ ap (carried m) (from-ext carriedBytes m _ _ (λ i k. sum-parts _ _ (from 0 i (omega arith) k el ∙ ap (λ n. spread n % 2) (zero-add i)) (from m i (omega arith) k eh)
     ∙ ap (λ y. y % 2) (all-turned m g (omega (arith, width .1)) within i k)))
@@ -75,11 +77,13 @@ gathered-made {m} {g} width within {all} {l} {h} ea el eo eh er e =
     spread : ℕ → ℕ
     spread i = sum places (λ s. cellRaised g s s i)
 
-    from : (n i : ℕ) → n ≤ m → i < m → {x : List ℕ} → x ≡ packLimbs carriedLimbs (λ i. limbCoord all (n + i)) → limbCoord x i ≡ spread (n + i) % 2
+    from : (n i : ℕ) → n ≤ m → i < m → {x : List ℕ} → x ≡ packLimbs carriedLimbs (seenFrom all n) → limbCoord x i ≡ spread (n + i) % 2
     from n i q k p =
         let big = width .1 in
-        ap (λ z. limbCoord z i) p ∙ limb-pack carriedLimbs (λ i. limbCoord all (n + i)) i (omega arith)
-        ∙ ap (λ y. y % 2) (ap (λ z. limbCoord z (n + i)) ea ∙ limb-pack twiceLimbs spread (n + i) (omega arith)) ∙ mod-mod (spread (n + i)) 2
+        let size : length all ≡ twiceLimbs = ap length ea ∙ length-limbs twiceLimbs (spreadSum g) in
+        ap (λ z. limbCoord z i) p ∙ limb-pack carriedLimbs (seenFrom all n) i (omega arith)
+        ∙ ap (λ y. y % 2) (seen-at n all (omega arith) i ∙ ap (λ z. limbCoord z (n + i)) ea ∙ limb-pack twiceLimbs (spreadSum g) (n + i) (omega arith)) ∙ mod-mod (spreadSum g (n + i)) 2
+        ∙ ap (λ b. choose b (spread (n + i)) 0 % 2) (places-there g there)
 
 -- n rows that add e d at the places of their ones, gathered, are n rows that spread e d
 pub gathered-rows : (m n : ℕ) (line : ℕ → List ℕ) (e : ℕ → ℕ → ℕ) (g : List ℕ) → ((s i : ℕ) → i < m → cell g s i ≡ sum n (λ d. coord (line d) s * e d i) % 2)

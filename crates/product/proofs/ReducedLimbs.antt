@@ -20,10 +20,10 @@ use Rattle.gf2.proofs.Operands.{from-ext}
 use Rattle.limbs.specs.Limbs.{carriedLimbs, packLimbs}
 use Rattle.operand.specs.declared.Operand.{Operand}
 use Rattle.table.specs.Rows.{Shaped}
-use Rattle.product.specs.Kernels.{Sound, carried}
-use Rattle.product.specs.Cells.{cell, Added}
-use Rattle.product.proofs.SoundOperands.{made}
-use Rattle.product.proofs.KernelLaws.{metBytes, rowsTo, rows-made}
+use Rattle.product.specs.Inner.{Sound, carried, made, rowsTo, gatheredAt}
+use Rattle.product.specs.declared.kernel.Method.the-variants.{Reduced}
+use Rattle.scatter.specs.Cells.{cell, Added}
+use Rattle.product.proofs.KernelLaws.{metBytes, rows-made}
 use Rattle.gf2.proofs.Monoid.{big, big-ext}
 use Rattle.gf2.proofs.Parity.{_⊕_, bits, xor-zero, odd, odd-add, odd-mul, odd-sum, odd-true, bit, bit-odd}
 use Rattle.gf2.proofs.Index.{Ix, at, _⊹_, _⊖_, num-at, at-num, at-add, at-mod, num-minus}
@@ -123,20 +123,20 @@ halves-all (suc p) t a b two is s e =
 
 -- on limbs: what the rows 1 .. m/2 add at the places of their ones, gathered, and the diagonal
 pub halves-made : {m : ℕ} {t : List ℕ} {a b : Operand} {x y : List ℕ} (n : ℕ) {g : List ℕ} → Shaped m t → Symmetric m t → Sound m a → Sound m b
-    → x ≡ packLimbs carriedLimbs (coord (a .bytes)) → y ≡ packLimbs carriedLimbs (coord (b .bytes)) → Added (rowsTo true m t x y 1 (m / 2)) (replicate n 0) g
-    → made m (λ i. sum m (λ s. cell g s (minus m i s)) + coord (a .bytes) (minus m i 1) * coord (b .bytes) (minus m i 1)) ≡ carried m (reduced m t (a .bytes) (b .bytes))
+    → x ≡ packLimbs carriedLimbs (coord (a .bytes)) → y ≡ packLimbs carriedLimbs (coord (b .bytes)) → Added (rowsTo Reduced m t x y 1 (m / 2)) (replicate n 0) g
+    → made m (λ i. gatheredAt m g i + coord (a .bytes) (minus m i 1) * coord (b .bytes) (minus m i 1)) ≡ carried m (reduced m t (a .bytes) (b .bytes))
 halves-made {m} {t} {a} {b} n shaped s sa sb ex ey p = ap (carried m)
-    (from-ext carriedBytes m _ _ (λ i l. parts _ _ _ (rows-made sa sb ex ey true 1 (m / 2) n shaped p i l) ∙ ap (λ z. z % 2) (same i))
+    (from-ext carriedBytes m _ _ (λ i l. parts _ _ _ (rows-made sa sb ex ey Reduced 1 (m / 2) n shaped p i l) ∙ ap (λ z. z % 2) (same i))
     ∙ halves-all m t (a .bytes) (b .bytes) (shaped .least) (shaped .isTable) s (sa .operand .size))
   where
     parts : (x y d : ℕ) → x % 2 ≡ y % 2 → (x + d) % 2 ≡ (d + y) % 2
     parts x y d e = omega arith
 
-    same : (i : ℕ) → coord (a .bytes) (minus m i 1) * coord (b .bytes) (minus m i 1) + sum (m / 2) (λ k. sum m (λ s. coord (row m t (1 + k)) s * metBytes true m (1 + k) (a .bytes) (b .bytes) (minus m i s)))
+    same : (i : ℕ) → coord (a .bytes) (minus m i 1) * coord (b .bytes) (minus m i 1) + sum (m / 2) (λ k. sum m (λ s. coord (row m t (1 + k)) s * metBytes Reduced m (1 + k) (a .bytes) (b .bytes) (minus m i s)))
         ≡ halvesTo m t (a .bytes) (b .bytes) (m / 2) i
     same i = unfold halvesTo bothWays oneWay in
         ap (λ z. coord (a .bytes) (minus m i 1) * coord (b .bytes) (minus m i 1) + z)
-        (sum-ext (m / 2) _ _ (λ k l. ap (λ d. sum m (λ s. coord (row m t d) s * metBytes true m d (a .bytes) (b .bytes) (minus m i s))) (next k)))
+        (sum-ext (m / 2) _ _ (λ k l. ap (λ d. sum m (λ s. coord (row m t d) s * metBytes Reduced m d (a .bytes) (b .bytes) (minus m i s))) (next k)))
       where
         next : (k : ℕ) → 1 + k ≡ suc k
         next k = omega arith

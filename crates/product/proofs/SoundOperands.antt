@@ -1,20 +1,17 @@
 -- Operands without fault: what the calls answer for them.
-use mathlib.Core.Path.{_≡_, refl, ap, ap₂, _∙_}
+use mathlib.Core.Path.{_≡_, refl, sym, ap, ap₂, _∙_}
 use Prim.Native.Nat.{ℕ, _+_, _*_, _%_, _<_, _≤_}
-use native.Mathlib.Nat.{mod-lt, mod-mod}
+use native.Mathlib.Nat.{mod-lt, mod-mod, mod-eq-of-lt}
 use native.Mathlib.Omega.{arith}
 use Rattle.gf2.specs.Coordinates.{coord}
 use Rattle.gf2.specs.Operands.{carriedBytes, maxWidth, minus, fromCoords, added, turned, squared}
-use Rattle.gf2.proofs.Operands.{from-operand, from-ext, coord-from, length-from}
+use Rattle.gf2.proofs.Coordinates.{coord-lt}
+use Rattle.gf2.proofs.Operands.{from-operand, from-eq, from-ext, coord-from, length-from}
 use Rattle.operand.specs.declared.Operand.{Operand}
 use Rattle.operand.specs.declared.OperandAnswer.{OperandAnswer}
 use Rattle.operand.specs.Calls.{turnCall, squareCall, sumCall}
 use Rattle.operand.proofs.FaultFree.{IsWidth, turn-done, square-done, sum-done}
-use Rattle.product.specs.Kernels.{Sound, carried}
-
--- the operand of width m with the coordinates f 0, .., f (m - 1), each modulo 2
-abbrev pub made : ℕ → (ℕ → ℕ) → Operand
-made m f = carried m (fromCoords carriedBytes m f)
+use Rattle.product.specs.Inner.{Sound, carried, made}
 
 -- a width's operand has room in the carried bytes
 pub fits : (m : ℕ) → m ≤ maxWidth → m ≤ 8 * carriedBytes
@@ -26,6 +23,9 @@ valueOf r = r .value
 module _ {m : ℕ} {a : Operand} (s : Sound m a) where
   pub is-carried : a ≡ carried m (a .bytes)
   is-carried = ap (λ w. carried w (a .bytes)) (s .width)
+
+  pub is-made : a ≡ made m (coord (a .bytes))
+  is-made = is-carried ∙ ap (carried m) (from-eq carriedBytes m (coord (a .bytes)) (s .operand) (λ i l. sym (mod-eq-of-lt (coord-lt (a .bytes) i))))
 
   -- an operand of the same width, made from coordinates
   pub made-sound : {r : Operand} (f : ℕ → ℕ) → r ≡ made m f → Sound m r

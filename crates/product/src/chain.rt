@@ -1,16 +1,14 @@
 // The inverse by the chain of doublings and addings: m-1 is read in binary from its highest one,
 // and the state after each step holds a to the power 2^k - 1.
 ghost use mathlib.Core.Path.{_≡_};
-ghost use Prim.Native.Nat.{_+_, _-_, _*_, _/_, _%_, _^_, _<_};
-ghost use Rattle.gf2.specs.Operands.{maxWidth, turned};
-ghost use Rattle.gf2.specs.Products.{product};
-ghost use Rattle.gf2.specs.Inverse.{log2, adding, digits, chain, inverse, productsMade};
-ghost use Rattle.operand.specs.declared.fault.Fault.the-variants.{None};
+ghost use Prim.Native.Nat.{_+_, _-_, _*_, _/_, _%_, _^_};
+ghost use Rattle.gf2.specs.Inverse.{log2, digits, chain};
 ghost use Rattle.table.specs.Rows.{Shaped};
-ghost use Rattle.product.specs.Kernels.{Sound, carried};
-ghost use Rattle.product.specs.ChainStates.{chainOf, stateOf, Underway};
+ghost use Rattle.scatter.specs.Cells.{HasPlaces};
+ghost use Rattle.product.specs.Inner.{Sound, Ready, chainOf, stateOf, stepped, addedFrom, Underway, invertedBy};
 use crate::InverseAnswer;
-use crate::plain;
+use crate::kernel::Method;
+use crate::times;
 use operand::Fault;
 use operand::Operand;
 
@@ -34,59 +32,68 @@ fn further_digits(n: usize) -> usize
     found
 }
 
-// One doubling: t := (t turned k)·t, k := 2k, and the count one higher.
-fn doubling_step(width: usize, table: &[u8], s: State) -> State
-    requires { ⌜ Shaped width (now table) × Sound width (s .t) × (s .k < width) × (s .count < maxWidth) ⌝ }
-    ensures { λ r. ⌜ r ≡ (record { t = carried width (product width (now (table .entry)) (turned width (s .k) (s .t .bytes)) (s .t .bytes)); k = 2 * s .k; count = s .count + 1 }) ⌝ }
+// One doubling: t := (t turned k)·t, k := 2k, and the count one higher. g is scratch for the product.
+fn doubling_step(width: usize, table: &[u8], s: State, g: &mut [u64]) -> State
+    requires { ⌜ Ready width (now table) s (now g) ⌝ }
+    ensures { λ r. ⌜ r ≡ stepped width (now (table .entry)) (s .k) (s .t .bytes) (s .t .bytes) (2 * s .k) (s .count + 1) ⌝ }
 {
     let t = s.t;
     let turned = t.turn(s.k);
+    scatter::clear(g);
     State {
-        t: plain::times(width, table, turned.value, t),
+        t: times::times(Method::Plain, width, table, turned.value, t, g),
         k: 2 * s.k,
         count: s.count + 1,
     }
 }
 
 // One adding: t := (t turned 1)·a, k := k+1, and the count one higher.
-fn adding_step(width: usize, table: &[u8], a: Operand, doubled: State) -> State
-    requires { ⌜ Shaped width (now table) × Sound width a × Sound width (doubled .t) × (doubled .k < width) × (doubled .count < maxWidth) ⌝ }
-    ensures { λ r. ⌜ r ≡ (record { t = carried width (product width (now (table .entry)) (turned width 1 (doubled .t .bytes)) (a .bytes)); k = doubled .k + 1; count = doubled .count + 1 }) ⌝ }
+fn adding_step(width: usize, table: &[u8], a: Operand, doubled: State, g: &mut [u64]) -> State
+    requires { ⌜ Ready width (now table) doubled (now g) × Sound width a ⌝ }
+    ensures { λ r. ⌜ r ≡ stepped width (now (table .entry)) 1 (doubled .t .bytes) (a .bytes) (doubled .k + 1) (doubled .count + 1) ⌝ }
 {
     let t = doubled.t;
     let turned = t.turn(1);
+    scatter::clear(g);
     State {
-        t: plain::times(width, table, turned.value, a),
+        t: times::times(Method::Plain, width, table, turned.value, a, g),
         k: doubled.k + 1,
         count: doubled.count + 1,
     }
 }
 
 // The doubling of the next digit, if one is left; it hands over to the adding.
-fn double(width: usize, table: &[u8], a: Operand, s: State, unread: usize) -> State
-    requires { ⌜ Underway width (now table) a s unread 0 ⌝ }
+fn double(width: usize, table: &[u8], a: Operand, s: State, unread: usize, g: &mut [u64]) -> State
+    requires { ⌜ Underway width (now table) a s unread 0 × HasPlaces (now g) ⌝ }
     ensures { λ r. ⌜ r ≡ stateOf width (digits width (now (table .entry)) (a .bytes) (width - 1) unread (chainOf s)) ⌝ }
 {
     if unread == 0 {
         return s;
     }
-    let next = doubling_step(width, table, s);
-    add(width, table, a, next, unread - 1)
+    let next = doubling_step(width, table, s, g);
+    add(width, table, a, next, unread - 1, g)
 }
 
 // The adding of a digit, which does nothing for a 0; it hands back to the doubling.
-fn add(width: usize, table: &[u8], a: Operand, doubled: State, unread: usize) -> State
-    requires { ⌜ Underway width (now table) a doubled unread ((width - 1) / 2 ^ unread % 2) ⌝ }
-    ensures { λ r. ⌜ r ≡ stateOf width (digits width (now (table .entry)) (a .bytes) (width - 1) unread (adding width (now (table .entry)) (a .bytes) ((width - 1) / 2 ^ unread % 2) (chainOf doubled))) ⌝ }
+fn add(
+    width: usize,
+    table: &[u8],
+    a: Operand,
+    doubled: State,
+    unread: usize,
+    g: &mut [u64],
+) -> State
+    requires { ⌜ Underway width (now table) a doubled unread ((width - 1) / 2 ^ unread % 2) × HasPlaces (now g) ⌝ }
+    ensures { λ r. ⌜ r ≡ addedFrom width (now (table .entry)) (a .bytes) unread (chainOf doubled) ⌝ }
 {
     if ((width - 1) >> unread) % 2 == 0 {
-        return double(width, table, a, doubled, unread);
+        return double(width, table, a, doubled, unread, g);
     }
-    let next = adding_step(width, table, a, doubled);
-    double(width, table, a, next, unread)
+    let next = adding_step(width, table, a, doubled, g);
+    double(width, table, a, next, unread, g)
 }
 
-// The last state of the chain.
+// The last state of the chain. One scratch serves all its products.
 fn last(width: usize, table: &[u8], a: Operand) -> State
     requires { ⌜ Shaped width (now table) × Sound width a ⌝ }
     ensures { λ r. ⌜ r ≡ stateOf width (chain width (now (table .entry)) (a .bytes)) ⌝ }
@@ -97,13 +104,14 @@ fn last(width: usize, table: &[u8], a: Operand) -> State
         count: 0,
     };
     let unread = further_digits(width - 1);
-    double(width, table, a, first, unread)
+    let mut g = [0u64; scatter::ROOM];
+    double(width, table, a, first, unread, &mut g)
 }
 
 // The chain's power turned by one, with the number of products made.
 pub(crate) fn inverted(width: usize, table: &[u8], a: Operand) -> InverseAnswer
     requires { ⌜ Shaped width (now table) × Sound width a ⌝ }
-    ensures { λ r. ⌜ r ≡ (record { fault = None; value = carried width (inverse width (now (table .entry)) (a .bytes)); count = productsMade width (now (table .entry)) (a .bytes) }) ⌝ }
+    ensures { λ r. ⌜ r ≡ invertedBy width (now (table .entry)) (a .bytes) ⌝ }
 {
     let end = last(width, table, a);
     let t = end.t;

@@ -1,6 +1,8 @@
 // What the calls judge before their work: 1 to 3 over all their arguments, the lowest number first, and then the rest.
 ghost use mathlib.Core.Path.{_≡_};
-ghost use Rattle.product.specs.Judgements.{productFault, reducedFault, zeroFault, inverseFault};
+ghost use Rattle.product.specs.Judgements.{productFault, zeroFault, inverseFault};
+ghost use Rattle.product.specs.Inner.{methodFault};
+use crate::kernel::Method;
 use operand::Fault;
 use operand::Operand;
 use operand::judge_length;
@@ -8,7 +10,7 @@ use operand::judge_width;
 use operand::or_else;
 
 // A table and two operands of its width.
-pub(crate) fn judge_product(width: usize, table: &[u8], a: Operand, b: Operand) -> Fault
+fn judge_factors(width: usize, table: &[u8], a: Operand, b: Operand) -> Fault
     ensures { λ r. ⌜ r ≡ productFault width (now (table .entry)) a b ⌝ }
 {
     let m = a.width as usize;
@@ -19,12 +21,21 @@ pub(crate) fn judge_product(width: usize, table: &[u8], a: Operand, b: Operand) 
     or_else(widths, or_else(sizes, bits))
 }
 
-// The same, and the rules 4 and 5.
-pub(crate) fn judge_reduced(width: usize, table: &[u8], a: Operand, b: Operand) -> Fault
-    ensures { λ r. ⌜ r ≡ reducedFault width (now (table .entry)) a b ⌝ }
+// The same, and for the reduced product the rules 4 and 5.
+pub(crate) fn judge_product(
+    method: Method,
+    width: usize,
+    table: &[u8],
+    a: Operand,
+    b: Operand,
+) -> Fault
+    ensures { λ r. ⌜ r ≡ methodFault method width (now (table .entry)) a b ⌝ }
 {
-    let factors = judge_product(width, table, a, b);
-    or_else(factors, table::judge_symmetry(width, table))
+    let factors = judge_factors(width, table, a, b);
+    match method {
+        Method::Plain => factors,
+        Method::Reduced => or_else(factors, table::judge_symmetry(width, table)),
+    }
 }
 
 // Zero is the operand with no bit at 0 or above.

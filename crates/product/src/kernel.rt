@@ -1,48 +1,54 @@
 // The one loop of both products: what the rows of a table add at the places of their ones.
 ghost use mathlib.Core.Path.{_≡_};
-ghost use Prim.Native.Nat.{_+_, _*_, _<_, _≤_};
-ghost use lib.ListN.{length};
-ghost use Rattle.gf2.specs.Sums.{sum};
-ghost use Rattle.gf2.specs.Coordinates.{coord};
-ghost use Rattle.gf2.specs.Operands.{maxWidth, choose};
-ghost use Rattle.gf2.specs.Tables.{row};
-ghost use Rattle.limbs.specs.Limbs.{carriedLimbs, limbCoord, packLimbs};
+ghost use Prim.Native.Nat.{_+_, _<_, _≤_};
+ghost use Rattle.gf2.specs.Operands.{maxWidth};
 ghost use Rattle.table.specs.Rows.{Shaped};
-ghost use Rattle.product.specs.Cells.{twiceLimbs, HasPlaces, Added, Clear, isOneWay, metLimbs};
+ghost use Rattle.scatter.specs.Cells.{HasPlaces, Added};
+ghost use Rattle.product.specs.Inner.{firstRow, rowCount, isOneWay, Clear, rowsTo};
 use crate::places;
-use crate::windows;
-use operand::Operand;
 
-// What row d meets, where xx and yy are x and y written twice: the products of coordinates i of x and i + d of y,
-// and for the reduced product those of y and x too. At distance m/2 the other way round gives the same pairs,
-// so that one way is all.
-fn met(
-    both: bool,
-    m: usize,
-    d: usize,
-    x: [u64; limbs::LIMBS],
-    y: [u64; limbs::LIMBS],
-    xx: &[u64],
-    yy: &[u64],
-) -> [u64; limbs::LIMBS]
-    requires { ⌜ (m ≤ maxWidth) × (d < m) × (length (now xx) ≡ twiceLimbs) × (length (now yy) ≡ twiceLimbs) ⌝ }
-    ensures { λ r. ⌜ r ≡ packLimbs carriedLimbs (λ i. limbCoord x i * limbCoord (now (yy .entry)) (d + i) + choose (isOneWay both m d) 0 (limbCoord y i * limbCoord (now (xx .entry)) (d + i))) ⌝ }
+// The two ways to a product: by all rows, or by half of them, each with its pairs both ways round.
+pub(crate) enum Method {
+    Plain,
+    Reduced,
+}
+
+// The first row that a method looks at. Row 0 has the diagonal, which the reduced product makes by itself.
+pub(crate) fn first_row(method: Method) -> usize
+    ensures { λ r. ⌜ r ≡ firstRow method ⌝ }
 {
-    let one = windows::masked(x, windows::window(yy, d));
-    if !both {
-        return one;
+    match method {
+        Method::Plain => 0,
+        Method::Reduced => 1,
     }
-    if 2 * d == m {
-        return one;
+}
+
+// And how many from there on.
+pub(crate) fn row_count(method: Method, width: usize) -> usize
+    ensures { λ r. ⌜ r ≡ rowCount method width ⌝ }
+{
+    match method {
+        Method::Plain => width,
+        Method::Reduced => width / 2,
     }
-    limbs::xored_limbs(one, windows::masked(y, windows::window(xx, d)))
+}
+
+// Whether one way round is all that row d meets. At distance m/2 the other way gives the same pairs.
+fn is_one_way(method: Method, m: usize, d: usize) -> bool
+    requires { ⌜ (m ≤ maxWidth) × (d < m) ⌝ }
+    ensures { λ r. ⌜ r ≡ isOneWay method m d ⌝ }
+{
+    match method {
+        Method::Plain => true,
+        Method::Reduced => 2 * d == m,
+    }
 }
 
 // What `count` rows from row `from` on add at the places of their ones.
 pub(crate) fn add_rows(
+    method: Method,
     width: usize,
     table: &[u8],
-    both: bool,
     from: usize,
     count: usize,
     x: [u64; limbs::LIMBS],
@@ -50,14 +56,16 @@ pub(crate) fn add_rows(
     g: &mut [u64],
 )
     requires { ⌜ Shaped width (now table) × Clear width x × Clear width y × (from + count ≤ width) × HasPlaces (now g) ⌝ }
-    ensures { λ _. ⌜ Added (λ s i. sum count (λ k. coord (row width (now (table .entry)) (from + k)) s * metLimbs both width (from + k) x y i)) (now (g .entry)) (now (g .exit)) ⌝ }
+    ensures { λ _. ⌜ Added (rowsTo method width (now (table .entry)) x y from count) (now (g .entry)) (now (g .exit)) ⌝ }
 {
-    let xx = windows::twice(x, width);
-    let yy = windows::twice(y, width);
+    let xx = scatter::twice(x, width);
+    let yy = scatter::twice(y, width);
     let mut k = 0;
     while k < count {
-        let e = met(both, width, from + k, x, y, &xx, &yy);
-        places::add_line(width, table, from + k, e, g);
+        let d = from + k;
+        let once = is_one_way(method, width, d);
+        let e = scatter::met(once, d, x, y, &xx, &yy);
+        places::add_line(width, table, d, e, g);
         k += 1;
     }
 }

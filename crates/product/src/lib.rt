@@ -2,6 +2,8 @@
 // Each call judges what it is given; a fault stands beside the operand of width 0.
 ghost use mathlib.Core.Path.{_≡_};
 ghost use Rattle.product.specs.Calls.{productCall, reducedCall, inverseCall};
+ghost use Rattle.product.specs.Inner.{multiplyCall};
+use kernel::Method;
 use operand::Fault;
 use operand::Operand;
 use operand::OperandAnswer;
@@ -10,9 +12,7 @@ mod chain;
 mod judge;
 mod kernel;
 mod places;
-mod plain;
-mod reduced;
-mod windows;
+mod times;
 
 // A fault, or none and an inverse with the number of products that it took.
 pub struct InverseAnswer {
@@ -21,34 +21,34 @@ pub struct InverseAnswer {
     pub count: usize,
 }
 
-// The plain product, under any table of the right shape.
-pub fn product(width: usize, table: &[u8], a: Operand, b: Operand) -> OperandAnswer
-    ensures { λ r. ⌜ r ≡ productCall width (now (table .entry)) a b ⌝ }
+// A product by a method, judged first.
+fn multiply(method: Method, width: usize, table: &[u8], a: Operand, b: Operand) -> OperandAnswer
+    ensures { λ r. ⌜ r ≡ multiplyCall method width (now (table .entry)) a b ⌝ }
 {
-    let fault = judge::judge_product(width, table, a, b);
+    let fault = judge::judge_product(method, width, table, a, b);
     if operand::is_none(fault) {
+        let mut g = [0u64; scatter::ROOM];
         OperandAnswer {
             fault: Fault::None,
-            value: plain::times(width, table, a, b),
+            value: times::times(method, width, table, a, b, &mut g),
         }
     } else {
         operand::refused(fault)
     }
 }
 
+// The plain product, under any table of the right shape.
+pub fn product(width: usize, table: &[u8], a: Operand, b: Operand) -> OperandAnswer
+    ensures { λ r. ⌜ r ≡ productCall width (now (table .entry)) a b ⌝ }
+{
+    multiply(Method::Plain, width, table, a, b)
+}
+
 // The reduced product, under a table that keeps rules 4 and 5.
 pub fn product_reduced(width: usize, table: &[u8], a: Operand, b: Operand) -> OperandAnswer
     ensures { λ r. ⌜ r ≡ reducedCall width (now (table .entry)) a b ⌝ }
 {
-    let fault = judge::judge_reduced(width, table, a, b);
-    if operand::is_none(fault) {
-        OperandAnswer {
-            fault: Fault::None,
-            value: reduced::times_reduced(width, table, a, b),
-        }
-    } else {
-        operand::refused(fault)
-    }
+    multiply(Method::Reduced, width, table, a, b)
 }
 
 // The inverse by the chain, under any table of the right shape.

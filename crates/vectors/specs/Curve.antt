@@ -2,12 +2,17 @@
 use mathlib.Core.Bool.{Bool, _&&_}
 use mathlib.Core.List.{List}
 use Prim.Native.Nat.{ℕ}
+use Rattle.gf2.specs.Operands.{isClear}
 use Rattle.operand.specs.declared.Operand.{Operand}
 use Rattle.operand.specs.declared.OperandAnswer.{OperandAnswer}
 use Rattle.operand.specs.Faults.{isNone}
 use Rattle.operand.specs.Calls.{squareCall, sumCall}
-use Rattle.table.specs.Judgements.{same}
 use Rattle.product.specs.Calls.{productCall}
+use Rattle.vectors.specs.Published.{published}
+
+-- zero, and no fault
+abbrev pub isZero : OperandAnswer → Bool
+isZero a = isNone (a .fault) && isClear 0 (a .value .bytes)
 
 module _ (m : ℕ) (table : List ℕ) where
   -- y² + x·y
@@ -25,9 +30,11 @@ module _ (m : ℕ) (table : List ℕ) where
   unfoldable pub rightSide : Operand → Operand → Operand → OperandAnswer
   rightSide a b x = sumCall (cubeAndTerm a x .value) b
 
-  -- the sides are equal, and no call on the way gave a fault: the operand beside a fault is refused by the next call
+  -- the sum of the sides is zero, and no call on the way gave a fault: the operand beside a fault is refused by the next call
   unfoldable pub onCurve : Operand → Operand → Operand → Operand → Bool
-  onCurve a b x y =
-      isNone (leftSide x y .fault)
-      && (isNone (rightSide a b x .fault)
-      && same (leftSide x y .value .bytes) (rightSide a b x .value .bytes))
+  onCurve a b x y = isZero (sumCall (leftSide x y .value) (rightSide a b x .value))
+
+-- the point with the published digits x and y, `change` added to y, on the curve with the coefficients a and b
+abbrev pub pointOnCurve : ℕ → List ℕ → List ℕ → List ℕ → List ℕ → List ℕ → List ℕ → Bool
+pointOnCurve m table a b x y change =
+    onCurve m table (published m a) (published m b) (published m x) (sumCall (published m y) (published m change) .value)

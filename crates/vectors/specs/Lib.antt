@@ -1,6 +1,3 @@
--- Numbers: numbers stored one after another. Published: operands from published digits. Curve: the equation of a curve.
--- Answers: the numbers that each example stores.
-pub mod Numbers
+-- Published: operands from published digits. Curve: the equation of a curve.
 pub mod Published
 pub mod Curve
-pub mod Answers

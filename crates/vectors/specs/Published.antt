@@ -1,24 +1,23 @@
--- Operands as FIPS 186 publishes them: a number in hexadecimal digits, most significant digit first.
-use mathlib.Core.List.{List, [], _∷_}
+-- Operands as FIPS 186 publishes them: hexadecimal digits of a number of m bits, as few as hold them.
+use mathlib.Core.List.{List}
 use Prim.Native.Nat.{ℕ, _+_, _-_, _*_, _/_, _%_, _^_}
-use lib.ListN.{length}
-use lib.Dec.{ltb}
-use Rattle.gf2.specs.Operands.{carriedBytes, choose, fromCoords}
+use lib.ListN.{getD}
+use Rattle.gf2.specs.Coordinates.{pack}
+use Rattle.gf2.specs.Operands.{carriedBytes}
 use Rattle.operand.specs.declared.Operand.{Operand}
 
--- 0 to 9 are the characters 48 to 57, a to f are 97 to 102
+-- 0 to 9 are the characters 48 to 57, a to f are 97 to 102; what isn't there counts 0
 abbrev pub digitValue : ℕ → ℕ
-digitValue c = choose (ltb c 97) (c % 16) ((c - 87) % 16)
+digitValue c = c % 16 + c / 64 * 9
 
--- the number with these digits: each counts 16 to the power of the number of digits after it
-unfoldable pub numberOfDigits : List ℕ → ℕ
-numberOfDigits [] = 0
-numberOfDigits (c ∷ digits) = digitValue c * 16 ^ length digits + numberOfDigits digits
+-- bit t of the digits, modulo 2: each digit is four bits, most significant first
+unfoldable pub digitBit : List ℕ → ℕ → ℕ
+digitBit digits t = digitValue (getD digits (t / 4) 0) / 2 ^ (3 - t % 4)
 
--- "of the m bits the leftmost is coordinate 0": coordinate i is bit m-1-i of the number
+-- "of the m bits the leftmost is coordinate 0": before the m bits stand those that fill the first digit
 unfoldable pub publishedCoord : ℕ → List ℕ → ℕ → ℕ
-publishedCoord m digits i = numberOfDigits digits / 2 ^ (m - 1 - i) % 2
+publishedCoord m digits i = digitBit digits ((4 - m % 4) % 4 + i)
 
 -- the carried operand of width m with these coordinates
 unfoldable pub published : ℕ → List ℕ → Operand
-published m digits = record { bytes = fromCoords carriedBytes m (publishedCoord m digits); width = m }
+published m digits = record { bytes = pack carriedBytes (publishedCoord m digits); width = m }

@@ -1,17 +1,8 @@
 // Whether a point lies on a curve y² + x·y = x³ + a·x² + b, by the calls on operands.
 ghost use mathlib.Core.Path.{_≡_};
-ghost use Rattle.table.specs.Judgements.{same};
-ghost use Rattle.vectors.specs.Curve.{leftSide, rightSide, onCurve};
-use crate::same::same;
+ghost use Rattle.vectors.specs.Curve.{isZero, leftSide, rightSide, onCurve};
 use operand::Operand;
 use operand::OperandAnswer;
-
-// The same bytes in both operands.
-fn equal(x: [u8; Operand::BYTES], y: [u8; Operand::BYTES]) -> bool
-    ensures { λ r. ⌜ r ≡ same x y ⌝ }
-{
-    same(&x, &y)
-}
 
 // y² + x·y
 fn left_side(width: usize, table: &[u8], x: Operand, y: Operand) -> OperandAnswer
@@ -33,7 +24,19 @@ fn right_side(width: usize, table: &[u8], a: Operand, b: Operand, x: Operand) ->
     sum.value.sum(b)
 }
 
-// Whether the sides are equal. A fault in any call makes one of the sides a fault, and the answer false.
+// Whether an answer is zero, and no fault.
+fn is_zero(answer: OperandAnswer) -> bool
+    ensures { λ r. ⌜ r ≡ isZero answer ⌝ }
+{
+    let fault = answer.fault;
+    if operand::is_none(fault) {
+        let bytes = answer.value.bytes;
+        return limbs::is_clear(bytes, 0);
+    }
+    false
+}
+
+// Whether the sum of both sides is zero. A fault in any call makes the sum a fault, and the answer false.
 pub(crate) fn on_curve(
     width: usize,
     table: &[u8],
@@ -46,15 +49,5 @@ pub(crate) fn on_curve(
 {
     let left = left_side(width, table, x, y);
     let right = right_side(width, table, a, b, x);
-    let left_fault = left.fault;
-    let right_fault = right.fault;
-    if !operand::is_none(left_fault) {
-        return false;
-    }
-    if !operand::is_none(right_fault) {
-        return false;
-    }
-    let left_bytes = left.value.bytes;
-    let right_bytes = right.value.bytes;
-    equal(left_bytes, right_bytes)
+    is_zero(left.value.sum(right.value))
 }

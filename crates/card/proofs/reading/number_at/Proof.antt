@@ -26,7 +26,7 @@ returns-4 : tie.Need-returns-4
 returns-4 c = sym (number-long _ _ (c .before .before .before .before .before .if1 .left) (c .before .before .before .if2 .left) ∙ second-zero _ _ _ (c .before .before .if3 .left) (c .if4 .taken))
 
 add-t17 : tie.Need-add-t17
-add-t17 c = omega (arith, c .before .before .before .before .before .shared-slice-known .given (c .before .before .before .before .before .before .before .args .at))
+add-t17 c = let s = c .before .before .before .before .before in omega (arith, s .shared-slice-known .given (s .before .before .args .at))
 
 returns-5 : tie.Need-returns-5
 returns-5 c = sym (number-long _ _ (c .before .before .before .before .before .before .if1 .left) (c .before .before .before .before .if2 .left) ∙ second-last _ _ _ (c .before .before .before .if3 .left) (c .before .if4 .left) (c .if5 .taken))

@@ -1,10 +1,7 @@
 -- `card::reading::places_at` meets its contract.
-use mathlib.Core.Path.{sym, ap, _∙_}
 use lib.ListN.{drop}
 use Rattle.card.specs.Rows.{readPlaces}
-use Rattle.card.specs.Steps.{told}
-use Rattle.card.proofs.ReadSteps.{PlacesTo, places-none, places-refused, places-far, places-more, places-done}
-use native.Mathlib.Omega.{arith}
+use Rattle.card.proofs.ReadSteps.{bit-value, got-of, refused-of, PlacesTo, places-none, places-refused, places-far, places-more, places-done}
 use borrow.Author.Needs.{needs}
 use Rattle.card.proofs.reading.places_at.Statement.{statement}
 use Rattle.card.proofs.reading.places_at.Tie as tie
@@ -19,13 +16,20 @@ loop-holds : tie.Need-loop-holds Inv-loop μ-loop
 loop-holds c = places-none _ _ _
 
 returns : tie.Need-returns Inv-loop μ-loop
-returns c = places-refused (c .before .before .before .before .before .loop .inv) (c .before .before .before .before .loop-test .taken) (sym (c .before .before .before .number-at .ensures) ∙ ap (told _) (c .before .f .given .1))
+returns c =
+    let n = c .before .before .before in
+    places-refused (n .before .before .loop .inv) (n .before .loop-test .taken) (refused-of _ (n .number-at .ensures) (c .before .f .given .1))
 
 returns-2 : tie.Need-returns-2 Inv-loop μ-loop
-returns-2 c = places-far (c .before .before .before .before .before .before .loop .inv) (c .before .before .before .before .before .loop-test .taken) (sym (c .before .before .before .before .number-at .ensures) ∙ ap (told _) (c .before .before .step .given .1)) (omega arith)
+returns-2 c =
+    let n = c .before .before .before .before in
+    places-far (n .before .before .loop .inv) (n .before .loop-test .taken) (got-of _ (n .number-at .ensures) (c .before .before .step .given .1)) (c .if1 .taken)
 
 loop-again : tie.Need-loop-again Inv-loop μ-loop
-loop-again c = rw (c .bit-value .ensures) (places-more (c .before .before .before .before .before .before .before .loop .inv) (c .before .before .before .before .before .before .before .before .before .pre) (c .before .before .before .before .before .before .loop-test .taken) (sym (c .before .before .before .before .before .number-at .ensures) ∙ ap (told _) (c .before .before .before .step .given .1)) (omega arith))
+loop-again c =
+    let n = c .before .before .before .before in
+    let l = n .before .before in
+    rw bit-value (places-more (l .loop .inv) (l .before .before .pre) (n .before .loop-test .taken) (got-of _ (n .number-at .ensures) (c .before .before .step .given .1)) (c .if1 .left))
 
 returns-3 : tie.Need-returns-3 Inv-loop μ-loop
 returns-3 c = places-done (c .before .loop .inv) (c .loop-test .left)
@@ -45,7 +49,8 @@ places-at-spec =
     returns-2
     (λ c. search needs)
     (λ c. search needs)
-    (λ c κs. search needs)
+    (λ c. search needs)
+    (λ c. search needs)
     (λ c. search needs)
     (λ c. search needs)
     (λ c. search needs)

@@ -1,36 +1,57 @@
 -- `card::reading::rows_at` meets its contract.
 use mathlib.Core.Path.{sym, ap, _∙_}
-use Prim.Native.Nat.{_-_}
+use native.Mathlib.Omega.{arith}
 use lib.ListN.{drop}
-use Rattle.card.specs.Rows.{readRows}
 use Rattle.card.specs.Steps.{toldBytes}
-use Rattle.card.proofs.ReadSteps.{carried-got, carried-refused, RowsTo, rows-none, rows-refused, rows-more, rows-done}
+use Rattle.card.proofs.ReadSteps.{carried-got, carried-refused, RowsTo, row-place, rows-none, rows-refused, rows-more, rows-done}
 use borrow.Author.Needs.{needs}
 use Rattle.card.proofs.reading.rows_at.Statement.{statement}
 use Rattle.card.proofs.reading.rows_at.Tie as tie
 
 abbrev Inv-loop : tie.InvT-loop
-Inv-loop card at width count table₀ size next₀ from₀ d₀ table next from d = RowsTo width count (readRows width count (drop at card)) (drop next card) table₀ table from d
+Inv-loop card at width first count table₀ size next₀ from₀ left₀ table next from left = RowsTo width first count (drop at card) (drop next card) table₀ table from left
 
 abbrev μ-loop : tie.MeasureT-loop
-μ-loop card at width count table₀ size next₀ from₀ d₀ table next from d = count - d
+μ-loop card at width first count table₀ size next₀ from₀ left₀ table next from left = left
+
+mul-from : tie.Need-mul-from Inv-loop μ-loop
+mul-from c =
+    let s = c .before .before .before in
+    omega (arith, row-place (s .args .width) (s .args .first) (s .args .count) _ (s .pre .0) (s .pre .1) (c .bytes-for .ensures))
 
 loop-holds : tie.Need-loop-holds Inv-loop μ-loop
-loop-holds c = rows-none _ _ _ _
+loop-holds c = let s = c .before .before .before in rows-none _ _ _ _ _ _ (s .pre .0) (s .pre .1) (c .bytes-for .ensures)
 
 same-length : tie.Need-same-length Inv-loop μ-loop
 same-length c = c .before .before .before .before .before .loop .inv .kept
 
 returns : tie.Need-returns Inv-loop μ-loop
-returns c = rows-refused (c .before .before .before .before .before .loop .inv) (c .before .before .before .before .loop-test .taken) (carried-refused _ _ (sym (c .before .before .before .row-at .ensures) ∙ ap (toldBytes _ _) (c .before .end .given .1)))
+returns c =
+    let s = c .before .before .before in
+    rows-refused (s .before .before .loop .inv) (s .before .loop-test .taken) (carried-refused _ _ (sym (s .row-at .ensures) ∙ ap (toldBytes _ _) (c .before .end .given .1)))
+
+put-bytes-requires : tie.Need-put-bytes-requires Inv-loop μ-loop
+put-bytes-requires c κs =
+    let s = c .before .before .before .before .before .before in
+    let l = s .before in
+    (omega (arith, l .loop .inv .short), omega (arith, l .before .bytes-for .ensures, l .before .before .before .before .pre .0))
+
+add-from : tie.Need-add-from Inv-loop μ-loop
+add-from c =
+    let p = c .before .before .before .before .before .before in
+    let l = p .before .before .before .before in
+    omega (arith, l .loop .inv .short, l .before .bytes-for .ensures, l .before .before .before .before .pre .0)
 
 loop-again : tie.Need-loop-again Inv-loop μ-loop
 loop-again c =
-    let s = c .before .before .before .before .before .before .before .before .before in
-    let size = s .before .before .bytes-for .ensures in
-    let row = carried-got _ _ (sym (c .before .before .before .before .before .before .before .before .row-at .ensures) ∙ ap (toldBytes _ _) (c .before .before .before .before .before .before .end2 .given .1)) in
+    let p = c .before .before .before .before .before .before in
+    let s = p .before .before in
+    let l = s .before .before in
+    let size = l .before .bytes-for .ensures in
+    let put = c .before .before in
+    let row = carried-got _ _ (sym (s .row-at .ensures) ∙ ap (toldBytes _ _) (p .end2 .given .1)) in
     rw size
-    (rows-more (s .before .loop .inv) (s .before .before .before .before .before .pre .0) (s .loop-test .taken) (row .1) (row .2) (rw size at (c .before .before .put-bytes .ensures)) (c .before .before .put-bytes .kept .0))
+    (rows-more (l .loop .inv) (l .before .before .before .before .pre .0) (s .before .loop-test .taken) (row .1) (row .2) (rw size at (put .put-bytes .ensures)) (put .put-bytes .kept .0))
 
 same-length-2 : tie.Need-same-length-2 Inv-loop μ-loop
 same-length-2 c = c .before .loop .inv .kept
@@ -45,14 +66,15 @@ rows-at-spec =
     Inv-loop
     μ-loop
     (λ c κs. search needs)
+    mul-from
     loop-holds
     (λ c κs. search needs)
     (λ c. search needs)
     same-length
     returns
     (λ c. search needs)
-    (λ c κs. search needs)
-    (λ c. search needs)
+    put-bytes-requires
+    add-from
     (λ c. search needs)
     (λ c. search needs)
     loop-again

@@ -21,8 +21,9 @@ loop-holds c = (omega arith, refl, refl)
 
 loop-again : tie.Need-loop-again Inv-loop μ-loop
 loop-again c =
-    let w = c .before .before .before .before .before .loop in
-    let a = c .before .before .before .before .before .before .before .args in
+    let l = c .before .before .before .before .before in
+    let w = l .loop in
+    let a = l .before .before .args in
     let len : length (a .t3) ≡ carriedBytes = search needs in
     (omega arith, c .before .before .put .ensures ∙ rw (w .inv .1) (sets-one (a .out .now) (a .t3) (a .at) (w .b) (omega arith)), c .before .before .put .kept .0 ∙ w .inv .2)
 

@@ -1,28 +1,29 @@
 -- `card::writing::put_card` meets its contract.
 use native.Mathlib.Omega.{arith}
-use Rattle.card.proofs.Lengths.{one-length, card-length, card-most}
-use Rattle.card.proofs.WriteSteps.{card-put}
+use Rattle.card.proofs.WriteSteps.{in-second, card-in, card-put}
 use borrow.Author.Needs.{needs}
 use Rattle.card.proofs.writing.put_card.Statement.{statement}
 use Rattle.card.proofs.writing.put_card.Tie as tie
 
 put-number-requires-2 : tie.Need-put-number-requires-2
-put-number-requires-2 c κs = omega (arith, one-length, c .before .before .before .put-number .ensures .0)
+put-number-requires-2 c κs =
+    let f = c .before .before .before in
+    let s = f .before .before .before .before in
+    (omega (arith, s .pre .greatest), omega (arith, in-second (f .put-number .ensures) (card-in (s .args .width) (s .args .table .now) (s .pre .greatest)) .within))
 
 put-rows-requires : tie.Need-put-rows-requires
 put-rows-requires c κs =
-    let a = c .before .before .before .before .before .before .before .before .before .before .before in
-    let m = a .args .width in
-    let t = a .args .table .now in
-    (a .pre .0, a .pre .1, omega arith, omega (arith, one-length, c .before .before .before .before .before .before .before .put-number .ensures .0, c .before .before .before .put-number2 .ensures .0, card-length m t, card-most m t (a .pre .0)))
+    let w = c .before .before .before in
+    let f = w .before .before .before .before in
+    let s = f .before .before .before .before in
+    (s .pre, omega arith, in-second (w .put-number2 .ensures) (in-second (f .put-number .ensures) (card-in _ _ (s .pre .greatest))))
 
 returns : tie.Need-returns
 returns c =
-    let a = c .before .before .before .before .before .before .before .before .before .before .before .before .before .before .args in
-    let form = c .before .before .before .before .before .before .before .before .before .before .put-number .ensures in
-    let width = c .before .before .before .before .before .before .put-number2 .ensures in
-    let rows = c .before .before .put-rows .ensures in
-    (omega (arith, one-length, form .0, width .0, rows .0, card-length (a .width) (a .table .now)), card-put (a .width) (a .table .now) (a .out .now) (form .0) (form .1) (width .0) (width .1) (rows .1))
+    let r = c .before .before in
+    let w = r .before .before .before .before in
+    let f = w .before .before .before .before in
+    card-put _ _ (f .put-number .ensures) (w .put-number2 .ensures) (r .put-rows .ensures)
 
 pub put-card-spec : {M : Type 1} → statement M
 put-card-spec =

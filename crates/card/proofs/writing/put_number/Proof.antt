@@ -2,23 +2,23 @@
 use mathlib.Core.Path.{ap, _∙_}
 use Prim.Native.Nat.{_+_, _/_}
 use lib.ListN.{set}
-use Rattle.card.proofs.WriteSteps.{put-short, put-long}
-use native.Mathlib.Omega.{arith}
+use Rattle.card.proofs.WriteSteps.{put-short, put-long, put-into}
 use borrow.Author.Needs.{needs}
 use Rattle.card.proofs.writing.put_number.Statement.{statement}
 use Rattle.card.proofs.writing.put_number.Tie as tie
 
 returns : tie.Need-returns
 returns c =
-    let a = c .before .before .before .before .before .before .args in
-    let e = put-short (a .n) (a .at) (a .out .now) (omega arith) in
-    (e .0, c .before .before .put .ensures ∙ e .1)
+    let s = c .before .before .before .before in
+    let a = s .before .before .args in
+    put-into (c .before .before .put .ensures) (put-short (a .n) (a .at) (a .out .now) (s .if1 .taken))
 
 returns-2 : tie.Need-returns-2
 returns-2 c =
-    let a = c .before .before .before .before .before .before .before .before .before .before .args in
-    let e = put-long (a .n) (a .at) (a .out .now) (omega arith) in
-    (e .0, c .before .before .put3 .ensures ∙ ap (λ l. set l (a .at + 1) (a .n / 128)) (c .before .before .before .before .before .before .put2 .ensures) ∙ e .1)
+    let p = c .before .before .before .before .before .before in
+    let s = p .before .before in
+    let a = s .before .before .args in
+    put-into (c .before .before .put3 .ensures ∙ ap (λ l. set l (a .at + 1) (a .n / 128)) (p .put2 .ensures)) (put-long (a .n) (a .at) (a .out .now) (s .if1 .left))
 
 pub put-number-spec : {M : Type 1} → statement M
 put-number-spec =

@@ -1,47 +1,41 @@
 -- `card::writing::put_places` meets its contract.
-use Prim.Native.Nat.{_-_}
 use native.Mathlib.Omega.{arith}
-use Rattle.limbs.specs.Limbs.{limbCoord}
-use Rattle.card.proofs.WriteSteps.{StepsTo, steps-none, steps-more, steps-done}
+use Rattle.card.proofs.WriteSteps.{StepsTo, left-kept, steps-none, steps-next, steps-fits, steps-more, steps-done}
 use borrow.Author.Needs.{needs}
 use Rattle.card.proofs.writing.put_places.Statement.{statement}
 use Rattle.card.proofs.writing.put_places.Tie as tie
 
 abbrev Inv-loop : tie.InvT-loop
-Inv-loop out₀ at row width next₀ free₀ i₀ out next free i = StepsTo width (limbCoord row) at out₀ out next free i
+Inv-loop out₀ at row count next₀ free₀ left₀ out next free left = StepsTo row at out₀ out next free left
 
 abbrev μ-loop : tie.MeasureT-loop
-μ-loop out₀ at row width next₀ free₀ i₀ out next free i = width - i
-
-next-place-requires : tie.Need-next-place-requires Inv-loop μ-loop
-next-place-requires c κs = let s = c .before .before in (omega arith, s .pre .0, s .pre .1)
+μ-loop out₀ at row count next₀ free₀ left₀ out next free left = left
 
 loop-holds : tie.Need-loop-holds Inv-loop μ-loop
-loop-holds c = steps-none _ _ (c .next-place .ensures)
+loop-holds c = steps-none _ _ _ (c .before .pre .0)
 
 sub-put-number : tie.Need-sub-put-number Inv-loop μ-loop
-sub-put-number c = c .before .before .loop .inv .below
+sub-put-number c = steps-next (c .before .before .before .loop .inv) (c .before .before .loop-test .taken) (c .before .next-one .ensures) .above
 
 put-number-requires : tie.Need-put-number-requires Inv-loop μ-loop
 put-number-requires c κs =
-    let s = c .before .before .before .before .before .before in
-    (omega (arith, s .pre .0, c .before .loop-test .taken), omega (arith, s .pre .2, c .before .before .loop .inv .ends))
+    let l = c .before .before .before in
+    let some = c .before .before .loop-test .taken in
+    let e = c .before .next-one .ensures in
+    (omega (arith, steps-next (l .loop .inv) some e .within), omega (arith, steps-fits (l .loop .inv) some e (l .before .before .pre .1) .within))
 
-next-place-requires-2 : tie.Need-next-place-requires-2 Inv-loop μ-loop
-next-place-requires-2 c κs =
-    let s = c .before .before .before .before .before .before .before .before .before in
-    (omega (arith, c .before .before .before .before .loop-test .taken), s .pre .0, s .pre .1)
-
-loop-less : tie.Need-loop-less Inv-loop μ-loop
-loop-less c = omega (arith, c .before .before .before .before .before .loop-test .taken, c .next-place2 .ensures .above)
+add-free : tie.Need-add-free Inv-loop μ-loop
+add-free c =
+    let n = c .before .before .before .before in
+    omega (arith, steps-next (n .before .before .loop .inv) (n .before .loop-test .taken) (n .next-one .ensures) .within)
 
 loop-again : tie.Need-loop-again Inv-loop μ-loop
 loop-again c =
-    let number = c .before .before .before .put-number in
-    steps-more (c .before .before .before .before .before .before .loop .inv) (c .before .before .before .before .before .loop-test .taken) (number .ensures .0) (number .ensures .1) (number .kept .0) (c .next-place2 .ensures)
+    let n = c .before .before .before .before in
+    steps-more (n .before .before .loop .inv) (n .before .loop-test .taken) (n .next-one .ensures) (c .before .before .put-number .ensures)
 
 same-length : tie.Need-same-length Inv-loop μ-loop
-same-length c = c .before .loop .inv .kept
+same-length c = left-kept (c .before .loop .inv .remains)
 
 returns : tie.Need-returns Inv-loop μ-loop
 returns c = steps-done (c .before .loop .inv) (c .loop-test .left)
@@ -52,14 +46,13 @@ put-places-spec =
     (tie.spec
     Inv-loop
     μ-loop
-    next-place-requires
     loop-holds
+    (λ c κs. search needs)
     sub-put-number
     put-number-requires
+    add-free
     (λ c. search needs)
     (λ c. search needs)
-    next-place-requires-2
-    loop-less
     loop-again
     same-length
     returns)

@@ -2,7 +2,7 @@
 use mathlib.Core.Path.{sym, _∙_}
 use borrow.Author.Tests.{not-true, not-false}
 use Rattle.operand.proofs.FaultLaws.{judged}
-use Rattle.card.proofs.WriteSteps.{shape-size, wrote-shape, wrote-short, wrote-card}
+use Rattle.card.proofs.WriteSteps.{shape-writable, wrote-shape, wrote-short, wrote-card}
 use native.Mathlib.Omega.{arith}
 use borrow.Author.Needs.{needs}
 use Rattle.card.proofs.writing.write.Statement.{statement}
@@ -10,26 +10,33 @@ use Rattle.card.proofs.writing.write.Tie as tie
 
 returns : tie.Need-returns
 returns c =
-    let x = wrote-shape _ _ _ (c .before .before .before .judge-shape .ensures) (sym (c .before .before .is-none .ensures) ∙ not-true _ (c .before .if1 .taken)) in
-    (c .refused .ensures ∙ x .answers, x .leaves)
+    let x = wrote-shape _ _ _ (c .before .before .judge-shape .ensures) (sym (c .before .is-none .ensures) ∙ not-true _ (c .if1 .taken)) in
+    (x .answers, x .leaves)
 
 put-card-requires : tie.Need-put-card-requires
-put-card-requires c κs = shape-size _ _ (judged (c .before .before .before .judge-shape .ensures) (c .before .before .is-none .ensures) (not-false _ (c .before .if1 .left)))
+put-card-requires c κs =
+    let t = c .before in
+    shape-writable _ _ (judged (t .before .before .judge-shape .ensures) (t .before .is-none .ensures) (not-false _ (t .if1 .left)))
 
 returns-2 : tie.Need-returns-2
 returns-2 c =
-    let shape = judged (c .before .before .before .before .before .before .before .judge-shape .ensures) (c .before .before .before .before .before .before .is-none .ensures) (not-false _ (c .before .before .before .before .before .if1 .left)) in
-    let old = c .before .before .before .before .before .before .before .before .before .before .args .out .now in
-    let x = wrote-short _ _ old shape (c .before .before .before .put-card .ensures .0) (omega (arith, c .before .if2 .taken)) in
-    (c .refused2 .ensures ∙ x .answers, x .leaves)
+    let t = c .before .before .before .before in
+    let shape = judged (t .before .before .judge-shape .ensures) (t .before .is-none .ensures) (not-false _ (t .if1 .left)) in
+    let old = t .before .before .before .before .before .args .out .now in
+    let x = wrote-short _ _ old shape (c .before .before .put-card .ensures .ends) (omega (arith, c .if2 .taken)) in
+    (x .answers, x .leaves)
 
 put-card-requires-2 : tie.Need-put-card-requires-2
-put-card-requires-2 c κs = shape-size _ _ (judged (c .before .before .before .before .before .before .before .judge-shape .ensures) (c .before .before .before .before .before .before .is-none .ensures) (not-false _ (c .before .before .before .before .before .if1 .left)))
+put-card-requires-2 c κs =
+    let t = c .before .before .before .before .before in
+    shape-writable _ _ (judged (t .before .before .judge-shape .ensures) (t .before .is-none .ensures) (not-false _ (t .if1 .left)))
 
 returns-3 : tie.Need-returns-3
 returns-3 c =
-    let shape = judged (c .before .before .before .before .before .before .before .before .before .before .judge-shape .ensures) (c .before .before .before .before .before .before .before .before .before .is-none .ensures) (not-false _ (c .before .before .before .before .before .before .before .before .if1 .left)) in
-    let x = wrote-card _ _ _ shape (c .before .before .before .before .before .before .put-card .ensures .0) (omega (arith, c .before .before .before .before .if2 .left)) (c .before .before .put-card2 .ensures .1) in
+    let p = c .before .before .before .before .before .before in
+    let t = p .before .before in
+    let shape = judged (t .before .before .judge-shape .ensures) (t .before .is-none .ensures) (not-false _ (t .if1 .left)) in
+    let x = wrote-card _ _ _ shape (p .put-card .ensures .ends) (omega (arith, c .before .before .before .before .if2 .left)) (c .before .before .put-card2 .ensures .stored) in
     (x .answers, x .leaves)
 
 pub write-spec : {M : Type 1} → statement M
@@ -38,11 +45,9 @@ write-spec =
     (tie.spec
     (λ c κs. search needs)
     (λ c κs. search needs)
-    (λ c κs. search needs)
     returns
     (λ c. search needs)
     put-card-requires
-    (λ c κs. search needs)
     returns-2
     put-card-requires-2
     (λ c. search needs)

@@ -1,9 +1,9 @@
 -- `product::chain::last` meets its contract.
-use mathlib.Core.Path.{ap, _∙_}
+use mathlib.Core.Path.{refl, ap, _∙_}
 use Prim.Native.Nat.{_-_}
 use native.Mathlib.Omega.{arith}
 use Rattle.gf2.specs.Inverse.{start, digits}
-use Rattle.product.specs.ChainStates.{stateOf}
+use Rattle.product.specs.Inner.{stateOf}
 use Rattle.product.proofs.ChainSteps.{start-underway}
 use borrow.Author.Needs.{needs}
 use Rattle.product.proofs.chain.last.Statement.{statement}
@@ -14,15 +14,15 @@ sub-further-digits c = omega (arith, c .before .pre .0 .least)
 
 double-requires : tie.Need-double-requires
 double-requires c κs =
-    let s = c .before .before in
-    rw (c .further-digits .ensures) (start-underway (s .pre .0) (s .pre .1))
+    let s = c .before .before .before in
+    (rw (c .before .further-digits .ensures) (start-underway (s .pre .0) (s .pre .1)), refl)
 
 returns : tie.Need-returns
 returns c =
-    let x = c .before .before .before .args in
-    c .double .ensures
-    ∙ ap (λ u. stateOf (x .width) (digits (x .width) (x .table .now) (x .a .bytes) (x .width - 1) u (start (x .a .bytes)))) (c .before .further-digits .ensures)
+    let x = c .before .before .before .before .before .args in
+    c .before .double .ensures
+    ∙ ap (λ u. stateOf (x .width) (digits (x .width) (x .table .now) (x .a .bytes) (x .width - 1) u (start (x .a .bytes)))) (c .before .before .before .further-digits .ensures)
 
 pub last-spec : {M : Type 1} → statement M
 last-spec =
-    tie.close (tie.spec sub-further-digits (λ c κs. search needs) double-requires returns)
+    tie.close (tie.spec sub-further-digits (λ c κs. search needs) (λ c. search needs) double-requires returns)

@@ -3,35 +3,40 @@ use mathlib.Core.Path.{_≡_, refl, _∙_}
 use Prim.Native.Nat.{_-_, _≤_}
 use native.Mathlib.Omega.{arith}
 use lib.ListN.{length}
-use Rattle.product.specs.Cells.{Added}
-use Rattle.product.proofs.KernelLaws.{rowsTo, rows-none, rows-more}
+use Rattle.scatter.specs.Cells.{Added}
+use Rattle.product.specs.Inner.{rowsTo}
+use Rattle.product.proofs.KernelLaws.{rows-none, rows-more}
 use borrow.Author.Needs.{needs}
 use Rattle.product.proofs.kernel.add_rows.Statement.{statement}
 use Rattle.product.proofs.kernel.add_rows.Tie as tie
 
 abbrev Inv-loop : tie.InvT-loop
-Inv-loop width table both from count x y g₀ xx yy k₀ g k = (k ≤ count) × Added (rowsTo both width table x y from k) g₀ g × (length g ≡ length g₀)
+Inv-loop how width table from count x y g₀ xx yy k₀ g k = (k ≤ count) × Added (rowsTo how width table x y from k) g₀ g × (length g ≡ length g₀)
 
 abbrev μ-loop : tie.MeasureT-loop
-μ-loop width table both from count x y g₀ xx yy k₀ g k = count - k
+μ-loop how width table from count x y g₀ xx yy k₀ g k = count - k
 
 loop-holds : tie.Need-loop-holds Inv-loop μ-loop
 loop-holds c = (omega arith, rows-none _ _ _ _ _ _ _, refl)
 
 add-line-requires : tie.Need-add-line-requires Inv-loop μ-loop
 add-line-requires c κs =
-    let s = c .before .before .before .before .before .before .before .before .before .before in
-    (s .pre .0, omega (arith, c .before .before .before .before .loop-test .taken, s .pre .3), c .before .before .before .before .before .loop .inv .2 ∙ s .pre .4)
+    let l = c .before .before .before .before .before in
+    let s = l .before .before .before .before .before .before in
+    (s .pre .0, omega (arith, l .loop-test .taken, s .pre .3), l .before .loop .inv .2 ∙ s .pre .4)
 
 loop-again : tie.Need-loop-again Inv-loop μ-loop
 loop-again c =
-    let s = c .before .before .before .before .before .before .before .before .before .before .before .before .before in
+    let e = c .before .before .before .before in
+    let l = e .before .before .before .before in
+    let i = l .before .loop .inv in
+    let s = l .before .before .before .before .before .before in
     let a = s .args in
-    let l = c .before .before .before .before .before .before .before .before .loop in
     let line = c .before .before .add-line .ensures in (
-      omega (arith, c .before .before .before .before .before .before .before .loop-test .taken),
-      rows-more (a .both) (a .width) (a .table .now) (a .x) (a .y) (a .from) (s .pre .0) (s .pre .1) (s .pre .2) (l .k) (omega (arith, c .before .before .before .before .before .before .before .loop-test .taken, s .pre .3)) (c .before .before .before .before .before .before .before .before .before .before .twice .ensures) (c .before .before .before .before .before .before .before .before .before .twice2 .ensures) (c .before .before .before .before .met .ensures) (l .inv .1) line,
-      line .size ∙ l .inv .2,
+      omega (arith, l .loop-test .taken),
+      rows-more (a .method) (a .width) (a .table .now) (a .x) (a .y) (a .from) (s .pre .0) (s .pre .1) (s .pre .2) (l .before .loop .k) (omega (arith, l .loop-test .taken, s .pre .3))
+          (l .before .before .before .twice .ensures) (l .before .before .twice2 .ensures) (e .before .before .before .is-one-way .ensures) (e .met .ensures) (i .1) line,
+      line .size ∙ i .2,
     )
 
 same-length : tie.Need-same-length Inv-loop μ-loop
@@ -54,10 +59,10 @@ add-rows-spec =
     (λ c κs. search needs)
     loop-holds
     (λ c. search needs)
+    (λ c κs. search needs)
     (λ c. search needs)
     (λ c. search needs)
     (λ c κs. search needs)
-    (λ c. search needs)
     add-line-requires
     (λ c. search needs)
     (λ c. search needs)

@@ -29,12 +29,13 @@ part-carried-end c =
 returns : tie.Need-returns
 unfolding row
 returns c =
-    let s = c .before .before .before .before .before .before .before .before .before .before in
+    let l = c .before .before .before .before .before in
+    let s = l .before .before .before .before .before in
     let a = s .args in
     let w : a .d * bytesFor (a .width) + bytesFor (a .width) - a .d * bytesFor (a .width) ≡ bytesFor (a .width) = omega arith in
-    let line : c .before .before .before .before .before .carried .result ≡ pack carriedBytes (coord (row (a .width) (a .table .now) (a .d))) =
-    c .before .before .before .before .before .carried .ensures ∙ rw (c .before .before .before .before .before .before .before .bytes-for .ensures, w) in
-    line-added (s .pre .0) (a .d) (s .pre .1) (a .e) line (c .before .before .before .before .to-limbs .ensures) (c .before .before .add-row .ensures)
+    let line : l .carried .result ≡ pack carriedBytes (coord (row (a .width) (a .table .now) (a .d))) =
+    l .carried .ensures ∙ rw (l .before .before .bytes-for .ensures, w) in
+    line-added (s .pre .0) (a .d) (s .pre .1) (a .e) (s .pre .2) line (c .before .before .before .before .to-limbs .ensures) (c .before .before .add-row .ensures)
 
 pub add-line-spec : {M : Type 1} → statement M
 add-line-spec =

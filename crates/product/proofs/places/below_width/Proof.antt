@@ -4,7 +4,7 @@ use Rattle.gf2.specs.Coordinates.{pack}
 use Rattle.gf2.specs.Operands.{carriedBytes, fromCoords}
 use Rattle.limbs.specs.Limbs.{limbCoord}
 use Rattle.limbs.proofs.LimbCoords.{bytes-limbs}
-use Rattle.product.specs.Kernels.{carried}
+use Rattle.product.specs.Inner.{carried}
 use borrow.Author.Needs.{needs}
 use Rattle.product.proofs.places.below_width.Statement.{statement}
 use Rattle.product.proofs.places.below_width.Tie as tie

@@ -6,8 +6,10 @@ use Rattle.product.proofs.places.gathered.Tie as tie
 
 returns : tie.Need-returns
 returns c =
-    let s = c .before .before .before .before .before .before .before .before .before .before in
-    gathered-made (s .pre .0) (s .pre .2) (c .before .before .before .before .before .before .before .before .spread .ensures) (c .before .before .before .before .before .before .window .ensures) (c .before .before .before .before .before .below-width .ensures) (c .before .before .before .window2 .ensures) (c .before .before .below-width2 .ensures) (c .before .sum .ensures)
+    let w = c .before .before .before in
+    let b = w .before .before in
+    let s = b .before .before .before .before .before in
+    gathered-made (s .pre .0) (s .pre .1) (s .pre .2) (b .before .before .before .spread .ensures) (b .before .window .ensures) (b .below-width .ensures) (w .window2 .ensures) (c .before .before .below-width2 .ensures) (c .before .sum .ensures)
 
 pub gathered-spec : {M : Type 1} → statement M
 gathered-spec =

@@ -1,20 +1,20 @@
 -- `vectors::published::operand` meets its contract. The invariant: the first b bytes are made.
-use mathlib.Core.Path.{_≡_, ap, _∙_}
+use mathlib.Core.Path.{_≡_, ap}
 use Prim.Native.Nat.{_+_, _-_, _*_}
 use native.Mathlib.Omega.{arith}
 use Rattle.gf2.specs.Coordinates.{value, pack}
-use Rattle.gf2.specs.Operands.{carriedBytes, below, fromCoords}
+use Rattle.gf2.specs.Operands.{carriedBytes}
 use Rattle.gf2.proofs.Loops.{Filled, filled-none, filled-more, filled-all}
-use Rattle.vectors.specs.Published.{publishedCoord, published}
+use Rattle.vectors.specs.Published.{publishedCoord, digitBit, published}
 use borrow.Author.Needs.{needs}
 use Rattle.vectors.proofs.published.operand.Statement.{statement}
 use Rattle.vectors.proofs.published.operand.Tie as tie
 
 abbrev Inv-loop : tie.InvT-loop
-Inv-loop width digits bytes₀ b₀ bytes b = Filled carriedBytes (λ b. value 8 (λ j. below width (publishedCoord width digits) (b * 8 + j))) bytes₀ bytes b
+Inv-loop width digits start bytes₀ b₀ bytes b = Filled carriedBytes (λ b. value 8 (λ j. digitBit digits (start + (b * 8 + j)))) bytes₀ bytes b
 
 abbrev μ-loop : tie.MeasureT-loop
-μ-loop width digits bytes₀ b₀ bytes b = carriedBytes - b
+μ-loop width digits start bytes₀ b₀ bytes b = carriedBytes - b
 
 loop-holds : tie.Need-loop-holds Inv-loop μ-loop
 loop-holds c = filled-none carriedBytes _ _
@@ -23,7 +23,7 @@ loop-again : tie.Need-loop-again Inv-loop μ-loop
 loop-again c = filled-more (c .before .before .loop .inv) (omega arith) (omega arith) (c .byte .ensures)
 
 returns : tie.Need-returns Inv-loop μ-loop
-unfolding published fromCoords pack
+unfolding published publishedCoord pack
 returns c =
     let w = c .before .before .before .args .width in
     ap (λ x. record { bytes = x; width = w }) (filled-all (c .before .loop .inv) (omega arith) (omega arith))
@@ -34,11 +34,11 @@ operand-spec =
     (tie.spec
     Inv-loop
     μ-loop
+    (λ c. search needs)
     loop-holds
     (λ c κs. search needs)
     (λ c. search needs)
     (λ c. search needs)
     (λ c. search needs)
     loop-again
-    (λ c. search needs)
     returns)

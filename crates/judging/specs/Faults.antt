@@ -1,0 +1,32 @@
+-- Document 01's number and values for each fault.
+use mathlib.Core.Bool.{Bool}
+use lib.Dec.{eqb}
+use Rattle.judging.specs.declared.fault.Fault.{Fault}
+use Rattle.judging.specs.declared.fault.Fault.the-variants.{None, Width, Length, HighBit, RowZero, RowPair, Triple, RowSum, TurnCount, InverseOfZero, TraceOne, OutputShort, CardEnds, CardNumber, CardForm, CardPlace, CardTail, NoType, BadGate}
+use Rattle.judging.specs.declared.fault.FaultNumber.{FaultNumber}
+
+-- the columns Number and Returned of document 01's table of faults: the number, 0 where there is no fault, and what is returned beside it
+abbrev pub numberOf : Fault → FaultNumber
+numberOf None = (0, 0, 0)
+numberOf Width = (1, 0, 0)
+numberOf Length = (2, 0, 0)
+numberOf HighBit = (3, 0, 0)
+numberOf RowZero = (4, 0, 0)
+numberOf (RowPair d) = (5, d, 0)
+numberOf (Triple i j) = (6, i, j)
+numberOf RowSum = (7, 0, 0)
+numberOf TurnCount = (8, 0, 0)
+numberOf InverseOfZero = (9, 0, 0)
+numberOf TraceOne = (10, 0, 0)
+numberOf OutputShort = (11, 0, 0)
+numberOf CardEnds = (12, 0, 0)
+numberOf CardNumber = (13, 0, 0)
+numberOf CardForm = (14, 0, 0)
+numberOf CardPlace = (15, 0, 0)
+numberOf CardTail = (16, 0, 0)
+numberOf NoType = (17, 0, 0)
+numberOf BadGate = (18, 0, 0)
+
+-- no number is given
+unfoldable pub isNone : Fault → Bool
+isNone f = eqb (numberOf f .0) 0

@@ -1,0 +1,16 @@
+-- `limbs::rows::limb_ones` meets its contract.
+use native.Mathlib.Omega.{arith}
+use lib.Count.{ones-le}
+use Rattle.limbs.proofs.LimbRows.{count-bits}
+use borrow.Author.Needs.{needs}
+use Rattle.limbs.proofs.rows.limb_ones.Statement.{statement}
+use Rattle.limbs.proofs.rows.limb_ones.Tie as tie
+
+cast-result : tie.Need-cast-result
+cast-result c = omega (arith, ones-le 64 (c .args .limb) (c .fits .limb .fits))
+
+returns : tie.Need-returns
+returns c = count-bits 64 (c .args .limb) (c .fits .limb .fits)
+
+pub limb-ones-spec : {M : Type 1} → statement M
+limb-ones-spec = tie.close (tie.spec cast-result returns)

@@ -1,0 +1,75 @@
+-- The product by a method: what its rows give, gathered, with what the method adds to them.
+use mathlib.Core.Path.{_≡_, sym, ap, ap₂, _∙_}
+use mathlib.Core.List.{List}
+use Prim.Native.Nat.{ℕ, _+_, _-_, _*_, _/_, _%_, _<_, _≤_}
+use native.Mathlib.Nat.{add-zero, mod-lt, mod-mod}
+use native.Mathlib.Omega.{arith}
+use lib.ListN.{length, replicate}
+use Rattle.gf2.specs.Coordinates.{coord}
+use Rattle.gf2.specs.Operands.{carriedBytes, maxWidth, minus}
+use Rattle.gf2.proofs.Operands.{from-ext, coord-from}
+use Rattle.operand.specs.declared.Operand.{Operand}
+use Rattle.operand.specs.declared.OperandAnswer.{OperandAnswer}
+use Rattle.operand.specs.Calls.{squareCall, sumCall}
+use Rattle.limbs.specs.Limbs.{carriedLimbs, limbCoord, packLimbs}
+use Rattle.limbs.proofs.LimbCoords.{limb-pack}
+use Rattle.table.specs.Rows.{Shaped}
+use Rattle.scatter.specs.Cells.{Added}
+use Rattle.product.specs.declared.kernel.Method.{Method}
+use Rattle.product.specs.declared.kernel.Method.the-variants.{Plain, Reduced}
+use Rattle.product.specs.Inner.{Sound, Serves, carried, made, multiplied, firstRow, rowCount, rowsTo, gatheredAt, diagonalAt}
+use Rattle.product.proofs.SoundOperands.{fits, is-made, sum-made, square-made}
+use Rattle.product.proofs.KernelLaws.{limbs-coord}
+use Rattle.product.proofs.PlainLimbs.{plain-made}
+use Rattle.product.proofs.ReducedLimbs.{halves-made}
+
+pub serves-shaped : (how : Method) (m : ℕ) (t : List ℕ) → Serves how m t → Shaped m t
+serves-shaped Plain m t s = s
+serves-shaped Reduced m t s = s .0
+
+-- the rows of a method are rows of the table
+pub rows-inside : (how : Method) (m : ℕ) → 2 ≤ m → firstRow how + rowCount how m ≤ m
+rows-inside Plain m two = omega arith
+rows-inside Reduced m two = omega arith
+
+-- those rows, by name, on empty places
+pub rows-by : (how : Method) (m : ℕ) (t x y : List ℕ) (n : ℕ) {from count : ℕ} {g₀ g : List ℕ} → from ≡ firstRow how → count ≡ rowCount how m → g₀ ≡ replicate n 0
+    → Added (rowsTo how m t x y from count) g₀ g → Added (rowsTo how m t x y (firstRow how) (rowCount how m)) (replicate n 0) g
+rows-by how m t x y n p q r h = rw (p, q, r) at h
+
+-- what the rows give, with nothing and with the diagonal
+module _ {m : ℕ} {rows : Operand} (s : Sound m rows) (x y : List ℕ) where
+  pub plus-none : rows ≡ made m (λ i. coord (rows .bytes) i + diagonalAt Plain m x y i)
+  plus-none = is-made s ∙ ap (carried m) (from-ext carriedBytes m _ _ (λ i l. ap (λ z. z % 2) (sym (add-zero _))))
+
+  pub plus-products : {e : List ℕ} {products : Operand} {square sum : OperandAnswer} → e ≡ packLimbs carriedLimbs (λ i. limbCoord x i * limbCoord y i)
+      → products ≡ made m (limbCoord e) → square ≡ squareCall products → sum ≡ sumCall rows (square .value)
+      → sum .value ≡ made m (λ i. coord (rows .bytes) i + diagonalAt Reduced m x y i)
+  plus-products {e} p q r t =
+      sum-made (s .least) (s .greatest) (coord (rows .bytes)) (λ i. limbCoord e (minus m i 1)) (is-made s) (square-made (s .least) (s .greatest) (limbCoord e) q r) t
+      ∙ ap (carried m) (from-ext carriedBytes m _ _ (λ i l. ap (λ z. (coord (rows .bytes) i + z) % 2) (at (minus m i 1) (minus-lt i)) ∙ inner _ _))
+    where
+      at : (j : ℕ) → j < m → limbCoord e j ≡ limbCoord x j * limbCoord y j % 2
+      at j l = let big = s .greatest in ap (λ z. limbCoord z j) p ∙ limb-pack carriedLimbs _ j (omega arith)
+
+      minus-lt : (i : ℕ) → minus m i 1 < m
+      minus-lt i = let two = s .least in unfold minus in mod-lt _ (omega arith)
+
+      inner : (c d : ℕ) → (c + d % 2) % 2 ≡ (c + d) % 2
+      inner c d = omega arith
+
+module _ {m : ℕ} (t : List ℕ) {a b : Operand} {x y : List ℕ} (sa : Sound m a) (sb : Sound m b)
+    (ex : x ≡ packLimbs carriedLimbs (coord (a .bytes))) (ey : y ≡ packLimbs carriedLimbs (coord (b .bytes))) (n : ℕ) where
+  pub times-made : (how : Method) {g : List ℕ} {rows r : Operand} → Serves how m t → Added (rowsTo how m t x y (firstRow how) (rowCount how m)) (replicate n 0) g
+      → rows ≡ made m (gatheredAt m g) → r ≡ made m (λ i. coord (rows .bytes) i + diagonalAt how m x y i) → r ≡ carried m (multiplied how m t (a .bytes) (b .bytes))
+  times-made Plain {g} serves p q e = e ∙ ap (carried m) (from-ext carriedBytes m _ (gatheredAt m g) (λ i l. ap (λ z. z % 2) (add-zero _) ∙ gathered q i l))
+      ∙ plain-made n serves sa sb ex ey p
+    where
+      gathered : {rows : Operand} → rows ≡ made m (gatheredAt m g) → (i : ℕ) → i < m → coord (rows .bytes) i % 2 ≡ gatheredAt m g i % 2
+      gathered q i l = ap (λ z. coord (z .bytes) i % 2) q ∙ ap (λ z. z % 2) (coord-from carriedBytes m (gatheredAt m g) (fits m (sa .greatest)) i l) ∙ mod-mod _ 2
+  times-made Reduced {g} serves p q e = e ∙ ap (carried m) (from-ext carriedBytes m _ (λ i. gatheredAt m g i + coord (a .bytes) (minus m i 1) * coord (b .bytes) (minus m i 1)) (λ i l.
+      ap₂ (λ u v. (u + v) % 2) (ap (λ z. coord (z .bytes) i) q ∙ coord-from carriedBytes m (gatheredAt m g) (fits m (sa .greatest)) i l) (ap₂ _*_ (limbs-coord sa ex _) (limbs-coord sb ey _)) ∙ first _ _))
+      ∙ halves-made n (serves .0) (serves .1) sa sb ex ey p
+    where
+      first : (c d : ℕ) → (c % 2 + d) % 2 ≡ (c + d) % 2
+      first c d = omega arith

@@ -1,0 +1,142 @@
+-- Inner definitions, of which only inner functions speak: operands without fault, the rows that a method looks at and what they
+-- add, and the states of the inverse's chain. No demand cites them.
+use mathlib.Core.Path.{_≡_}
+use mathlib.Core.Bool.{Bool, true}
+use mathlib.Core.List.{List}
+use Prim.Native.Nat.{ℕ, _+_, _-_, _*_, _/_, _%_, _^_, _<_, _≤_}
+use lib.Dec.{eqb}
+use Rattle.gf2.specs.Sums.{sum}
+use Rattle.gf2.specs.Coordinates.{coord}
+use Rattle.gf2.specs.Operands.{maxWidth, carriedBytes, IsOperand, minus, choose, fromCoords, turned}
+use Rattle.gf2.specs.Tables.{row}
+use Rattle.gf2.specs.Products.{product, reduced}
+use Rattle.gf2.specs.Check.{Symmetric}
+use Rattle.gf2.specs.Inverse.{Chain, adding, digits, inverse, productsMade}
+use Rattle.limbs.specs.Limbs.{limbCoord}
+use Rattle.operand.specs.declared.Operand.{Operand}
+use Rattle.operand.specs.declared.OperandAnswer.{OperandAnswer}
+use Rattle.operand.specs.declared.fault.Fault.{Fault}
+use Rattle.operand.specs.declared.fault.Fault.the-variants.{None}
+use Rattle.operand.specs.Calls.{answer}
+use Rattle.table.specs.Rows.{Shaped}
+use Rattle.scatter.specs.Cells.{places, HasPlaces, cell}
+use Rattle.product.specs.declared.InverseAnswer.{InverseAnswer}
+use Rattle.product.specs.declared.kernel.Method.{Method}
+use Rattle.product.specs.declared.kernel.Method.the-variants.{Plain, Reduced}
+use Rattle.product.specs.declared.chain.State.{State}
+use Rattle.product.specs.Judgements.{productFault, reducedFault}
+
+-- the operand of width m with these bytes
+abbrev pub carried : ℕ → List ℕ → Operand
+carried m x = record { bytes = x; width = m }
+
+-- the operand of width m with the coordinates f 0, .., f (m - 1), each modulo 2
+abbrev pub made : ℕ → (ℕ → ℕ) → Operand
+made m f = carried m (fromCoords carriedBytes m f)
+
+-- a width that has passed
+abbrev pub IsWidth : ℕ → Type 0
+IsWidth m = (2 ≤ m) × (m ≤ maxWidth)
+
+-- an operand of width m that has no fault
+pub record Sound (m : ℕ) (a : Operand) : Type 0 where
+  pub least : 2 ≤ m
+  pub greatest : m ≤ maxWidth
+  pub width : a .width ≡ m
+  pub operand : IsOperand carriedBytes m (a .bytes)
+
+-- a table that a method can go by
+abbrev pub Serves : Method → ℕ → List ℕ → Type 0
+Serves Plain m table = Shaped m table
+Serves Reduced m table = Shaped m table × Symmetric m table
+
+-- the product by a method
+abbrev pub multiplied : Method → ℕ → List ℕ → List ℕ → List ℕ → List ℕ
+multiplied Plain m table a b = product m table a b
+multiplied Reduced m table a b = reduced m table a b
+
+-- what a product by a method is refused for, and what it answers
+abbrev pub methodFault : Method → ℕ → List ℕ → Operand → Operand → Fault
+methodFault Plain m table a b = productFault m table a b
+methodFault Reduced m table a b = reducedFault m table a b
+
+abbrev pub multiplyCall : Method → ℕ → List ℕ → Operand → Operand → OperandAnswer
+multiplyCall k m table a b = answer (methodFault k m table a b) m (multiplied k m table (a .bytes) (b .bytes))
+
+-- the rows that a method looks at: all, or 1 to m/2
+abbrev pub firstRow : Method → ℕ
+firstRow Plain = 0
+firstRow Reduced = 1
+
+abbrev pub rowCount : Method → ℕ → ℕ
+rowCount Plain m = m
+rowCount Reduced m = m / 2
+
+-- whether row d meets its pairs one way round: always in the plain product, and in the reduced at distance m/2, where the other way gives the same pairs
+abbrev pub isOneWay : Method → ℕ → ℕ → Bool
+isOneWay Plain m d = true
+isOneWay Reduced m d = eqb (2 * d) m
+
+-- coordinate i of what row d meets: the product of the pair i, i + d, and unless it is met one way that of the pair the other way round
+unfoldable pub metLimbs : Method → ℕ → ℕ → List ℕ → List ℕ → ℕ → ℕ
+metLimbs k m d x y i = limbCoord x i * limbCoord y ((i + d) % m) + choose (isOneWay k m d) 0 (limbCoord y i * limbCoord x ((i + d) % m))
+
+-- what n rows from row `from` on add to coordinate i at place s
+abbrev pub rowsTo : Method → ℕ → List ℕ → List ℕ → List ℕ → ℕ → ℕ → ℕ → ℕ → ℕ
+rowsTo k m table x y from n s i = sum n (λ d. coord (row m table (from + d)) s * metLimbs k m (from + d) x y i)
+
+-- "bits at m and above are 0"
+abbrev pub Clear : ℕ → List ℕ → Type 0
+Clear m x = (i : ℕ) → m ≤ i → limbCoord x i ≡ 0
+
+-- only the places below m have coordinates that are 1, and only below m
+pub record Within (m : ℕ) (g : List ℕ) : Type 0 where
+  pub empty : (s i : ℕ) → m ≤ s → i < places → cell g s i ≡ 0
+  pub clear : (s i : ℕ) → m ≤ i → i < places → cell g s i ≡ 0
+
+-- coordinate i of the sum of all places below m, place s turned s
+abbrev pub gatheredAt : ℕ → List ℕ → ℕ → ℕ
+gatheredAt m g i = sum m (λ s. cell g s (minus m i s))
+
+-- coordinate i of what the reduced product adds to its rows: the products of the coordinates, turned one place
+abbrev pub diagonalAt : Method → ℕ → List ℕ → List ℕ → ℕ → ℕ
+diagonalAt Plain m x y i = 0
+diagonalAt Reduced m x y i = limbCoord x (minus m i 1) * limbCoord y (minus m i 1)
+
+-- the state that a step of the chain hands on: as the definition of the inverse has it and as the program carries it
+abbrev pub chainOf : State → Chain
+chainOf s = record { t = s .t .bytes; k = s .k; count = s .count }
+
+abbrev pub stateOf : ℕ → Chain → State
+stateOf m c = record { t = carried m (c .t); k = c .k; count = c .count }
+
+-- what a step takes for granted of a state, and of its scratch
+pub record Ready (m : ℕ) (table : List ℕ) (s : State) (g : List ℕ) : Type 0 where
+  pub shaped : Shaped m table
+  pub power : Sound m (s .t)
+  pub short : s .k < m
+  pub few : s .count < maxWidth
+  pub there : HasPlaces g
+
+-- t := (t turned j)·b, and the k and the count that go with it
+abbrev pub stepped : ℕ → List ℕ → ℕ → List ℕ → List ℕ → ℕ → ℕ → State
+stepped m table j t b k count = record { t = carried m (product m table (turned m j t) b); k = k; count = count }
+
+-- the state after the digit before the `unread` last ones of m - 1, whose doubling is done, and after those
+abbrev pub addedFrom : ℕ → List ℕ → List ℕ → ℕ → Chain → State
+addedFrom m table a unread s = stateOf m (digits m table a (m - 1) unread (adding m table a ((m - 1) / 2 ^ unread % 2) s))
+
+-- an inverse without fault
+abbrev pub invertedBy : ℕ → List ℕ → List ℕ → InverseAnswer
+invertedBy m table a = record { fault = None; value = carried m (inverse m table a); count = productsMade m table a }
+
+-- `unread` digits of m - 1 are left, and `owed`, 0 or 1, is the digit before them if it has yet to be added
+pub record Underway (m : ℕ) (table : List ℕ) (a : Operand) (s : State) (unread owed : ℕ) : Type 0 where
+  pub shaped : Shaped m table
+  pub base : Sound m a
+  pub power : Sound m (s .t)
+  -- k is the number that the digits read so far make
+  pub reached : s .k + owed ≡ (m - 1) / 2 ^ unread
+  pub short : 2 ^ unread ≤ maxWidth
+  -- at most two products for each digit
+  pub few : s .count + owed + 2 * unread ≤ maxWidth

@@ -1,0 +1,9 @@
+-- The laws of this crate's definitions.
+-- CellLaws: limb by limb, and what is added at a place.
+-- OnesLaws: the ones of limbs, and what they add at their places.
+-- MoveLaws: coordinates moved up.
+-- SpreadLaws: the sum of all places, each moved up by its number.
+pub mod CellLaws
+pub mod OnesLaws
+pub mod MoveLaws
+pub mod SpreadLaws

@@ -1,0 +1,22 @@
+-- `vectors::examples::card` meets its contract.
+use mathlib.Core.Path.{sym}
+use native.Mathlib.Omega.{arith}
+use lib.Seq.{length-take-le}
+use borrow.Author.Needs.{needs}
+use Rattle.vectors.proofs.examples.card.Statement.{statement}
+use Rattle.vectors.proofs.examples.card.Tie as tie
+
+slice-aggregate-card : tie.Need-slice-aggregate-card
+slice-aggregate-card c = sym (length-take-le _ _ (omega arith))
+
+pub card-spec : {M : Type 1} → statement M
+card-spec =
+    tie.close
+    (tie.spec
+    (λ c. search needs)
+    (λ c. search needs)
+    (λ c. search needs)
+    slice-aggregate-card
+    (λ c κs. search needs)
+    (λ c κs. search needs)
+    (λ c. search needs))

@@ -1,0 +1,165 @@
+// Each function runs one example of document 01 and prints what its calls answer.
+ghost use mathlib.Core.Path.{_≡_};
+ghost use Prim.Native.Nat.{_<_, _≤_};
+ghost use Rattle.operand.specs.Faults.{numberOf};
+ghost use Rattle.gaussian.specs.Calls.{drawnInto};
+ghost use Rattle.card.specs.Calls.{writeCard};
+ghost use Rattle.vectors.specs.Curve.{pointOnCurve};
+use crate::curve;
+use crate::printing;
+use crate::published;
+use operand::Operand;
+use operand::OperandAnswer;
+
+// The number of an answer's fault, 0 for none.
+fn fault_of(answer: OperandAnswer) -> usize
+    ensures { λ r. ⌜ r ≡ numberOf (answer .fault) .0 ⌝ }
+{
+    let fault = answer.fault;
+    let number = operand::number(fault);
+    number.0
+}
+
+// "Widths 1, 256: 1; 2, 255 pass", for zero and one.
+pub(crate) fn widths(width: usize)
+    ensures { λ _. ⊤ₛ }
+{
+    let zero = fault_of(Operand::zero(width));
+    let one = fault_of(Operand::one(width));
+    printing::line(b"width #: zero #, one #\n", [width, zero, one, 0]);
+}
+
+// "Turn m-1 passes, m gives 8", for one.
+pub(crate) fn turns(width: usize)
+    requires { ⌜ 0 < width ⌝ }
+    ensures { λ _. ⊤ₛ }
+{
+    let one = Operand::one(width);
+    let last = fault_of(one.value.turn(width - 1));
+    let whole = fault_of(one.value.turn(width));
+    printing::line(
+        b"width # turned by m-1: #, by m: #\n",
+        [width, last, whole, 0],
+    );
+}
+
+// "Drawing 8: 17"; "drawing a table returns its type T". A row of these widths is a byte.
+pub(crate) fn drawn(width: usize)
+    requires { ⌜ width ≤ 8 ⌝ }
+    ensures { λ _. ⊤ₛ }
+{
+    let mut buffer = [238u8; 8];
+    let whole: &mut [u8] = &mut buffer;
+    let table = &mut whole[..width];
+    let answer = gaussian::draw(width, table);
+    let fault = answer.fault;
+    let number = operand::number(fault);
+    printing::line(b"drawn width #: #, type #,", [width, number.0, answer.t, 0]);
+    printing::bytes(table);
+}
+
+// "Reduced list, width 2: 2 7, 0 0 2, .. With 24 words lent: 11; 25 fits".
+pub(crate) fn list(lent: usize)
+    requires { ⌜ lent ≤ 25 ⌝ }
+    ensures { λ _. ⊤ₛ }
+{
+    let table = table::table2();
+    let mut buffer = [99u32; 25];
+    let whole: &mut [u32] = &mut buffer;
+    let words = &mut whole[..lent];
+    let answer = list_writer::list_reduced(2, &table, words);
+    let fault = answer.fault;
+    let number = operand::number(fault);
+    printing::line(
+        b"reduced list of width 2, # words lent: #, AND #, XOR #, words",
+        [lent, number.0, answer.ands.0, answer.xors.0],
+    );
+    printing::words(words);
+}
+
+// "Three XOR counts stand in the order plain, reduced, common".
+pub(crate) fn xors(text: &[u8], width: usize, table: &[u8])
+    ensures { λ _. ⊤ₛ }
+{
+    let plain = netlist::counts_plain(width, table);
+    let reduced = netlist::counts_reduced(width, table);
+    let common = netlist::counts_common(width, table);
+    printing::line(text, [plain.xors.0, reduced.xors.0, common.xors.0, 0]);
+}
+
+// "Writing a card returns its length in bytes".
+fn written(width: usize, table: &[u8], card: &mut [u8])
+    ensures { λ _. ⌜ now (card .exit) ≡ writeCard width (now (table .entry)) (now (card .entry)) ⌝ }
+{
+    let answer = card::write(width, table, card);
+    let fault = answer.fault;
+    let number = operand::number(fault);
+    printing::line(
+        b"card of width #: #, length #,",
+        [width, number.0, answer.value, 0],
+    );
+    printing::bytes(card);
+}
+
+// "reading one returns m", and whether the bytes read are the table's.
+fn read(width: usize, table: &[u8], card: &[u8])
+    requires { ⌜ width ≤ 5 ⌝ }
+    ensures { λ _. ⊤ₛ }
+{
+    let mut buffer = [0u8; 5];
+    let whole: &mut [u8] = &mut buffer;
+    let bytes = &mut whole[..width];
+    let answer = card::read(card, bytes);
+    let fault = answer.fault;
+    let number = operand::number(fault);
+    let same = check::same(bytes, table) as usize;
+    printing::line(
+        b"card of width # read: #, width #, the carried table #\n",
+        [width, number.0, answer.value, same],
+    );
+}
+
+// The card of a carried table, there and back. Its 2m-1 ones make 3m+1 bytes.
+pub(crate) fn card(width: usize, table: &[u8])
+    requires { ⌜ width ≤ 5 ⌝ }
+    ensures { λ _. ⊤ₛ }
+{
+    let mut buffer = [0u8; 16];
+    let whole: &mut [u8] = &mut buffer;
+    let card = &mut whole[..3 * width + 1];
+    written(width, table, card);
+    read(width, table, card);
+}
+
+// Whether the point with these digits lies on the curve once `change` is added to y.
+fn lies(width: u16, table: &[u8], a: &[u8], b: &[u8], x: &[u8], y: &[u8], change: &[u8]) -> bool
+    ensures { λ r. ⌜ r ≡ pointOnCurve width (now (table .entry)) (now (a .entry)) (now (b .entry)) (now (x .entry)) (now (y .entry)) (now (change .entry)) ⌝ }
+{
+    let changed = published::operand(width, y).sum(published::operand(width, change));
+    curve::on_curve(
+        width as usize,
+        table,
+        published::operand(width, a),
+        published::operand(width, b),
+        published::operand(width, x),
+        changed.value,
+    )
+}
+
+// A point under the drawn table of its width: whether it lies on the curve, and whether it does with one bit of y changed.
+pub(crate) fn point(
+    text: &[u8],
+    width: u16,
+    table: &mut [u8],
+    a: &[u8],
+    b: &[u8],
+    x: &[u8],
+    y: &[u8],
+)
+    ensures { λ _. ⌜ now (table .exit) ≡ drawnInto width (now (table .entry)) ⌝ }
+{
+    let answer = gaussian::draw(width as usize, table);
+    let on = lies(width, table, a, b, x, y, b"0") as usize;
+    let changed = lies(width, table, a, b, x, y, b"1") as usize;
+    printing::line(text, [answer.t, on, changed, 0]);
+}
