@@ -29,7 +29,8 @@ use Rattle.netlist.specs.Calls.{answer, countsCall, countsPlainCall, countsRedu
 use Rattle.netlist.specs.Statements.{Sized, ListsHold}
 use Rattle.netlist.proofs.SizeLaws.{ones-most, counts-most}
 use Rattle.netlist.proofs.Theorems.{theoremLists}
-use Rattle.netlist.proofs.CallLaws.{width-times, table-fine}
+use Rattle.netlist.proofs.CallLaws.{table-fine}
+use Rattle.netlist.proofs.TableLaws.{width-times}
 use Rattle.gaussian.specs.declared.TypeAnswer.{TypeAnswer}
 use Rattle.gaussian.specs.Calls.{answer as typed, typeCall, drawFault, drawCall}
 use Rattle.gaussian.proofs.TypeBound.{type-small}

@@ -44,21 +44,21 @@ pub extern "C" fn nb_counts_common(width: u64, table: &[u8]) -> u64
 pub extern "C" fn nb_list_plain(width: u64, table: &[u8], out: &mut [u32]) -> u64
     ensures { λ r. ⌜ (r ≡ countsAnswer (listCall width (now (table .entry)) (plain width (now (table .entry))) (now (out .entry)))) × (now (out .exit) ≡ listBuffer width (now (table .entry)) (plain width (now (table .entry))) (now (out .entry))) ⌝ }
 {
-    both(netlist::list_plain(width as usize, table, out))
+    both(list_writer::list_plain(width as usize, table, out))
 }
 
 #[no_mangle]
 pub extern "C" fn nb_list_reduced(width: u64, table: &[u8], out: &mut [u32]) -> u64
     ensures { λ r. ⌜ (r ≡ countsAnswer (listCall width (now (table .entry)) (reduced width (now (table .entry))) (now (out .entry)))) × (now (out .exit) ≡ listBuffer width (now (table .entry)) (reduced width (now (table .entry))) (now (out .entry))) ⌝ }
 {
-    both(netlist::list_reduced(width as usize, table, out))
+    both(list_writer::list_reduced(width as usize, table, out))
 }
 
 #[no_mangle]
 pub extern "C" fn nb_list_common(width: u64, table: &[u8], out: &mut [u32]) -> u64
     ensures { λ r. ⌜ (r ≡ countsAnswer (listCall width (now (table .entry)) (common width (now (table .entry))) (now (out .entry)))) × (now (out .exit) ≡ listBuffer width (now (table .entry)) (common width (now (table .entry))) (now (out .entry))) ⌝ }
 {
-    both(netlist::list_common(width as usize, table, out))
+    both(list_writer::list_common(width as usize, table, out))
 }
 
 #[no_mangle]

@@ -8,10 +8,8 @@
 -- Theorems: the proofs of the statements in specs/Statements.antt.
 -- StoreLaws: stores of several elements in a row.
 -- RunLaws: the runner's tests and loops. JudgeLaws: its faults. GateTests: the test of its gates decides.
--- TermLaws: the bits of a table in its bytes, and the wires of pairs.
--- SuccessorLaws: the next pair that is folded.
--- WriteLaws: a fold term by term. PutLaws: the writer's loops, and a whole list.
--- CallLaws: the answers and buffers of counts and written lists.
+-- TableLaws: the bits of a table in its bytes, and bounds.
+-- CallLaws: the numbers of all gates, and the answers of the calls.
 pub mod SumLaws
 pub mod FoldLaws
 pub mod NetlistLaws
@@ -23,8 +21,5 @@ pub mod StoreLaws
 pub mod RunLaws
 pub mod JudgeLaws
 pub mod GateTests
-pub mod TermLaws
-pub mod SuccessorLaws
-pub mod WriteLaws
-pub mod PutLaws
+pub mod TableLaws
 pub mod CallLaws

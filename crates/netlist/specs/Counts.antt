@@ -1,6 +1,7 @@
 -- The numbers by which the gates of a list are counted without writing it: from m, the number C of ones and the number q of
 -- all-ones rows. `CountsHold` of Statements says that they are those of the lists.
-use Prim.Native.Nat.{ℕ, _+_, _-_, _*_, _/_}
+use Prim.Native.Nat.{ℕ, _+_, _-_, _*_, _/_, _≤_}
+use Rattle.gf2.specs.Operands.{maxWidth}
 use Rattle.netlist.specs.Lists.{ifNone}
 
 -- "m² AND gates"
@@ -19,12 +20,20 @@ reducedXors m ones = m * (ones + m - 2) / 2
 abbrev pub commonXors : ℕ → ℕ → ℕ → ℕ
 commonXors m ones q = ifNone q (plainXors m ones) (m * (ones - m * q) + m * q - 1)
 
--- "the number g of gates": of the plain list, of the reduced list, and of the common list where q rows are all ones
+-- "the number g of gates": of the plain list, of the reduced list, and of the common list
 abbrev pub plainGates : ℕ → ℕ → ℕ
 plainGates m ones = m * (m + ones - 1)
 
 abbrev pub reducedGates : ℕ → ℕ → ℕ
 reducedGates m ones = m * (3 * m + ones - 2) / 2
 
-abbrev pub sharingGates : ℕ → ℕ → ℕ → ℕ
-sharingGates m ones q = m * (m + ones - m * q) + m * q - 1
+abbrev pub commonGates : ℕ → ℕ → ℕ → ℕ
+commonGates m ones q = ifNone q (plainGates m ones) (m * (m + ones - m * q) + m * q - 1)
+
+-- inner: numbers that the gates can be counted from
+pub record Countable (m ones q : ℕ) : Type 0 where
+  pub least : 2 ≤ m
+  pub greatest : m ≤ maxWidth
+  pub some : 1 ≤ ones
+  pub most : ones ≤ m * m
+  pub shared : m * q ≤ ones

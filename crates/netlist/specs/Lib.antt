@@ -5,7 +5,7 @@
 -- Counts: the numbers of gates, without the lists.
 -- Judgements: the faults of a list that is run, and of a buffer for a written one.
 -- Calls: what each call answers, for every input.
--- Writing: what the contracts of the writer cite.
+-- Methods: the lists by their method, all numbers of a list in one answer.
 -- Statements: what is proved of the lists; the proofs are proofs/Theorems.antt.
 pub mod Gates
 pub mod Lists
@@ -13,5 +13,5 @@ pub mod Running
 pub mod Counts
 pub mod Judgements
 pub mod Calls
-pub mod Writing
+pub mod Methods
 pub mod Statements

@@ -1,50 +1,29 @@
 // The numbers of gates of a table's lists, without the lists: from the width, the ones and the all-ones rows.
 // Each kind has its own number; the number of all gates is worked out by itself, not from these two.
 ghost use mathlib.Core.Path.{_≡_};
-ghost use Prim.Native.Nat.{_+_, _*_, _<_, _≤_};
+ghost use Prim.Native.Nat.{_*_, _≤_};
 ghost use Rattle.gf2.specs.Operands.{maxWidth};
 ghost use Rattle.gf2.specs.Tables.{onesIn};
-ghost use Rattle.gf2.specs.Check.{Symmetric};
 ghost use Rattle.table.specs.Rows.{Shaped};
-ghost use Rattle.netlist.specs.Gates.{wordLimit};
-ghost use Rattle.netlist.specs.Counts.{plainXors, reducedXors, commonXors, plainGates, reducedGates, sharingGates};
-ghost use Rattle.netlist.specs.Calls.{refusedWith, countedAs, countsCall, countsPlainCall, countsReducedCall, countsCommonCall};
-ghost use Rattle.netlist.specs.Writing.{listBy, xorsBy};
+ghost use Rattle.netlist.specs.Counts.{plainXors, reducedXors, commonXors, plainGates, reducedGates, commonGates, Countable};
+ghost use Rattle.netlist.specs.Calls.{countsCall, countsPlainCall, countsReducedCall, countsCommonCall};
+ghost use Rattle.netlist.specs.Methods.{listBy, sharedBy, xorsBy, gatesBy, tallyCall};
 use crate::AndCount;
 use crate::CountsAnswer;
+use crate::Numbers;
 use crate::XorCount;
 use crate::entries;
 use judging::Fault;
 
 // The three lists of a table.
-pub(crate) enum Method {
+pub enum Method {
     Plain,
     Reduced,
     Common,
 }
 
-pub(crate) fn refused(fault: Fault) -> CountsAnswer
-    ensures { λ r. ⌜ r ≡ refusedWith fault ⌝ }
-{
-    CountsAnswer {
-        fault,
-        ands: AndCount(0),
-        xors: XorCount(0),
-    }
-}
-
-fn counted(ands: usize, xors: usize) -> CountsAnswer
-    ensures { λ r. ⌜ r ≡ countedAs ands xors ⌝ }
-{
-    CountsAnswer {
-        fault: Fault::None,
-        ands: AndCount(ands),
-        xors: XorCount(xors),
-    }
-}
-
 // C, of a table that has passed.
-pub(crate) fn ones_of(width: usize, table: &[u8]) -> usize
+fn ones_of(width: usize, table: &[u8]) -> usize
     requires { ⌜ Shaped width (now table) ⌝ }
     ensures { λ r. ⌜ (r ≡ onesIn width (now (table .entry))) × (r ≤ width * width) ⌝ }
 {
@@ -52,22 +31,34 @@ pub(crate) fn ones_of(width: usize, table: &[u8]) -> usize
     answer.ones
 }
 
+// The all-ones rows, for a list that shares their pairs.
+fn shared_by(width: usize, table: &[u8], method: Method) -> usize
+    requires { ⌜ Shaped width (now table) ⌝ }
+    ensures { λ r. ⌜ r ≡ sharedBy method width (now (table .entry)) ⌝ }
+{
+    match method {
+        Method::Plain => 0,
+        Method::Reduced => 0,
+        Method::Common => entries::full_rows(width, table),
+    }
+}
+
 fn plain_xors(width: usize, ones: usize) -> usize
-    requires { ⌜ (width ≤ maxWidth) × (1 ≤ ones) × (ones ≤ width * width) ⌝ }
+    requires { ⌜ Countable width ones 0 ⌝ }
     ensures { λ r. ⌜ r ≡ plainXors width ones ⌝ }
 {
     width * (ones - 1)
 }
 
 fn reduced_xors(width: usize, ones: usize) -> usize
-    requires { ⌜ (2 ≤ width) × (width ≤ maxWidth) × (ones ≤ width * width) ⌝ }
+    requires { ⌜ Countable width ones 0 ⌝ }
     ensures { λ r. ⌜ r ≡ reducedXors width ones ⌝ }
 {
     width * (ones + width - 2) / 2
 }
 
 fn common_xors(width: usize, ones: usize, full: usize) -> usize
-    requires { ⌜ (1 ≤ width) × (width ≤ maxWidth) × (1 ≤ ones) × (ones ≤ width * width) × (width * full ≤ ones) × (full ≤ width) ⌝ }
+    requires { ⌜ Countable width ones full ⌝ }
     ensures { λ r. ⌜ r ≡ commonXors width ones full ⌝ }
 {
     if full == 0 {
@@ -77,49 +68,90 @@ fn common_xors(width: usize, ones: usize, full: usize) -> usize
     width * (ones - shared) + shared - 1
 }
 
-pub(crate) fn plain_gates(width: usize, ones: usize) -> usize
-    requires { ⌜ (width ≤ maxWidth) × (1 ≤ ones) × (ones ≤ width * width) ⌝ }
-    ensures { λ r. ⌜ (r ≡ plainGates width ones) × (3 * r + 1000 < wordLimit) ⌝ }
+// The XORs.
+fn xors_by(width: usize, ones: usize, full: usize, method: Method) -> usize
+    requires { ⌜ Countable width ones full ⌝ }
+    ensures { λ r. ⌜ r ≡ xorsBy method width ones full ⌝ }
+{
+    match method {
+        Method::Plain => plain_xors(width, ones),
+        Method::Reduced => reduced_xors(width, ones),
+        Method::Common => common_xors(width, ones, full),
+    }
+}
+
+fn plain_gates(width: usize, ones: usize) -> usize
+    requires { ⌜ Countable width ones 0 ⌝ }
+    ensures { λ r. ⌜ r ≡ plainGates width ones ⌝ }
 {
     width * (width + ones - 1)
 }
 
-pub(crate) fn reduced_gates(width: usize, ones: usize) -> usize
-    requires { ⌜ (2 ≤ width) × (width ≤ maxWidth) × (ones ≤ width * width) ⌝ }
-    ensures { λ r. ⌜ (r ≡ reducedGates width ones) × (3 * r + 1000 < wordLimit) ⌝ }
+fn reduced_gates(width: usize, ones: usize) -> usize
+    requires { ⌜ Countable width ones 0 ⌝ }
+    ensures { λ r. ⌜ r ≡ reducedGates width ones ⌝ }
 {
     width * (3 * width + ones - 2) / 2
 }
 
-pub(crate) fn sharing_gates(width: usize, ones: usize, full: usize) -> usize
-    requires { ⌜ (1 ≤ width) × (1 ≤ full) × (width ≤ maxWidth) × (ones ≤ width * width) × (width * full ≤ ones) × (full ≤ width) ⌝ }
-    ensures { λ r. ⌜ (r ≡ sharingGates width ones full) × (3 * r + 1000 < wordLimit) ⌝ }
+fn common_gates(width: usize, ones: usize, full: usize) -> usize
+    requires { ⌜ Countable width ones full ⌝ }
+    ensures { λ r. ⌜ r ≡ commonGates width ones full ⌝ }
 {
+    if full == 0 {
+        return plain_gates(width, ones);
+    }
     let shared = width * full;
     width * (width + ones - shared) + shared - 1
 }
 
-// The XORs of a table that has passed.
-fn xors_by(width: usize, table: &[u8], method: Method) -> usize
-    requires { ⌜ (Shaped width (now table)) × Symmetric width (now table) ⌝ }
-    ensures { λ r. ⌜ r ≡ xorsBy method width (now (table .entry)) ⌝ }
+// The number of all gates.
+fn gates_by(width: usize, ones: usize, full: usize, method: Method) -> usize
+    requires { ⌜ Countable width ones full ⌝ }
+    ensures { λ r. ⌜ r ≡ gatesBy method width ones full ⌝ }
 {
-    let ones = ones_of(width, table);
     match method {
-        Method::Plain => plain_xors(width, ones),
-        Method::Reduced => reduced_xors(width, ones),
-        Method::Common => common_xors(width, ones, entries::full_rows(width, table)),
+        Method::Plain => plain_gates(width, ones),
+        Method::Reduced => reduced_gates(width, ones),
+        Method::Common => common_gates(width, ones, full),
     }
 }
 
-pub(crate) fn counts_by(width: usize, table: &[u8], method: Method) -> CountsAnswer
-    ensures { λ r. ⌜ r ≡ countsCall width (now (table .entry)) (listBy method width (now (table .entry))) ⌝ }
+// 1 to 5 judged once, and all numbers of a list.
+pub fn tally(width: usize, table: &[u8], method: Method) -> Numbers
+    ensures { λ r. ⌜ r ≡ tallyCall method width (now (table .entry)) ⌝ }
 {
     let fault = table::judge_symmetry(width, table);
     if !judging::is_none(fault) {
-        return refused(fault);
+        return Numbers {
+            fault,
+            ands: AndCount(0),
+            xors: XorCount(0),
+            gates: 0,
+            full: 0,
+        };
     }
-    counted(width * width, xors_by(width, table, method))
+    let ones = ones_of(width, table);
+    let full = shared_by(width, table, method);
+    let xors = xors_by(width, ones, full, method);
+    let gates = gates_by(width, ones, full, method);
+    Numbers {
+        fault,
+        ands: AndCount(width * width),
+        xors: XorCount(xors),
+        gates,
+        full,
+    }
+}
+
+fn counts_by(width: usize, table: &[u8], method: Method) -> CountsAnswer
+    ensures { λ r. ⌜ r ≡ countsCall width (now (table .entry)) (listBy method width (now (table .entry))) ⌝ }
+{
+    let all = tally(width, table, method);
+    let fault = all.fault;
+    let ands = all.ands;
+    let xors = all.xors;
+    CountsAnswer { fault, ands, xors }
 }
 
 pub fn counts_plain(width: usize, table: &[u8]) -> CountsAnswer

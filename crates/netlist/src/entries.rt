@@ -3,21 +3,12 @@ ghost use mathlib.Core.Path.{_≡_};
 ghost use Prim.Native.Nat.{_<_, _≤_};
 ghost use lib.Dec.{eqb};
 ghost use Rattle.gf2.specs.Coordinates.{coord};
-ghost use Rattle.gf2.specs.Operands.{maxWidth, minus as minusOf};
 ghost use Rattle.gf2.specs.Tables.{row};
 ghost use Rattle.table.specs.Rows.{Shaped};
 ghost use Rattle.netlist.specs.Lists.{allOnes, fullRows};
 use crate::words;
 
-// i - k modulo the width.
-pub(crate) fn minus(width: usize, i: usize, k: usize) -> usize
-    requires { ⌜ (width ≤ maxWidth) × (i < width) × (k < width) ⌝ }
-    ensures { λ r. ⌜ (r ≡ minusOf width i k) × (r < width) ⌝ }
-{
-    if k <= i { i - k } else { i + (width - k) }
-}
-
-pub(crate) fn entry(width: usize, table: &[u8], d: usize, s: usize) -> bool
+fn entry(width: usize, table: &[u8], d: usize, s: usize) -> bool
     requires { ⌜ (Shaped width (now table)) × (d < width) × (s < width) ⌝ }
     ensures { λ r. ⌜ r ≡ eqb (coord (row width (now (table .entry)) d) s) 1 ⌝ }
 {
@@ -25,7 +16,7 @@ pub(crate) fn entry(width: usize, table: &[u8], d: usize, s: usize) -> bool
     words::coordinate(table, 8 * first + s) == 1
 }
 
-pub(crate) fn full_row(width: usize, table: &[u8], d: usize) -> bool
+fn full_row(width: usize, table: &[u8], d: usize) -> bool
     requires { ⌜ (Shaped width (now table)) × (d < width) ⌝ }
     ensures { λ r. ⌜ r ≡ allOnes width (row width (now (table .entry)) d) ⌝ }
 {

@@ -1,23 +1,19 @@
-// Gate lists of a table: counting their gates, writing them, running them.
+// Gate lists of a table: counting their gates, running them.
 use judging::Fault;
 
 mod counts;
 mod entries;
-mod fold;
 mod judge;
-mod lists;
 mod runner;
-mod successors;
-mod terms;
 mod words;
 
+pub use counts::Method;
 pub use counts::counts_common;
 pub use counts::counts_plain;
 pub use counts::counts_reduced;
-pub use lists::list_common;
-pub use lists::list_plain;
-pub use lists::list_reduced;
+pub use counts::tally;
 pub use runner::run;
+pub use words::coordinate;
 
 // The numbers of a list's gates by kind: the papers' AND and XOR columns are never added together.
 pub struct AndCount(pub usize);
@@ -29,4 +25,13 @@ pub struct CountsAnswer {
     pub fault: Fault,
     pub ands: AndCount,
     pub xors: XorCount,
+}
+
+// The same, the number of all gates, and the all-ones rows whose pairs are shared.
+pub struct Numbers {
+    pub fault: Fault,
+    pub ands: AndCount,
+    pub xors: XorCount,
+    pub gates: usize,
+    pub full: usize,
 }

@@ -15,7 +15,7 @@ pub(crate) fn word(list: &[u32], at: usize) -> usize
     }
 }
 
-pub(crate) fn coordinate(bytes: &[u8], i: usize) -> u8
+pub fn coordinate(bytes: &[u8], i: usize) -> u8
     ensures { λ r. ⌜ r ≡ coord (now (bytes .entry)) i ⌝ }
 {
     let b = i / 8;

@@ -67,7 +67,7 @@ pub(crate) fn list(lent: usize)
     let mut buffer = [99u32; 25];
     let whole: &mut [u32] = &mut buffer;
     let words = &mut whole[..lent];
-    let answer = netlist::list_reduced(2, &table, words);
+    let answer = list_writer::list_reduced(2, &table, words);
     let fault = answer.fault;
     let number = judging::number(fault);
     printing::line(

@@ -4,7 +4,7 @@ use Prim.Native.Nat.{_+_, _*_}
 use native.Mathlib.Omega.{arith}
 use lib.Dec.{eqb}
 use Rattle.gf2.specs.Coordinates.{coord}
-use Rattle.netlist.proofs.TermLaws.{width-square, row-coord}
+use Rattle.netlist.proofs.TableLaws.{width-square, row-coord}
 use borrow.Author.Needs.{needs}
 use Rattle.netlist.proofs.entries.entry.Statement.{statement}
 use Rattle.netlist.proofs.entries.entry.Tie as tie

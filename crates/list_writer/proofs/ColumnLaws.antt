@@ -1,0 +1,204 @@
+-- Laws of the columns: a bit stored, row after row, and the next one of a column.
+use mathlib.Core.Path.{_≡_, refl, sym, ap, ap₂, _∙_}
+use mathlib.Core.Bool.{Bool, true, false}
+use mathlib.Core.List.{List}
+use Prim.Native.Nat.{ℕ, zero, suc, _+_, _-_, _*_, _/_, _%_, _^_, _<_, _≤_}
+use native.Mathlib.Nat.{zero-div, lt-of-le-of-lt, lt-of-lt-of-le, div-eq-of-lt}
+use native.Mathlib.Decide.{decLt, ℕ-discrete}
+use native.Mathlib.Omega.{arith}
+use lib.ListN.{length, getD, set, replicate, length-set, length-replicate}
+use lib.Seq.{getD-set-same, getD-set-other}
+use lib.Dec.{eqb}
+use lib.Bits.{bitXor}
+use lib.Pow.{shr-shr, shr-le, pow-mono}
+use lib.Count.{trailingZeros}
+use Rattle.gf2.specs.Coordinates.{coord}
+use Rattle.gf2.specs.Operands.{maxWidth, bytesFor, choose}
+use Rattle.gf2.specs.Tables.{row}
+use Rattle.gf2.proofs.Coordinates.{xor-bit, shl-bit, shl-bit-out, coord-lt}
+use Rattle.gf2.proofs.TrailingZeros.{trailing-low, trailing-one, one-below}
+use Rattle.limbs.specs.Limbs.{carriedLimbs, limbCoord}
+use Rattle.limbs.proofs.LimbCoords.{limb-digit, limb-zero}
+use Rattle.netlist.proofs.TableLaws.{width-square, row-coord}
+use Rattle.list_writer.specs.declared.columns.Rows.{Rows}
+use Rattle.list_writer.specs.Columns.{bitFrom, isSet, keeps, keptBit, Room, Columns, Successor}
+
+-- a bit v at place p, where there was 0
+module _ (limbs : List ℕ) (p v : ℕ) (two : v < 2) (inside : p / 64 < length limbs) where
+  abbrev withBit : List ℕ
+  withBit = set limbs (p / 64) (bitXor (getD limbs (p / 64) 0) (v * 2 ^ (p % 64) % 2 ^ 64))
+
+  bit-here : limbCoord limbs p ≡ 0 → limbCoord withBit p ≡ v
+  unfolding limbCoord
+  bit-here e =
+      ap (λ x. x / 2 ^ (p % 64) % 2) (getD-set-same limbs (p / 64) _ 0 inside)
+      ∙ xor-bit (getD limbs (p / 64) 0) (v * 2 ^ (p % 64) % 2 ^ 64) (p % 64)
+      ∙ ap₂ (λ x y. (x + y) % 2) e (shl-bit v 64 (p % 64) (p % 64) (omega arith) (omega arith) ∙ ap (λ k. v / 2 ^ k % 2) none)
+      ∙ omega arith
+    where
+      none : p % 64 - p % 64 ≡ 0
+      none = omega arith
+
+  bit-other : (q : ℕ) → (q ≡ p → ⊥) → limbCoord withBit q ≡ limbCoord limbs q
+  unfolding limbCoord
+  bit-other q apart = elim (ℕ-discrete (q / 64) (p / 64)) [
+    | yes e ↦
+        ap (λ k. getD withBit k 0 / 2 ^ (q % 64) % 2) e
+        ∙ ap (λ x. x / 2 ^ (q % 64) % 2) (getD-set-same limbs (p / 64) _ 0 inside)
+        ∙ xor-bit (getD limbs (p / 64) 0) (v * 2 ^ (p % 64) % 2 ^ 64) (q % 64)
+        ∙ ap (λ y. (getD limbs (p / 64) 0 / 2 ^ (q % 64) % 2 + y) % 2) (clear (λ s. apart (omega arith)))
+        ∙ same (getD limbs (p / 64) 0 / 2 ^ (q % 64))
+        ∙ ap (λ k. getD limbs k 0 / 2 ^ (q % 64) % 2) (sym e)
+    | no n ↦ ap (λ x. x / 2 ^ (q % 64) % 2) (getD-set-other limbs (p / 64) (q / 64) _ 0 n)
+  ]
+    where
+      same : (x : ℕ) → (x % 2 + 0) % 2 ≡ x % 2
+      same x = omega arith
+
+      high : (k : ℕ) → 0 < k → v / 2 ^ k % 2 ≡ 0
+      high k h = ap (λ x. x % 2) (div-eq-of-lt (lt-of-lt-of-le two (pow-mono {i = 1} {j = k} h)))
+
+      clear : (q % 64 ≡ p % 64 → ⊥) → v * 2 ^ (p % 64) % 2 ^ 64 / 2 ^ (q % 64) % 2 ≡ 0
+      clear n = elim (decLt (q % 64) (p % 64)) [
+        | yes l ↦ shl-bit-out v 64 (p % 64) (q % 64) l (omega arith)
+        | no l ↦ shl-bit v 64 (p % 64) (q % 64) (omega arith) (omega arith) ∙ high (q % 64 - p % 64) (more n l)
+      ]
+        where
+          more : (q % 64 ≡ p % 64 → ⊥) → (q % 64 < p % 64 → ⊥) → 0 < q % 64 - p % 64
+          more n l = omega arith
+
+-- the first s coordinates of row d, in columns where it was blank
+pub record RowTo (m : ℕ) (table : List ℕ) (d s : ℕ) (old columns : List ℕ) : Type 0 where
+  pub size : length columns ≡ length old
+  pub others : (u e : ℕ) → u < m → e < m → (e ≡ d → ⊥) → bitFrom columns (u * carriedLimbs) e ≡ bitFrom old (u * carriedLimbs) e
+  pub here : (u : ℕ) → u < m → u < s → bitFrom columns (u * carriedLimbs) d ≡ coord (row m table d) u
+  pub rest : (u : ℕ) → u < m → s ≤ u → bitFrom columns (u * carriedLimbs) d ≡ bitFrom old (u * carriedLimbs) d
+
+pub row-none : {m : ℕ} {table : List ℕ} {d : ℕ} {old : List ℕ} → RowTo m table d 0 old old
+row-none = record { size = refl; others = λ u e lu le n. refl; here = λ u l h. absurd (omega arith); rest = λ u l h. refl }
+
+module _ {rows : Rows} {m : ℕ} {table : List ℕ} {d : ℕ} {old : List ℕ} (ld : d < m) (z : Columns rows m table d old) where
+  pub row-more : {s v : ℕ} {columns : List ℕ} → s < m → v ≡ coord (row m table d) s → RowTo m table d s old columns →
+      RowTo m table d (s + 1) old (set columns (s * carriedLimbs + d / 64) (bitXor (getD columns (s * carriedLimbs + d / 64) 0) (v * 2 ^ (d % 64) % 2 ^ 64)))
+  row-more {s} {v} {columns} ls e c = rw (sym place, sym bit) (record {
+    size = length-set columns (p / 64) _ ∙ c .size;
+    others = λ u f lu lf n. bit-other columns p v two inside (64 * (u * carriedLimbs) + f) (λ q. n (omega (arith, z .room .greatest, q))) ∙ c .others u f lu lf n;
+    here = λ u lu h. elim (ℕ-discrete u s) [
+      | yes q ↦ ap (λ w. bitFrom (withBit columns p v two inside) (w * carriedLimbs) d) q ∙ bit-here columns p v two inside (c .rest s ls (omega arith) ∙ z .blank s d ls ld (omega arith)) ∙ e ∙ ap (coord (row m table d)) (sym q)
+      | no n ↦ bit-other columns p v two inside (64 * (u * carriedLimbs) + d) (λ q. n (omega (arith, q))) ∙ c .here u lu (below u h n)
+    ];
+    rest = λ u lu h. bit-other columns p v two inside (64 * (u * carriedLimbs) + d) (λ q. omega (arith, q)) ∙ c .rest u lu (omega arith);
+  })
+    where
+      p : ℕ
+      p = 64 * (s * carriedLimbs) + d
+
+      place : p / 64 ≡ s * carriedLimbs + d / 64
+      place = omega arith
+
+      bit : p % 64 ≡ d % 64
+      bit = omega arith
+
+      two : v < 2
+      two = omega (arith, e, coord-lt (row m table d) s)
+
+      inside : p / 64 < length columns
+      inside = omega (arith, c .size, z .room .room, z .room .greatest)
+
+      below : (u : ℕ) → u < s + 1 → (u ≡ s → ⊥) → u < s
+      below u h n = omega arith
+
+  pub row-inside : {s : ℕ} {columns : List ℕ} → s < m → RowTo m table d s old columns → s * carriedLimbs + d / 64 < length columns
+  row-inside l c = omega (arith, c .size, z .room .room, z .room .greatest)
+
+  pub row-done : {columns : List ℕ} → keeps rows m table d ≡ true → RowTo m table d m old columns → Columns rows m table (d + 1) columns
+  row-done {columns} k c = record {
+    room = record { least = z .room .least; greatest = z .room .greatest; room = omega (arith, c .size, z .room .room) };
+    kept = λ s e ls le h. elim (decLt e d) [
+      | yes l ↦ c .others s e ls le (λ q. omega arith) ∙ z .kept s e ls le l
+      | no l ↦
+          let same : e ≡ d = omega arith in
+          ap (bitFrom columns (s * carriedLimbs)) same ∙ c .here s ls ls ∙ sym (ap (λ b. choose b (coord (row m table d) s) 0) k) ∙ ap (λ e. keptBit rows m table e s) (sym same)
+    ];
+    blank = λ s e ls le h. c .others s e ls le (λ q. omega arith) ∙ z .blank s e ls le (omega arith);
+  }
+
+  -- a row that isn't kept
+  pub row-skipped : keeps rows m table d ≡ false → Columns rows m table (d + 1) old
+  row-skipped k = record {
+    room = z .room;
+    kept = λ s e ls le h. elim (decLt e d) [
+      | yes l ↦ z .kept s e ls le l
+      | no l ↦
+          let same : e ≡ d = omega arith in
+          z .blank s e ls le (omega arith) ∙ sym (ap (λ b. choose b (coord (row m table d) s) 0) k) ∙ ap (λ e. keptBit rows m table e s) (sym same)
+    ];
+    blank = λ s e ls le h. z .blank s e ls le (omega arith);
+  }
+
+pub columns-none : (rows : Rows) (m : ℕ) (table : List ℕ) → 2 ≤ m → m ≤ maxWidth → Columns rows m table 0 (replicate (maxWidth * carriedLimbs) 0)
+columns-none rows m table two most = record {
+  room = record { least = two; greatest = most; room = rw (length-replicate {A = ℕ} (maxWidth * carriedLimbs) 0) (omega arith) };
+  kept = λ s d ls ld h. absurd (omega arith);
+  blank = λ s d ls ld h. limb-zero (maxWidth * carriedLimbs) (64 * (s * carriedLimbs) + d);
+}
+
+-- the next one
+module _ (columns : List ℕ) (at i : ℕ) where
+  abbrev pub leftOf : ℕ
+  leftOf = getD columns (at + i / 64) 0 / 2 ^ (i % 64)
+
+  left-bit : (j : ℕ) → i % 64 + j < 64 → leftOf / 2 ^ j % 2 ≡ bitFrom columns at (i + j)
+  left-bit j l =
+      let e : (at + i / 64) * 64 + (i % 64 + j) ≡ 64 * at + (i + j) = omega arith in
+      ap (λ y. y % 2) (shr-shr (getD columns (at + i / 64) 0) (i % 64) j) ∙ sym (limb-digit columns (at + i / 64) (i % 64 + j) l) ∙ ap (limbCoord columns) e
+
+  unset : (j : ℕ) → i % 64 + j < 64 → leftOf / 2 ^ j % 2 ≡ 0 → isSet columns at (i + j) ≡ false
+  unset j l e = ap (λ x. eqb x 1) (sym (left-bit j l) ∙ e)
+
+  pub left-none : leftOf ≡ 0 → (k : ℕ) → i ≤ k → k < (i / 64 + 1) * 64 → isSet columns at k ≡ false
+  left-none z k h l =
+      let e : i + (k - i) ≡ k = omega arith in
+      ap (isSet columns at) (sym e) ∙ unset (k - i) (omega arith) (ap (λ y. y / 2 ^ (k - i) % 2) z ∙ ap (λ y. y % 2) (zero-div (2 ^ (k - i))))
+
+  module _ (small : getD columns (at + i / 64) 0 < 2 ^ 64) (some : leftOf ≡ 0 → ⊥) where
+    abbrev zeros : ℕ
+    zeros = trailingZeros 64 leftOf
+
+    first-one : leftOf / 2 ^ zeros % 2 ≡ 1
+    first-one = trailing-one 64 leftOf (positive leftOf some) (lt-of-le-of-lt (shr-le (getD columns (at + i / 64) 0) (i % 64)) small)
+      where
+        positive : (n : ℕ) → (n ≡ 0 → ⊥) → 0 < n
+        positive zero n = absurd (n refl)
+        positive (suc k) n = omega arith
+
+    zeros-lt : i % 64 + zeros < 64
+    zeros-lt = one-below (getD columns (at + i / 64) 0) 64 (i % 64 + zeros) small (sym (ap (λ y. y % 2) (shr-shr (getD columns (at + i / 64) 0) (i % 64) zeros)) ∙ first-one)
+
+    one-set : isSet columns at (i + zeros) ≡ true
+    one-set = ap (λ x. eqb x 1) (sym (left-bit zeros zeros-lt) ∙ first-one)
+
+    before-one : (k : ℕ) → i ≤ k → k < i + zeros → isSet columns at k ≡ false
+    before-one k h l =
+        let e : i + (k - i) ≡ k = omega arith in
+        ap (isSet columns at) (sym e) ∙ unset (k - i) (omega (arith, zeros-lt)) (trailing-low 64 leftOf (k - i) (omega arith))
+
+    module _ {from : ℕ} (h : from ≤ i) (none : (k : ℕ) → from ≤ k → k < i → isSet columns at k ≡ false) where
+      before-all : (k : ℕ) → from ≤ k → k < i + zeros → isSet columns at k ≡ false
+      before-all k g l = elim (decLt k i) [
+        | yes b ↦ none k g b
+        | no b ↦ before-one k (omega arith) l
+      ]
+
+      pub found-one : {to : ℕ} → i + zeros < to → Successor (isSet columns at) to from (i + zeros)
+      found-one l = record { least = omega arith; most = omega arith; none = before-all; found = λ b. one-set }
+
+      pub found-late : {to : ℕ} → from ≤ to → to ≤ i + zeros → Successor (isSet columns at) to from to
+      found-late g l = record { least = g; most = omega arith; none = λ k b lk. before-all k b (omega arith); found = λ b. absurd (omega arith) }
+
+-- coordinate s of row d, as it lies in the table's bytes
+pub coord-at : (m : ℕ) (table : List ℕ) (d s : ℕ) {w x : ℕ} → s < m → w ≡ bytesFor m → x ≡ coord table (8 * (d * w) + s) → x ≡ coord (row m table d) s
+coord-at m table d s l e h = h ∙ ap (λ k. coord table (8 * (d * k) + s)) e ∙ sym (row-coord m table d s l)
+
+pub place-few : (m d : ℕ) {w : ℕ} → m ≤ maxWidth → d < m → w ≡ bytesFor m → d * w ≤ maxWidth * maxWidth
+place-few m d {w} h l e = width-square d w (omega arith) (omega (arith, e))

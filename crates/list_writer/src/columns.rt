@@ -1,0 +1,94 @@
+// The columns of a table: m limb strings, column s having bit d where row d, if it is kept, has coordinate s.
+// A fold reads the next term from them and looks at no pair between.
+ghost use mathlib.Core.Path.{_≡_};
+ghost use mathlib.Core.Bool.{true};
+ghost use Prim.Native.Nat.{_+_, _*_, _<_, _≤_};
+ghost use lib.ListN.{length};
+ghost use Rattle.gf2.specs.Operands.{maxWidth};
+ghost use Rattle.gf2.specs.Tables.{row};
+ghost use Rattle.limbs.specs.Limbs.{carriedLimbs};
+ghost use Rattle.table.specs.Rows.{Shaped};
+ghost use Rattle.netlist.specs.Lists.{allOnes};
+ghost use Rattle.list_writer.specs.Columns.{keeps, isSet, Columns, Successor};
+
+// The rows whose pairs are folded.
+pub(crate) enum Rows {
+    All,
+    Full,
+    Others,
+}
+
+// Limbs for the columns of a table of the greatest width.
+pub(crate) const SCRATCH: usize = limbs::MAX_WIDTH * limbs::LIMBS;
+
+fn full_row(width: usize, table: &[u8], d: usize) -> bool
+    requires { ⌜ (Shaped width (now table)) × (d < width) ⌝ }
+    ensures { λ r. ⌜ r ≡ allOnes width (row width (now (table .entry)) d) ⌝ }
+{
+    let first = 8 * (d * limbs::bytes_for(width));
+    let mut s = 0;
+    while s < width {
+        if netlist::coordinate(table, first + s) != 1 {
+            return false;
+        }
+        s += 1;
+    }
+    true
+}
+
+fn is_kept(width: usize, table: &[u8], rows: Rows, d: usize) -> bool
+    requires { ⌜ (Shaped width (now table)) × (d < width) ⌝ }
+    ensures { λ r. ⌜ r ≡ keeps rows width (now (table .entry)) d ⌝ }
+{
+    match rows {
+        Rows::All => true,
+        Rows::Full => full_row(width, table, d),
+        Rows::Others => !full_row(width, table, d),
+    }
+}
+
+// Row d, if it is kept.
+fn fill_row(columns: &mut [u64], width: usize, table: &[u8], rows: Rows, d: usize)
+    requires { ⌜ (Shaped width (now table)) × (d < width) × Columns rows width (now table) d (now columns) ⌝ }
+    ensures { λ _. ⌜ Columns rows width (now (table .entry)) (d + 1) (now (columns .exit)) ⌝ }
+{
+    if !is_kept(width, table, rows, d) {
+        return;
+    }
+    let first = 8 * (d * limbs::bytes_for(width));
+    let mut s = 0;
+    while s < width {
+        let bit = netlist::coordinate(table, first + s) as u64;
+        let k = s * limbs::LIMBS + d / 64;
+        columns[k] = columns[k] ^ (bit << (d % 64));
+        s += 1;
+    }
+}
+
+pub(crate) fn fill(columns: &mut [u64], width: usize, table: &[u8], rows: Rows)
+    requires { ⌜ (Shaped width (now table)) × Columns rows width (now table) 0 (now columns) ⌝ }
+    ensures { λ _. ⌜ Columns rows width (now (table .entry)) width (now (columns .exit)) ⌝ }
+{
+    let mut d = 0;
+    while d < width {
+        fill_row(columns, width, table, rows, d);
+        d += 1;
+    }
+}
+
+// The first one from bit `from` on of the column that starts at limb `at`, or `to`. Limbs of zeros are passed over at once.
+pub(crate) fn next_one(columns: &[u64], at: usize, from: usize, to: usize) -> usize
+    requires { ⌜ (from ≤ to) × (to ≤ maxWidth) × (at + carriedLimbs ≤ length (now columns)) ⌝ }
+    ensures { λ n. ⌜ Successor (isSet (now (columns .entry)) at) to from n ⌝ }
+{
+    let mut i = from;
+    while i < to {
+        let left = columns[at + i / 64] >> (i % 64);
+        if left != 0 {
+            let one = i + u64::trailing_zeros(left) as usize;
+            return if one < to { one } else { to };
+        }
+        i = (i / 64 + 1) * 64;
+    }
+    to
+}

@@ -1,0 +1,178 @@
+// The terms of a list's folds, pair after pair, and the folds for the coordinates.
+ghost use mathlib.Core.Path.{_≡_};
+ghost use Prim.Native.Nat.{ℕ, _+_, _-_, _*_, _<_, _≤_};
+ghost use mathlib.Core.List.{List};
+ghost use lib.ListN.{length};
+ghost use Rattle.gf2.specs.Sums.{sum};
+ghost use Rattle.gf2.specs.Operands.{maxWidth, minus as minusOf};
+ghost use Rattle.limbs.specs.Limbs.{carriedLimbs};
+ghost use Rattle.netlist.specs.Gates.{wordLimit};
+ghost use Rattle.netlist.specs.Lists.{andWire};
+ghost use Rattle.list_writer.specs.Folds.{Pushed, Folded, fresh};
+ghost use Rattle.list_writer.specs.Columns.{isSet, Room};
+ghost use Rattle.list_writer.specs.Terms.{rowBase, runTerms, rowTerms, rowsTo, squareTerm, foldTerms};
+use crate::columns;
+use crate::store;
+use crate::store::Fold;
+
+// i - k modulo the width.
+fn minus(width: usize, i: usize, k: usize) -> usize
+    requires { ⌜ (width ≤ maxWidth) × (i < width) × (k < width) ⌝ }
+    ensures { λ r. ⌜ (r ≡ minusOf width i k) × (r < width) ⌝ }
+{
+    if k <= i { i - k } else { i + (width - k) }
+}
+
+pub(crate) fn and_wire(width: usize, i: usize, j: usize) -> u32
+    requires { ⌜ (width ≤ maxWidth) × (i < width) × (j < width) ⌝ }
+    ensures { λ r. ⌜ r ≡ andWire width i j ⌝ }
+{
+    (2 * width + (i * width + j)) as u32
+}
+
+// The wire of the pair i, j is this and j: for the ANDs, and for the XORs of pairs after them.
+fn row_base(width: usize, mixed: bool, i: usize) -> usize
+    requires { ⌜ (2 ≤ width) × (width ≤ maxWidth) × (i < width) ⌝ }
+    ensures { λ r. ⌜ r ≡ rowBase mixed width i ⌝ }
+{
+    if mixed {
+        2 * width + width * width + i * (2 * width - i - 1) / 2 - i - 1
+    } else {
+        2 * width + i * width
+    }
+}
+
+// The ones of a column from bit `from` up to `to`: bit d is wire start + d.
+fn push_run(
+    out: &mut [u32],
+    width: usize,
+    columns: &[u64],
+    at: usize,
+    from: usize,
+    to: usize,
+    start: usize,
+    f: Fold,
+) -> Fold
+    requires { ⌜ (width ≤ maxWidth) × (from ≤ to) × (to ≤ width) × (at + carriedLimbs ≤ length (now columns)) × (2 * width + f .gates + (to - from) < wordLimit) × (start + to < wordLimit) ⌝ }
+    ensures { λ g. ⌜ Pushed width f (now (out .entry)) (runTerms (isSet (now (columns .entry)) at) start from (to - from)) g (now (out .exit)) ⌝ }
+{
+    let mut g = f;
+    let mut d = columns::next_one(columns, at, from, to);
+    while d < to {
+        let more = store::push(out, width, g, (start + d) as u32);
+        g = more;
+        let after = columns::next_one(columns, at, d + 1, to);
+        d = after;
+    }
+    g
+}
+
+// The pairs of row i: j below i is bit j - i + m of the column, any other bit j - i.
+fn push_row(
+    out: &mut [u32],
+    width: usize,
+    columns: &[u64],
+    mixed: bool,
+    r: usize,
+    i: usize,
+    f: Fold,
+) -> Fold
+    requires { ⌜ (Room width (now columns)) × (r < width) × (i < width) × (3 * width + f .gates < wordLimit) ⌝ }
+    ensures { λ g. ⌜ Pushed width f (now (out .entry)) (rowTerms mixed width (now (columns .entry)) r i) g (now (out .exit)) ⌝ }
+{
+    let at = minus(width, r, i) * limbs::LIMBS;
+    let start = row_base(width, mixed, i) + i;
+    let upper = width - i;
+    if mixed {
+        return push_run(out, width, columns, at, 1, upper, start, f);
+    }
+    let g = push_run(out, width, columns, at, upper, width, start - width, f);
+    push_run(out, width, columns, at, 0, upper, start, g)
+}
+
+// All pairs, by i and then j.
+fn push_pairs(
+    out: &mut [u32],
+    width: usize,
+    columns: &[u64],
+    mixed: bool,
+    r: usize,
+    f: Fold,
+) -> Fold
+    requires { ⌜ (Room width (now columns)) × (r < width) × (3 * width + width * width + f .gates < wordLimit) ⌝ }
+    ensures { λ g. ⌜ Pushed width f (now (out .entry)) (rowsTo mixed width (now (columns .entry)) r width) g (now (out .exit)) ⌝ }
+{
+    let mut g = f;
+    let mut i = 0;
+    while i < width {
+        let next = push_row(out, width, columns, mixed, r, i, g);
+        g = next;
+        i += 1;
+    }
+    g
+}
+
+// A fold with the square, where it stands before the pairs.
+fn first_term(width: usize, square: bool, r: usize, n: usize) -> Fold
+    requires { ⌜ (2 ≤ width) × (width ≤ maxWidth) × (r < width) ⌝ }
+    ensures { λ f. ⌜ (f .gates ≡ n) × ((out : List ℕ) → Pushed width (fresh n) out (squareTerm square width r) f out) ⌝ }
+{
+    if !square {
+        return Fold {
+            begun: false,
+            running: 0,
+            gates: n,
+        };
+    }
+    let i = minus(width, r, 1);
+    Fold {
+        begun: true,
+        running: and_wire(width, i, i),
+        gates: n,
+    }
+}
+
+// The fold for r, its first gate being gate n.
+fn fold_terms(
+    out: &mut [u32],
+    width: usize,
+    columns: &[u64],
+    mixed: bool,
+    square: bool,
+    last: &[u32],
+    r: usize,
+    n: usize,
+) -> Fold
+    requires { ⌜ (Room width (now columns)) × (r < width) × (3 * width + width * width + n < wordLimit) ⌝ }
+    ensures { λ g. ⌜ Pushed width (fresh n) (now (out .entry)) (foldTerms mixed square width (now (columns .entry)) (now (last .entry)) r) g (now (out .exit)) ⌝ }
+{
+    let first = first_term(width, square, r, n);
+    let all = push_pairs(out, width, columns, mixed, r, first);
+    store::push_last(out, width, all, last, r)
+}
+
+// The folds for the first coordinates, `count` of them, from gate n on, and the wires of their sums; the number of the next gate.
+pub(crate) fn put_folds(
+    out: &mut [u32],
+    ends: &mut [u32],
+    width: usize,
+    columns: &[u64],
+    mixed: bool,
+    square: bool,
+    last: &[u32],
+    count: usize,
+    n: usize,
+) -> usize
+    requires { ⌜ (Room width (now columns)) × (count ≤ width) × (3 * width + width * width + (n + sum count (λ r. length (foldTerms mixed square width (now columns) (now last) r) - 1)) < wordLimit) ⌝ }
+    ensures { λ k. ⌜ Folded width count n (foldTerms mixed square width (now (columns .entry)) (now (last .entry))) (now (out .entry)) (now (ends .entry)) k (now (out .exit)) (now (ends .exit)) ⌝ }
+{
+    let mut k = n;
+    let mut r = 0;
+    while r < count {
+        let f = fold_terms(out, width, columns, mixed, square, last, r, k);
+        store::put(ends, r, f.running);
+        k = f.gates;
+        r += 1;
+    }
+    k
+}
