@@ -4,7 +4,19 @@
 use std::path::{Path, PathBuf};
 use std::{env, fs};
 
-const CRATES: [&str; 8] = ["operand", "table", "product", "gaussian", "card", "netlist", "list_writer", "nb"];
+const CRATES: [&str; 11] = [
+    "limbs",
+    "judging",
+    "operand",
+    "table",
+    "scatter",
+    "product",
+    "gaussian",
+    "card",
+    "netlist",
+    "list_writer",
+    "nb",
+];
 
 /// A clause ends where its braces are closed.
 fn without_contracts(text: &str) -> String {

@@ -16,11 +16,11 @@ use crate::columns;
 use crate::columns::Rows;
 use crate::store;
 use crate::terms;
+use judging::Fault;
 use netlist::AndCount;
 use netlist::CountsAnswer;
 use netlist::Method;
 use netlist::XorCount;
-use judging::Fault;
 
 // The gate of a pair as gate n, and the number of the next: an AND, or where they are mixed an XOR of two of these.
 fn put_pair(out: &mut [u32], width: usize, mixed: bool, i: usize, j: usize, n: usize) -> usize

@@ -180,10 +180,10 @@ impl Operand {
         if !is_none(first) {
             return first;
         }
-        let fault = judging::judge_high(x, m);
-        if is_none(fault) {
+        let judged = judging::judge_high(x, m);
+        if is_none(judged) {
             limbs::copy_out(x, out);
         }
-        fault
+        judged
     }
 }

@@ -1,4 +1,5 @@
 -- The calls on carried operands: each by the judgements that decide its causes.
+use mathlib.Core.Path.{refl}
 use mathlib.Core.List.{List, [], _∷_, _++_}
 use Prim.Native.Nat.{ℕ, _*_}
 use lib.ListN.{length}
@@ -7,12 +8,13 @@ use Rattle.operand.specs.declared.Operand.{Operand}
 use Rattle.judging.specs.declared.fault.Fault.{Fault}
 use Rattle.operand.specs.Faults.{firstOf}
 use Rattle.judging.specs.Faults.{isNone}
-use Rattle.operand.specs.Judgements.{turnFault, traceFault, operandFault, pairFault}
-use Rattle.operand.specs.Calls.{answer}
+use Rattle.operand.specs.Judgements.{operandFault, pairFault}
+use Rattle.operand.specs.Calls.{answer, traceAnswer}
 use Rattle.table.proofs.Searches.{none-true}
 use Rattle.product.specs.Judgements.{productFault, reducedFault, zeroFault, inverseFault}
 use Rattle.netlist.specs.Judgements.{widthsFault, lengthsFault, bitsFault, runFault}
-use Rattle.judging.specs.Causes.{Cause}
+use Rattle.judging.specs.Causes.{Cause, faultOf}
+use Rattle.operand.specs.Causes.{turnCauses, solveCauses}
 use Rattle.judging.specs.FaultTable.{turnTooFar, isZero, traceIsOne, ruleCauses}
 use Rattle.promises.specs.CarriedCalls.{carriedCauses, pairCauses, factorCauses, invertedCauses, ranCauses, Gives, GivesNumber, CarriedCalls}
 use Rattle.promises.proofs.CauseLaws.{Decided, then, last, exact}
@@ -67,7 +69,7 @@ module _ (a b : Operand) where
       (then (then (by-high m (a .bytes)) (last (by-high m (b .bytes))) .first) (last (by-gates m list)))) .first
 
 pub carried-calls : CarriedCalls
-unfolding answer
+unfolding answer traceAnswer
 carried-calls = record {
   zero = λ m. gives (by-width m) m _;
   one = λ m. gives (by-width m) m _;
