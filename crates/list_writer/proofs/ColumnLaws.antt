@@ -3,7 +3,7 @@ use mathlib.Core.Path.{_≡_, refl, sym, ap, ap₂, _∙_, subst}
 use mathlib.Core.Bool.{Bool, true, false}
 use mathlib.Core.List.{List}
 use Prim.Native.Nat.{ℕ, zero, suc, _+_, _-_, _*_, _/_, _%_, _^_, _<_, _≤_}
-use native.Mathlib.Nat.{zero-div, lt-of-le-of-lt, lt-of-lt-of-le, div-eq-of-lt, div-one, zero-add}
+use native.Mathlib.Nat.{zero-div, lt-of-le-of-lt, lt-of-lt-of-le, div-eq-of-lt, div-one, zero-add, mod-eq-of-lt}
 use native.Mathlib.Decide.{decLt, ℕ-discrete}
 use native.Mathlib.Omega.{arith}
 use lib.ListN.{length, getD, set, replicate, length-set, length-replicate}
@@ -17,8 +17,9 @@ use Rattle.gf2.specs.Operands.{maxWidth, bytesFor, choose}
 use Rattle.gf2.specs.Tables.{row}
 use Rattle.gf2.proofs.Coordinates.{xor-bit, shl-bit, shl-bit-out, coord-lt}
 use Rattle.gf2.proofs.TrailingZeros.{trailing-low, trailing-one, one-below}
-use Rattle.limbs.specs.Limbs.{carriedLimbs, limbCoord}
-use Rattle.limbs.proofs.LimbCoords.{limb-digit, limb-zero}
+use Rattle.limbs.specs.Limbs.{carriedLimbs, limbCoord, nextOne, rowLimbs}
+use Rattle.limbs.proofs.LimbCoords.{limb-digit, limb-zero, limb-pack}
+use Rattle.limbs.proofs.LimbRows.{First, next-known, row-limbs}
 use Rattle.netlist.proofs.TableLaws.{width-square, row-coord}
 use Rattle.list_writer.specs.declared.columns.Rows.{Rows}
 use Rattle.list_writer.specs.Columns.{bitFrom, isSet, keeps, keptBit, Room, Columns, Successor, Firsts}
@@ -110,6 +111,39 @@ module _ {rows : Rows} {m : ℕ} {table : List ℕ} {d : ℕ} {old : List ℕ} (
 
   pub row-inside : {s : ℕ} {columns : List ℕ} → s < m → RowTo m table d s old columns → s * carriedLimbs + d / 64 < length columns
   row-inside l c = omega (arith, c .size, z .room .room, z .room .greatest)
+
+  -- the next one of the row: there is none between
+  module _ {x : List ℕ} (e : x ≡ rowLimbs m table d) where
+    row-bit : (i : ℕ) → i < m → limbCoord x i ≡ coord (row m table d) i
+    row-bit i l =
+        ap (λ y. limbCoord y i) (e ∙ row-limbs m table d ld (z .room .greatest)) ∙ limb-pack carriedLimbs (coord (row m table d)) i (omega (arith, z .room .greatest))
+        ∙ mod-eq-of-lt (coord-lt (row m table d) i)
+
+    pub row-next : {s n : ℕ} {columns : List ℕ} → n ≡ nextOne x s → RowTo m table d s old columns → RowTo m table d n old columns × (n < m → 1 ≡ coord (row m table d) n)
+    row-next {s} {n} {columns} q c = (
+      record {
+        size = c .size;
+        others = c .others;
+        here = λ u lu l. elim (decLt u s) [
+          | yes b ↦ c .here u lu b
+          | no b ↦ c .rest u lu (omega arith) ∙ z .blank u d lu ld (omega arith) ∙ sym (next .zeros u (omega arith) l) ∙ row-bit u lu
+        ];
+        rest = λ u lu l. c .rest u lu (omega (arith, next .above));
+      },
+      λ l. one (limbCoord x n) (row-bit n l) (next .isOne (omega (arith, z .room .greatest))),
+    )
+      where
+        next : First (limbCoord x) s (64 * carriedLimbs) n
+        next = next-known x s q
+
+        one : (y : ℕ) → y ≡ coord (row m table d) n → (y ≡ 0 → ⊥) → 1 ≡ coord (row m table d) n
+        one y f g = omega (arith, coord-lt (row m table d) n)
+
+    pub row-after : {s n : ℕ} → n ≡ nextOne x s → s ≤ n
+    row-after {s} q = next-known x s q .above
+
+  pub row-end : {s : ℕ} {columns : List ℕ} → m ≤ s → RowTo m table d s old columns → RowTo m table d m old columns
+  row-end h c = record { size = c .size; others = c .others; here = λ u lu l. c .here u lu (omega arith); rest = λ u lu l. absurd (omega arith) }
 
   pub row-done : {columns : List ℕ} → keeps rows m table d ≡ true → RowTo m table d m old columns → Columns rows m table (d + 1) columns
   row-done {columns} k c = record {

@@ -55,13 +55,13 @@ fn fill_row(columns: &mut [u64], width: usize, table: &[u8], rows: Rows, d: usiz
     if !is_kept(width, table, rows, d) {
         return;
     }
-    let first = 8 * (d * operand::bytes_for(width));
-    let mut s = 0;
+    let row = limbs::row_limbs(width, table, d);
+    let mut s = limbs::next_one(&row, 0);
     while s < width {
-        let bit = netlist::coordinate(table, first + s) as u64;
         let k = s * limbs::LIMBS + d / 64;
-        columns[k] = columns[k] ^ (bit << (d % 64));
-        s += 1;
+        columns[k] = columns[k] ^ (1 << (d % 64));
+        let after = limbs::next_one(&row, s + 1);
+        s = after;
     }
 }
 
