@@ -16,7 +16,8 @@ add-start c =
 
 push-run-requires : tie.Need-push-run-requires
 push-run-requires c κs =
-    let s = c .before .before .before .before .before .before .before in
+    let d = c .before .before in
+    let s = d .before .before .before .before .before in
     let a = s .args in
     let p = s .pre in
     let b = base-most (a .mixed) (a .width) (a .i) (p .2) (p .0 .greatest) in
@@ -29,12 +30,14 @@ returns c =
 
 sub-push-run : tie.Need-sub-push-run
 sub-push-run c =
-    let s = c .before .before .before .before .before .before .before in
+    let d = c .before .before in
+    let s = d .before .before .before .before .before in
     omega (arith, base-least (s .args .mixed) (s .args .width) (s .args .i) (s .pre .2), c .before .before .row-base .ensures)
 
 push-run-requires-2 : tie.Need-push-run-requires-2
 push-run-requires-2 c κs =
-    let s = c .before .before .before .before .before .before .before in
+    let d = c .before .before in
+    let s = d .before .before .before .before .before in
     let a = s .args in
     let p = s .pre in
     let b = base-most (a .mixed) (a .width) (a .i) (p .2) (p .0 .greatest) in

@@ -29,16 +29,22 @@ loop-holds c =
     (n .least, n .most, n .found, run-first (isSet (a .columns .now) (a .at)) (a .start) (a .from) n, refl)
 
 add-push : tie.Need-add-push Inv-loop μ-loop
-add-push c = omega (arith, c .before .before .before .before .before .before .before .pre .5, c .before .loop-test .taken)
+add-push c =
+    let b = c .before .before in
+    omega (arith, b .before .before .before .before .before .pre .5, c .before .loop-test .taken)
 
 cast-push : tie.Need-cast-push Inv-loop μ-loop
-cast-push c = omega (arith, c .before .before .before .before .before .before .before .pre .5, c .before .loop-test .taken)
+cast-push c =
+    let b = c .before .before in
+    omega (arith, b .before .before .before .before .before .pre .5, c .before .loop-test .taken)
 
 push-requires : tie.Need-push-requires Inv-loop μ-loop
 push-requires c κs =
-    let a = c .before .before .before .before .before .before .before .args in
-    let p = c .before .before .before .before .before .before .before .pre in
-    let w = c .before .before .loop in
+    let b = c .before .before in
+    let s = b .before .before .before .before .before in
+    let a = s .args in
+    let p = s .pre in
+    let w = b .loop in
     (p .0, omega (arith, p .4, push-most (w .inv .3), run-most (isSet (a .columns .now) (a .at)) (a .start) (a .from) (w .d - a .from), c .before .loop-test .taken))
 
 next-one-requires-2 : tie.Need-next-one-requires-2 Inv-loop μ-loop
