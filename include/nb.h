@@ -144,7 +144,7 @@ uint64_t nb_counts_common(uint64_t width, const uint8_t *table, size_t table_len
 
 /* out, lent: the table's plain, reduced or common list, NB_LIST_WORDS(m, first, second) words.
  * first: its AND gates, second: its XOR gates. Faults: 1; 2 table; 3 in a row; 4; 5 with d; 11 where out is too short.
- * Stack: 12,288. */
+ * Stack: 16,384. */
 uint64_t nb_list_plain(uint64_t width, const uint8_t *table, size_t table_len, uint32_t *out, size_t out_len);
 uint64_t nb_list_reduced(uint64_t width, const uint8_t *table, size_t table_len, uint32_t *out, size_t out_len);
 uint64_t nb_list_common(uint64_t width, const uint8_t *table, size_t table_len, uint32_t *out, size_t out_len);

@@ -1,9 +1,9 @@
--- Laws of the columns: a bit stored, row after row, and the next one of a column.
-use mathlib.Core.Path.{_≡_, refl, sym, ap, ap₂, _∙_}
+-- Laws of the columns: a bit stored, row after row, the next one of a column, and the first ones after limbs.
+use mathlib.Core.Path.{_≡_, refl, sym, ap, ap₂, _∙_, subst}
 use mathlib.Core.Bool.{Bool, true, false}
 use mathlib.Core.List.{List}
 use Prim.Native.Nat.{ℕ, zero, suc, _+_, _-_, _*_, _/_, _%_, _^_, _<_, _≤_}
-use native.Mathlib.Nat.{zero-div, lt-of-le-of-lt, lt-of-lt-of-le, div-eq-of-lt}
+use native.Mathlib.Nat.{zero-div, lt-of-le-of-lt, lt-of-lt-of-le, div-eq-of-lt, div-one, zero-add, mod-eq-of-lt}
 use native.Mathlib.Decide.{decLt, ℕ-discrete}
 use native.Mathlib.Omega.{arith}
 use lib.ListN.{length, getD, set, replicate, length-set, length-replicate}
@@ -17,11 +17,12 @@ use Rattle.gf2.specs.Operands.{maxWidth, bytesFor, choose}
 use Rattle.gf2.specs.Tables.{row}
 use Rattle.gf2.proofs.Coordinates.{xor-bit, shl-bit, shl-bit-out, coord-lt}
 use Rattle.gf2.proofs.TrailingZeros.{trailing-low, trailing-one, one-below}
-use Rattle.limbs.specs.Limbs.{carriedLimbs, limbCoord}
-use Rattle.limbs.proofs.LimbCoords.{limb-digit, limb-zero}
+use Rattle.limbs.specs.Limbs.{carriedLimbs, limbCoord, nextOne, rowLimbs}
+use Rattle.limbs.proofs.LimbCoords.{limb-digit, limb-zero, limb-pack}
+use Rattle.limbs.proofs.LimbRows.{First, next-known, row-limbs}
 use Rattle.netlist.proofs.TableLaws.{width-square, row-coord}
 use Rattle.list_writer.specs.declared.columns.Rows.{Rows}
-use Rattle.list_writer.specs.Columns.{bitFrom, isSet, keeps, keptBit, Room, Columns, Successor}
+use Rattle.list_writer.specs.Columns.{bitFrom, isSet, keeps, keptBit, Room, Columns, Successor, Firsts}
 
 -- a bit v at place p, where there was 0
 module _ (limbs : List ℕ) (p v : ℕ) (two : v < 2) (inside : p / 64 < length limbs) where
@@ -111,6 +112,39 @@ module _ {rows : Rows} {m : ℕ} {table : List ℕ} {d : ℕ} {old : List ℕ} (
   pub row-inside : {s : ℕ} {columns : List ℕ} → s < m → RowTo m table d s old columns → s * carriedLimbs + d / 64 < length columns
   row-inside l c = omega (arith, c .size, z .room .room, z .room .greatest)
 
+  -- the next one of the row: there is none between
+  module _ {x : List ℕ} (e : x ≡ rowLimbs m table d) where
+    row-bit : (i : ℕ) → i < m → limbCoord x i ≡ coord (row m table d) i
+    row-bit i l =
+        ap (λ y. limbCoord y i) (e ∙ row-limbs m table d ld (z .room .greatest)) ∙ limb-pack carriedLimbs (coord (row m table d)) i (omega (arith, z .room .greatest))
+        ∙ mod-eq-of-lt (coord-lt (row m table d) i)
+
+    pub row-next : {s n : ℕ} {columns : List ℕ} → n ≡ nextOne x s → RowTo m table d s old columns → RowTo m table d n old columns × (n < m → 1 ≡ coord (row m table d) n)
+    row-next {s} {n} {columns} q c = (
+      record {
+        size = c .size;
+        others = c .others;
+        here = λ u lu l. elim (decLt u s) [
+          | yes b ↦ c .here u lu b
+          | no b ↦ c .rest u lu (omega arith) ∙ z .blank u d lu ld (omega arith) ∙ sym (next .zeros u (omega arith) l) ∙ row-bit u lu
+        ];
+        rest = λ u lu l. c .rest u lu (omega (arith, next .above));
+      },
+      λ l. one (limbCoord x n) (row-bit n l) (next .isOne (omega (arith, z .room .greatest))),
+    )
+      where
+        next : First (limbCoord x) s (64 * carriedLimbs) n
+        next = next-known x s q
+
+        one : (y : ℕ) → y ≡ coord (row m table d) n → (y ≡ 0 → ⊥) → 1 ≡ coord (row m table d) n
+        one y f g = omega (arith, coord-lt (row m table d) n)
+
+    pub row-after : {s n : ℕ} → n ≡ nextOne x s → s ≤ n
+    row-after {s} q = next-known x s q .above
+
+  pub row-end : {s : ℕ} {columns : List ℕ} → m ≤ s → RowTo m table d s old columns → RowTo m table d m old columns
+  row-end h c = record { size = c .size; others = c .others; here = λ u lu l. c .here u lu (omega arith); rest = λ u lu l. absurd (omega arith) }
+
   pub row-done : {columns : List ℕ} → keeps rows m table d ≡ true → RowTo m table d m old columns → Columns rows m table (d + 1) columns
   row-done {columns} k c = record {
     room = record { least = z .room .least; greatest = z .room .greatest; room = omega (arith, c .size, z .room .room) };
@@ -183,18 +217,95 @@ module _ (columns : List ℕ) (at i : ℕ) where
         let e : i + (k - i) ≡ k = omega arith in
         ap (isSet columns at) (sym e) ∙ unset (k - i) (omega (arith, zeros-lt)) (trailing-low 64 leftOf (k - i) (omega arith))
 
-    module _ {from : ℕ} (h : from ≤ i) (none : (k : ℕ) → from ≤ k → k < i → isSet columns at k ≡ false) where
-      before-all : (k : ℕ) → from ≤ k → k < i + zeros → isSet columns at k ≡ false
-      before-all k g l = elim (decLt k i) [
-        | yes b ↦ none k g b
-        | no b ↦ before-one k (omega arith) l
-      ]
+    pub found-one : {to : ℕ} → i + zeros < to → Successor (isSet columns at) to i (i + zeros)
+    found-one l = record { least = omega arith; most = omega arith; none = before-one; found = λ b. one-set }
 
-      pub found-one : {to : ℕ} → i + zeros < to → Successor (isSet columns at) to from (i + zeros)
-      found-one l = record { least = omega arith; most = omega arith; none = before-all; found = λ b. one-set }
+    pub found-late : {to : ℕ} → i ≤ to → to ≤ i + zeros → Successor (isSet columns at) to i to
+    found-late g l = record { least = g; most = omega arith; none = λ k b lk. before-one k b (omega arith); found = λ b. absurd (omega arith) }
 
-      pub found-late : {to : ℕ} → from ≤ to → to ≤ i + zeros → Successor (isSet columns at) to from to
-      found-late g l = record { least = g; most = omega arith; none = λ k b lk. before-all k b (omega arith); found = λ b. absurd (omega arith) }
+  -- no more ones in this limb, and p the first one after it
+  module _ {p : ℕ} (z : leftOf ≡ 0) (s : Successor (isSet columns 0) (64 * length columns) (64 * (at + i / 64 + 1)) p) where
+    none-before : (k : ℕ) → i ≤ k → k < p - 64 * at → isSet columns at k ≡ false
+    none-before k h l = elim (decLt k ((i / 64 + 1) * 64)) [
+      | yes b ↦ left-none z k h b
+      | no b ↦ ap (λ q. eqb (limbCoord columns q) 1) (sym (zero-add (64 * at + k))) ∙ s .none (64 * at + k) (omega arith) (omega arith)
+    ]
+
+    pub later-one : {to : ℕ} → at + carriedLimbs ≤ length columns → to ≤ maxWidth → p - 64 * at < to → Successor (isSet columns at) to i (p - 64 * at)
+    later-one room most l = record {
+      least = omega (arith, s .least);
+      most = omega arith;
+      none = none-before;
+      found = λ b. ap (λ q. eqb (limbCoord columns q) 1) place ∙ s .found (omega arith);
+    }
+      where
+        place : 64 * at + (p - 64 * at) ≡ 64 * 0 + p
+        place = omega (arith, s .least)
+
+    pub later-none : {to : ℕ} → i ≤ to → to ≤ p - 64 * at → Successor (isSet columns at) to i to
+    later-none h l = record { least = h; most = omega arith; none = λ k b lk. none-before k b (omega arith); found = λ b. absurd (omega arith) }
+
+-- the first one from limb k on
+module _ (columns : List ℕ) (k : ℕ) where
+  whole : leftOf columns 0 (64 * k) ≡ getD columns k 0
+  whole =
+      let e : 0 + 64 * k / 64 ≡ k = omega arith in
+      let f : 64 * k % 64 ≡ 0 = omega arith in
+      ap₂ (λ x y. getD columns x 0 / 2 ^ y) e f ∙ div-one (getD columns k 0)
+
+  pub first-later : {n : ℕ} → getD columns k 0 ≡ 0 → Successor (isSet columns 0) (64 * length columns) (64 * (k + 1)) n → Successor (isSet columns 0) (64 * length columns) (64 * k) n
+  first-later {n} z s = record {
+    least = omega (arith, s .least);
+    most = s .most;
+    none = λ j h l. elim (decLt j (64 * (k + 1))) [
+      | yes b ↦ left-none columns 0 (64 * k) (whole ∙ z) j h (omega arith)
+      | no b ↦ s .none j (omega arith) l
+    ];
+    found = s .found;
+  }
+
+  pub first-here : getD columns k 0 < 2 ^ 64 → k < length columns → (getD columns k 0 ≡ 0 → ⊥) → Successor (isSet columns 0) (64 * length columns) (64 * k) (64 * k + trailingZeros 64 (getD columns k 0))
+  first-here small l some = rw whole at (found-one columns 0 (64 * k) small' some' inside)
+    where
+      e : 0 + 64 * k / 64 ≡ k
+      e = omega arith
+
+      small' : getD columns (0 + 64 * k / 64) 0 < 2 ^ 64
+      small' = rw e small
+
+      some' : leftOf columns 0 (64 * k) ≡ 0 → ⊥
+      some' q = some (sym whole ∙ q)
+
+      inside : 64 * k + trailingZeros 64 (leftOf columns 0 (64 * k)) < 64 * length columns
+      inside = omega (arith, zeros-lt columns 0 (64 * k) small' some')
+
+-- the first ones, limb before limb
+module _ {columns : List ℕ} where
+  pub firsts-none : {firsts : List ℕ} → length columns ≤ length firsts → Firsts columns (length columns) firsts × Successor (isSet columns 0) (64 * length columns) (64 * length columns) (64 * length columns)
+  firsts-none h = (
+    record { size = h; first = λ j g l. absurd (omega arith) },
+    record { least = omega arith; most = omega arith; none = λ j g l. absurd (omega arith); found = λ l. absurd (omega arith) },
+  )
+
+  pub firsts-more : {firsts : List ℕ} {k q n : ℕ} → q + 1 ≡ k → k ≤ length columns → Firsts columns k firsts → Successor (isSet columns 0) (64 * length columns) (64 * k) n → Firsts columns q (set firsts q n)
+  firsts-more {firsts} {k} {q} {n} e l f s = record {
+    size = omega (arith, length-set firsts q n, f .size);
+    first = λ j g h. elim (ℕ-discrete j q) [
+      | yes b ↦
+          let here : getD (set firsts q n) j 0 ≡ n = ap (λ z. getD (set firsts q n) z 0) b ∙ getD-set-same firsts q n 0 (omega (arith, f .size)) in
+          let from : 64 * (j + 1) ≡ 64 * k = omega arith in
+          rw (here, from) s
+      | no b ↦ rw (getD-set-other firsts q j n 0 b) (f .first j (omega arith) h)
+    ];
+  }
+
+pub from-next : {test : ℕ → Bool} {to k n : ℕ} (q : ℕ) → q + 1 ≡ k → Successor test to (64 * k) n → Successor test to (64 * (q + 1)) n
+from-next {test} {to} {n = n} q e s = subst (λ z. Successor test to (64 * z) n) (sym e) s
+
+-- the first one after the limb of a place in a column
+pub first-after : {columns firsts : List ℕ} {to : ℕ} (at from : ℕ) → from ≤ to → to ≤ maxWidth → at + carriedLimbs ≤ length columns → Firsts columns 0 firsts →
+    Successor (isSet columns 0) (64 * length columns) (64 * (at + from / 64 + 1)) (getD firsts (at + from / 64) 0)
+first-after at from g h room f = f .first (at + from / 64) (omega arith) (omega arith)
 
 -- coordinate s of row d, as it lies in the table's bytes
 pub coord-at : (m : ℕ) (table : List ℕ) (d s : ℕ) {w x : ℕ} → s < m → w ≡ bytesFor m → x ≡ coord table (8 * (d * w) + s) → x ≡ coord (row m table d) s

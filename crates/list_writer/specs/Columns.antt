@@ -3,7 +3,7 @@ use mathlib.Core.Path.{_≡_}
 use mathlib.Core.Bool.{Bool, true, false, not}
 use mathlib.Core.List.{List}
 use Prim.Native.Nat.{ℕ, _+_, _*_, _<_, _≤_}
-use lib.ListN.{length}
+use lib.ListN.{length, getD}
 use lib.Dec.{eqb}
 use Rattle.gf2.specs.Coordinates.{coord}
 use Rattle.gf2.specs.Operands.{maxWidth, choose}
@@ -48,3 +48,8 @@ pub record Successor (test : ℕ → Bool) (to from n : ℕ) : Type 0 where
   pub most : n ≤ to
   pub none : (k : ℕ) → from ≤ k → k < n → test k ≡ false
   pub found : n < to → test n ≡ true
+
+-- for each limb from limb k on the first one of those after it, in any column, or their end
+pub record Firsts (columns : List ℕ) (k : ℕ) (firsts : List ℕ) : Type 0 where
+  pub size : length columns ≤ length firsts
+  pub first : (j : ℕ) → k ≤ j → j < length columns → Successor (isSet columns 0) (64 * length columns) (64 * (j + 1)) (getD firsts j 0)

@@ -9,7 +9,7 @@ ghost use Rattle.gf2.specs.Tables.{row};
 ghost use Rattle.limbs.specs.Limbs.{carriedLimbs};
 ghost use Rattle.table.specs.Rows.{Shaped};
 ghost use Rattle.netlist.specs.Lists.{allOnes};
-ghost use Rattle.list_writer.specs.Columns.{keeps, isSet, Columns, Successor};
+ghost use Rattle.list_writer.specs.Columns.{keeps, isSet, Columns, Successor, Firsts};
 
 // The rows whose pairs are folded.
 pub(crate) enum Rows {
@@ -55,13 +55,13 @@ fn fill_row(columns: &mut [u64], width: usize, table: &[u8], rows: Rows, d: usiz
     if !is_kept(width, table, rows, d) {
         return;
     }
-    let first = 8 * (d * limbs::bytes_for(width));
-    let mut s = 0;
+    let row = limbs::row_limbs(width, table, d);
+    let mut s = limbs::next_one(&row, 0);
     while s < width {
-        let bit = netlist::coordinate(table, first + s) as u64;
         let k = s * limbs::LIMBS + d / 64;
-        columns[k] = columns[k] ^ (bit << (d % 64));
-        s += 1;
+        columns[k] = columns[k] ^ (1 << (d % 64));
+        let after = limbs::next_one(&row, s + 1);
+        s = after;
     }
 }
 
@@ -76,19 +76,45 @@ pub(crate) fn fill(columns: &mut [u64], width: usize, table: &[u8], rows: Rows)
     }
 }
 
-// The first one from bit `from` on of the column that starts at limb `at`, or `to`. Limbs of zeros are passed over at once.
-pub(crate) fn next_one(columns: &[u64], at: usize, from: usize, to: usize) -> usize
-    requires { ⌜ (from ≤ to) × (to ≤ maxWidth) × (at + carriedLimbs ≤ length (now columns)) ⌝ }
+// The first one from limb k on, in any column, where n is the first one after that limb.
+fn first_from(columns: &[u64], k: usize, n: usize) -> usize
+    requires { ⌜ (k < length (now columns)) × (length (now columns) ≤ maxWidth * carriedLimbs) × Successor (isSet (now columns) 0) (64 * length (now columns)) (64 * (k + 1)) n ⌝ }
+    ensures { λ r. ⌜ Successor (isSet (now (columns .entry)) 0) (64 * length (now (columns .entry))) (64 * k) r ⌝ }
+{
+    let limb = columns[k];
+    if limb == 0 {
+        return n;
+    }
+    64 * k + u64::trailing_zeros(limb) as usize
+}
+
+// For each limb the first one of those after it, in any column, so that no search passes over limbs of zeros.
+pub(crate) fn find_firsts(firsts: &mut [u32], columns: &[u64])
+    requires { ⌜ (length (now columns) ≤ maxWidth * carriedLimbs) × (length (now columns) ≤ length (now firsts)) ⌝ }
+    ensures { λ _. ⌜ Firsts (now (columns .entry)) 0 (now (firsts .exit)) ⌝ }
+{
+    let mut k = columns.len();
+    let mut n = 64 * k;
+    while 0 < k {
+        let at = k - 1;
+        firsts[at] = n as u32;
+        let one = first_from(columns, at, n);
+        n = one;
+        k = at;
+    }
+}
+
+// The first one from bit `from` on of the column that starts at limb `at`, or `to`.
+pub(crate) fn next_one(columns: &[u64], firsts: &[u32], at: usize, from: usize, to: usize) -> usize
+    requires { ⌜ (from ≤ to) × (to ≤ maxWidth) × (at + carriedLimbs ≤ length (now columns)) × Firsts (now columns) 0 (now firsts) ⌝ }
     ensures { λ n. ⌜ Successor (isSet (now (columns .entry)) at) to from n ⌝ }
 {
-    let mut i = from;
-    while i < to {
-        let left = columns[at + i / 64] >> (i % 64);
-        if left != 0 {
-            let one = i + u64::trailing_zeros(left) as usize;
-            return if one < to { one } else { to };
-        }
-        i = (i / 64 + 1) * 64;
+    let k = at + from / 64;
+    let left = columns[k] >> (from % 64);
+    if left != 0 {
+        let one = from + u64::trailing_zeros(left) as usize;
+        return if one < to { one } else { to };
     }
-    to
+    let one = firsts[k] as usize - 64 * at;
+    if one < to { one } else { to }
 }

@@ -85,7 +85,20 @@ fn put_folded(
 {
     let mut scratch = [0u64; columns::SCRATCH];
     columns::fill(&mut scratch, width, table, rows);
-    terms::put_folds(out, ends, width, &scratch, mixed, square, last, count, n)
+    let mut firsts = [0u32; columns::SCRATCH];
+    columns::find_firsts(&mut firsts, &scratch);
+    terms::put_folds(
+        out,
+        ends,
+        width,
+        &scratch,
+        &firsts,
+        mixed,
+        square,
+        last,
+        count,
+        n,
+    )
 }
 
 fn put_plain(out: &mut [u32], ends: &mut [u32], width: usize, table: &[u8])

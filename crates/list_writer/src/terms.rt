@@ -9,7 +9,7 @@ ghost use Rattle.limbs.specs.Limbs.{carriedLimbs};
 ghost use Rattle.netlist.specs.Gates.{wordLimit};
 ghost use Rattle.netlist.specs.Lists.{andWire};
 ghost use Rattle.list_writer.specs.Folds.{Pushed, Folded, fresh};
-ghost use Rattle.list_writer.specs.Columns.{isSet, Room};
+ghost use Rattle.list_writer.specs.Columns.{isSet, Room, Firsts};
 ghost use Rattle.list_writer.specs.Terms.{rowBase, runTerms, rowTerms, rowsTo, squareTerm, foldTerms};
 use crate::columns;
 use crate::store;
@@ -47,21 +47,22 @@ fn push_run(
     out: &mut [u32],
     width: usize,
     columns: &[u64],
+    firsts: &[u32],
     at: usize,
     from: usize,
     to: usize,
     start: usize,
     f: Fold,
 ) -> Fold
-    requires { ⌜ (width ≤ maxWidth) × (from ≤ to) × (to ≤ width) × (at + carriedLimbs ≤ length (now columns)) × (2 * width + f .gates + (to - from) < wordLimit) × (start + to < wordLimit) ⌝ }
+    requires { ⌜ (width ≤ maxWidth) × (from ≤ to) × (to ≤ width) × (at + carriedLimbs ≤ length (now columns)) × (2 * width + f .gates + (to - from) < wordLimit) × (start + to < wordLimit) × Firsts (now columns) 0 (now firsts) ⌝ }
     ensures { λ g. ⌜ Pushed width f (now (out .entry)) (runTerms (isSet (now (columns .entry)) at) start from (to - from)) g (now (out .exit)) ⌝ }
 {
     let mut g = f;
-    let mut d = columns::next_one(columns, at, from, to);
+    let mut d = columns::next_one(columns, firsts, at, from, to);
     while d < to {
         let more = store::push(out, width, g, (start + d) as u32);
         g = more;
-        let after = columns::next_one(columns, at, d + 1, to);
+        let after = columns::next_one(columns, firsts, at, d + 1, to);
         d = after;
     }
     g
@@ -72,22 +73,33 @@ fn push_row(
     out: &mut [u32],
     width: usize,
     columns: &[u64],
+    firsts: &[u32],
     mixed: bool,
     r: usize,
     i: usize,
     f: Fold,
 ) -> Fold
-    requires { ⌜ (Room width (now columns)) × (r < width) × (i < width) × (3 * width + f .gates < wordLimit) ⌝ }
+    requires { ⌜ (Room width (now columns)) × (r < width) × (i < width) × (3 * width + f .gates < wordLimit) × Firsts (now columns) 0 (now firsts) ⌝ }
     ensures { λ g. ⌜ Pushed width f (now (out .entry)) (rowTerms mixed width (now (columns .entry)) r i) g (now (out .exit)) ⌝ }
 {
     let at = minus(width, r, i) * limbs::LIMBS;
     let start = row_base(width, mixed, i) + i;
     let upper = width - i;
     if mixed {
-        return push_run(out, width, columns, at, 1, upper, start, f);
+        return push_run(out, width, columns, firsts, at, 1, upper, start, f);
     }
-    let g = push_run(out, width, columns, at, upper, width, start - width, f);
-    push_run(out, width, columns, at, 0, upper, start, g)
+    let g = push_run(
+        out,
+        width,
+        columns,
+        firsts,
+        at,
+        upper,
+        width,
+        start - width,
+        f,
+    );
+    push_run(out, width, columns, firsts, at, 0, upper, start, g)
 }
 
 // All pairs, by i and then j.
@@ -95,17 +107,18 @@ fn push_pairs(
     out: &mut [u32],
     width: usize,
     columns: &[u64],
+    firsts: &[u32],
     mixed: bool,
     r: usize,
     f: Fold,
 ) -> Fold
-    requires { ⌜ (Room width (now columns)) × (r < width) × (3 * width + width * width + f .gates < wordLimit) ⌝ }
+    requires { ⌜ (Room width (now columns)) × (r < width) × (3 * width + width * width + f .gates < wordLimit) × Firsts (now columns) 0 (now firsts) ⌝ }
     ensures { λ g. ⌜ Pushed width f (now (out .entry)) (rowsTo mixed width (now (columns .entry)) r width) g (now (out .exit)) ⌝ }
 {
     let mut g = f;
     let mut i = 0;
     while i < width {
-        let next = push_row(out, width, columns, mixed, r, i, g);
+        let next = push_row(out, width, columns, firsts, mixed, r, i, g);
         g = next;
         i += 1;
     }
@@ -137,17 +150,18 @@ fn fold_terms(
     out: &mut [u32],
     width: usize,
     columns: &[u64],
+    firsts: &[u32],
     mixed: bool,
     square: bool,
     last: &[u32],
     r: usize,
     n: usize,
 ) -> Fold
-    requires { ⌜ (Room width (now columns)) × (r < width) × (3 * width + width * width + n < wordLimit) ⌝ }
+    requires { ⌜ (Room width (now columns)) × (r < width) × (3 * width + width * width + n < wordLimit) × Firsts (now columns) 0 (now firsts) ⌝ }
     ensures { λ g. ⌜ Pushed width (fresh n) (now (out .entry)) (foldTerms mixed square width (now (columns .entry)) (now (last .entry)) r) g (now (out .exit)) ⌝ }
 {
     let first = first_term(width, square, r, n);
-    let all = push_pairs(out, width, columns, mixed, r, first);
+    let all = push_pairs(out, width, columns, firsts, mixed, r, first);
     store::push_last(out, width, all, last, r)
 }
 
@@ -157,19 +171,20 @@ pub(crate) fn put_folds(
     ends: &mut [u32],
     width: usize,
     columns: &[u64],
+    firsts: &[u32],
     mixed: bool,
     square: bool,
     last: &[u32],
     count: usize,
     n: usize,
 ) -> usize
-    requires { ⌜ (Room width (now columns)) × (count ≤ width) × (3 * width + width * width + (n + sum count (λ r. length (foldTerms mixed square width (now columns) (now last) r) - 1)) < wordLimit) ⌝ }
+    requires { ⌜ (Room width (now columns)) × (count ≤ width) × (3 * width + width * width + (n + sum count (λ r. length (foldTerms mixed square width (now columns) (now last) r) - 1)) < wordLimit) × Firsts (now columns) 0 (now firsts) ⌝ }
     ensures { λ k. ⌜ Folded width count n (foldTerms mixed square width (now (columns .entry)) (now (last .entry))) (now (out .entry)) (now (ends .entry)) k (now (out .exit)) (now (ends .exit)) ⌝ }
 {
     let mut k = n;
     let mut r = 0;
     while r < count {
-        let f = fold_terms(out, width, columns, mixed, square, last, r, k);
+        let f = fold_terms(out, width, columns, firsts, mixed, square, last, r, k);
         store::put(ends, r, f.running);
         k = f.gates;
         r += 1;

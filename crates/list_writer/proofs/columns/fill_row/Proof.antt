@@ -1,19 +1,20 @@
--- `list_writer::columns::fill_row` meets its contract. The invariant: the row has its coordinates before s.
+-- `list_writer::columns::fill_row` meets its contract. The invariant: the row has its coordinates before s, and s is one of its ones or past it.
 use mathlib.Core.Path.{_≡_, sym, _∙_}
-use Prim.Native.Nat.{_-_, _≤_}
+use Prim.Native.Nat.{_-_, _<_}
 use native.Mathlib.Omega.{arith}
-use lib.ListN.{length}
 use borrow.Author.Tests.{not-true, not-false}
-use Rattle.list_writer.proofs.ColumnLaws.{RowTo, row-none, row-more, row-inside, row-done, row-skipped, coord-at, place-few}
+use Rattle.gf2.specs.Coordinates.{coord}
+use Rattle.gf2.specs.Tables.{row}
+use Rattle.list_writer.proofs.ColumnLaws.{RowTo, row-none, row-more, row-inside, row-next, row-after, row-end, row-done, row-skipped}
 use borrow.Author.Needs.{needs}
 use Rattle.list_writer.proofs.columns.fill_row.Statement.{statement}
 use Rattle.list_writer.proofs.columns.fill_row.Tie as tie
 
 abbrev Inv-loop : tie.InvT-loop
-Inv-loop columns₀ width table d first s₀ columns s = (s ≤ width) × RowTo width table d s columns₀ columns
+Inv-loop columns₀ width table d x s₀ columns s = RowTo width table d s columns₀ columns × (s < width → 1 ≡ coord (row width table d) s)
 
 abbrev μ-loop : tie.MeasureT-loop
-μ-loop columns₀ width table d first s₀ columns s = width - s
+μ-loop columns₀ width table d x s₀ columns s = width - s
 
 is-kept-requires : tie.Need-is-kept-requires Inv-loop μ-loop
 is-kept-requires c κs = (c .before .before .pre .0, c .before .before .pre .1)
@@ -23,58 +24,70 @@ returns c =
     let s = c .before .before .before .before in
     row-skipped (s .pre .1) (s .pre .2) (sym (c .before .is-kept .ensures) ∙ not-true _ (c .if1 .taken))
 
-mul-first : tie.Need-mul-first Inv-loop μ-loop
-mul-first c = omega (arith, place-few (c .before .before .before .before .before .args .width) (c .before .before .before .before .before .args .d) (c .before .before .before .before .before .pre .0 .greatest) (c .before .before .before .before .before .pre .1) (c .bytes-for .ensures))
-
-mul-first-2 : tie.Need-mul-first-2 Inv-loop μ-loop
-mul-first-2 c = omega (arith, place-few (c .before .before .before .before .before .args .width) (c .before .before .before .before .before .args .d) (c .before .before .before .before .before .pre .0 .greatest) (c .before .before .before .before .before .pre .1) (c .bytes-for .ensures))
-
 loop-holds : tie.Need-loop-holds Inv-loop μ-loop
-loop-holds c = (omega arith, row-none)
-
-add-coordinate : tie.Need-add-coordinate Inv-loop μ-loop
-add-coordinate c = let s = c .before .before .before .before .before in omega (arith, s .before .before .pre .0 .greatest, place-few (s .before .before .args .width) (s .before .before .args .d) (s .before .before .pre .0 .greatest) (s .before .before .pre .1) (c .before .before .bytes-for .ensures))
+loop-holds c =
+    let b = c .before .before in
+    let s = b .before .before .before .before .before in
+    row-next (s .pre .1) (s .pre .2) (b .row-limbs .ensures) (c .next-one .ensures) row-none
 
 mul-k : tie.Need-mul-k Inv-loop μ-loop
-mul-k c = let s = c .before .before .before .before in omega (arith, c .before .loop-test .taken, s .before .before .before .before .pre .0 .greatest)
+mul-k c =
+    let s = c .before .before .before .before in
+    omega (arith, c .loop-test .taken, s .before .before .before .before .before .pre .0 .greatest)
 
 add-k : tie.Need-add-k Inv-loop μ-loop
-add-k c = let s = c .before .before .before .before in omega (arith, c .before .loop-test .taken, s .before .before .before .before .pre .0 .greatest, s .before .before .before .before .pre .1)
+add-k c =
+    let b = c .before .before .before .before in
+    let s = b .before .before .before .before .before in
+    omega (arith, c .loop-test .taken, s .pre .0 .greatest, s .pre .1)
 
 mul-columns : tie.Need-mul-columns Inv-loop μ-loop
-mul-columns c = let s = c .before .before .before .before in omega (arith, c .before .loop-test .taken, s .before .before .before .before .pre .0 .greatest, s .before .before .before .before .pre .1)
+mul-columns c =
+    let b = c .before .before .before .before in
+    let s = b .before .before .before .before .before in
+    omega (arith, c .loop-test .taken, s .pre .0 .greatest, s .pre .1)
 
 slice-read-columns : tie.Need-slice-read-columns Inv-loop μ-loop
 slice-read-columns c =
-    let s = c .before .before .before .before in
-    row-inside (s .before .before .before .before .before .pre .1) (s .before .before .before .before .before .pre .2) (c .before .before .loop-test .taken) (c .before .before .before .loop .inv .1)
+    let b = c .before .before .before .before .before in
+    let s = b .before .before .before .before .before in
+    row-inside (s .pre .1) (s .pre .2) (c .before .loop-test .taken) (c .before .before .loop .inv .0)
 
 mul-columns-2 : tie.Need-mul-columns-2 Inv-loop μ-loop
-mul-columns-2 c = let s = c .before .before .before .before in omega (arith, c .before .before .loop-test .taken, s .before .before .before .before .before .pre .0 .greatest, s .before .before .before .before .before .pre .1)
+mul-columns-2 c =
+    let b = c .before .before .before .before .before in
+    let s = b .before .before .before .before .before in
+    omega (arith, c .before .loop-test .taken, s .pre .0 .greatest, s .pre .1)
 
 slice-write-columns : tie.Need-slice-write-columns Inv-loop μ-loop
 slice-write-columns c =
-    let s = c .before .before .before .before in
-    row-inside (s .before .before .before .before .before .pre .1) (s .before .before .before .before .before .pre .2) (c .before .before .loop-test .taken) (c .before .before .before .loop .inv .1)
+    let b = c .before .before .before .before .before in
+    let s = b .before .before .before .before .before in
+    row-inside (s .pre .1) (s .pre .2) (c .before .loop-test .taken) (c .before .before .loop .inv .0)
+
+loop-less : tie.Need-loop-less Inv-loop μ-loop
+loop-less c =
+    let w = c .before .before .before in
+    let b = w .before .before .before .before in
+    let s = b .before .before .before .before .before in
+    omega (arith, w .loop-test .taken, row-after (s .pre .1) (s .pre .2) (b .row-limbs .ensures) (c .next-one2 .ensures))
 
 loop-again : tie.Need-loop-again Inv-loop μ-loop
 loop-again c =
-    let b = c .before .before .before .before in
+    let w = c .before .before .before in
+    let b = w .before .before .before .before in
     let s = b .before .before .before .before .before in
-    let l = c .before .before .loop-test .taken in
-    let w = c .before .before .before .loop in
-    (omega arith, row-more (s .pre .1) (s .pre .2) l (coord-at (s .args .width) (s .args .table .now) (s .args .d) (w .s) l (b .bytes-for .ensures) (c .before .coordinate .ensures)) (w .inv .1))
+    let v = w .before .loop .inv in
+    row-next (s .pre .1) (s .pre .2) (b .row-limbs .ensures) (c .next-one2 .ensures) (row-more (s .pre .1) (s .pre .2) (w .loop-test .taken) (v .1 (w .loop-test .taken)) (v .0))
 
 same-length : tie.Need-same-length Inv-loop μ-loop
-same-length c = c .before .loop .inv .1 .size
+same-length c = c .before .loop .inv .0 .size
 
 returns-2 : tie.Need-returns-2 Inv-loop μ-loop
 returns-2 c =
-    let b = c .before .before .before in
+    let b = c .before .before .before .before .before in
     let s = b .before .before .before .before in
-    let w = c .before .loop in
-    let e : w .s ≡ s .args .width = omega arith in
-    row-done (s .pre .1) (s .pre .2) (sym (b .before .is-kept .ensures) ∙ not-false _ (b .if1 .left)) (rw e at (w .inv .1))
+    row-done (s .pre .1) (s .pre .2) (sym (b .before .is-kept .ensures) ∙ not-false _ (b .if1 .left)) (row-end (s .pre .1) (s .pre .2) (omega (arith, c .loop-test .left)) (c .before .loop .inv .0))
 
 pub fill-row-spec : {M : Type 1} → statement M
 fill-row-spec =
@@ -85,12 +98,8 @@ fill-row-spec =
     is-kept-requires
     returns
     (λ c κs. search needs)
-    mul-first
-    mul-first-2
-    loop-holds
-    add-coordinate
     (λ c κs. search needs)
-    (λ c. search needs)
+    loop-holds
     mul-k
     add-k
     mul-columns
@@ -99,7 +108,8 @@ fill-row-spec =
     mul-columns-2
     slice-write-columns
     (λ c. search needs)
-    (λ c. search needs)
+    (λ c κs. search needs)
+    loop-less
     loop-again
     same-length
     returns-2)

@@ -1,98 +1,77 @@
--- `list_writer::columns::next_one` meets its contract. The invariant: no bit before i is set.
-use mathlib.Core.Path.{_≡_}
-use mathlib.Core.Bool.{false}
-use Prim.Native.Nat.{ℕ, _+_, _-_, _/_, _<_, _≤_}
+-- `list_writer::columns::next_one` meets its contract.
+use Prim.Native.Nat.{_+_, _/_}
 use native.Mathlib.Omega.{arith}
-use native.Mathlib.Decide.{decLt}
 use lib.Count.{trailing-le}
-use Rattle.list_writer.specs.Columns.{isSet}
-use Rattle.list_writer.proofs.ColumnLaws.{leftOf, left-none, found-one, found-late}
+use Rattle.list_writer.proofs.ColumnLaws.{leftOf, found-one, found-late, later-one, later-none, first-after}
 use borrow.Author.Needs.{needs}
 use Rattle.list_writer.proofs.columns.next_one.Statement.{statement}
 use Rattle.list_writer.proofs.columns.next_one.Tie as tie
 
-abbrev Inv-loop : tie.InvT-loop
-Inv-loop columns at from to i₀ i = (from ≤ i) × ((k : ℕ) → from ≤ k → k < i → isSet columns at k ≡ false)
+cast-one : tie.Need-cast-one
+cast-one c = let a = c .before .before .args in omega (arith, trailing-le 64 (leftOf (a .columns .now) (a .at) (a .from)))
 
-abbrev μ-loop : tie.MeasureT-loop
-μ-loop columns at from to i₀ i = to - i
-
-loop-holds : tie.Need-loop-holds Inv-loop μ-loop
-loop-holds c = (omega arith, λ k h l. absurd (omega arith))
-
-add-left : tie.Need-add-left Inv-loop μ-loop
-add-left c = omega (arith, c .before .before .pre .1, c .before .before .pre .2)
-
-mul-left : tie.Need-mul-left Inv-loop μ-loop
-mul-left c = omega (arith, c .before .before .pre .1, c .before .before .pre .2)
-
-shared-slice-read-left : tie.Need-shared-slice-read-left Inv-loop μ-loop
-shared-slice-read-left c = omega (arith, c .before .loop-test .taken, c .before .before .before .pre .1, c .before .before .before .pre .2)
-
-shr-left : tie.Need-shr-left Inv-loop μ-loop
-shr-left c = omega arith
-
-cast-one : tie.Need-cast-one Inv-loop μ-loop
-cast-one c = omega (arith, trailing-le 64 (leftOf (c .before .before .before .before .args .columns .now) (c .before .before .before .before .args .at) (c .before .before .before .loop .i)))
-
-add-one : tie.Need-add-one Inv-loop μ-loop
-add-one c = omega (arith, c .before .before .before .before .pre .1, c .before .before .loop-test .taken, trailing-le 64 (leftOf (c .before .before .before .before .args .columns .now) (c .before .before .before .before .args .at) (c .before .before .before .loop .i)))
-
-returns : tie.Need-returns Inv-loop μ-loop
-returns c =
-    let a = c .before .before .before .before .before .args in
-    let w = c .before .before .before .before .loop in
-    found-one (a .columns .now) (a .at) (w .i) (c .before .before .shared-slice-known .given (a .at + w .i / 64) .fits) (c .before .if1 .taken) (w .inv .0) (w .inv .1) (c .if2 .taken)
-
-returns-2 : tie.Need-returns-2 Inv-loop μ-loop
-returns-2 c =
-    let s = c .before .before .before .before .before in
+add-one : tie.Need-add-one
+add-one c =
+    let s = c .before .before in
     let a = s .args in
-    let w = c .before .before .before .before .loop in
-    found-late (a .columns .now) (a .at) (w .i) (c .before .before .shared-slice-known .given (a .at + w .i / 64) .fits) (c .before .if1 .taken) (w .inv .0) (w .inv .1) (s .pre .0) (omega (arith, c .if2 .left))
+    omega (arith, s .pre .0, s .pre .1, trailing-le 64 (leftOf (a .columns .now) (a .at) (a .from)))
 
-add-i : tie.Need-add-i Inv-loop μ-loop
-add-i c = omega (arith, c .before .before .loop-test .taken, c .before .before .before .before .pre .1)
+returns : tie.Need-returns
+returns c =
+    let a = c .before .before .before .args in
+    found-one (a .columns .now) (a .at) (a .from) (c .before .before .shared-slice-known .given (a .at + a .from / 64) .fits) (c .before .if1 .taken) (c .if2 .taken)
 
-mul-i : tie.Need-mul-i Inv-loop μ-loop
-mul-i c = omega (arith, c .before .before .loop-test .taken, c .before .before .before .before .pre .1)
+returns-2 : tie.Need-returns-2
+returns-2 c =
+    let s = c .before .before .before in
+    let a = s .args in
+    found-late (a .columns .now) (a .at) (a .from) (c .before .before .shared-slice-known .given (a .at + a .from / 64) .fits) (c .before .if1 .taken) (s .pre .0) (omega (arith, c .if2 .left))
 
-loop-less : tie.Need-loop-less Inv-loop μ-loop
-loop-less c = omega (arith, c .before .before .loop-test .taken)
+cast-one-2 : tie.Need-cast-one-2
+cast-one-2 c =
+    let a = c .before .before .before .args in
+    omega (arith, c .shared-slice-known2 .given (a .at + a .from / 64) .fits)
 
-loop-again : tie.Need-loop-again Inv-loop μ-loop
-loop-again c =
-    let a = c .before .before .before .before .args in
-    let w = c .before .before .before .loop in (
-      omega (arith, w .inv .0),
-      λ k h l. elim (decLt k (w .i)) [
-        | yes b ↦ w .inv .1 k h b
-        | no b ↦ left-none (a .columns .now) (a .at) (w .i) (c .if1 .left) k (omega arith) l
-      ],
-    )
+mul-one-2 : tie.Need-mul-one-2
+mul-one-2 c =
+    let s = c .before .before .before in
+    let a = s .args in
+    omega (arith, c .shared-slice-known2 .given (a .at + a .from / 64) .fits, first-after (a .at) (a .from) (s .pre .0) (s .pre .1) (s .pre .2) (s .pre .3) .least)
 
-returns-3 : tie.Need-returns-3 Inv-loop μ-loop
+sub-one : tie.Need-sub-one
+sub-one c =
+    let s = c .before .before .before in
+    let a = s .args in
+    omega (arith, first-after (a .at) (a .from) (s .pre .0) (s .pre .1) (s .pre .2) (s .pre .3) .least)
+
+returns-3 : tie.Need-returns-3
 returns-3 c =
-    let w = c .before .loop in
-    record { least = c .before .before .pre .0; most = omega arith; none = λ k h l. w .inv .1 k h (omega (arith, c .loop-test .left)); found = λ h. absurd (omega arith) }
+    let s = c .before .before .before .before in
+    let a = s .args in
+    later-one (a .columns .now) (a .at) (a .from) (c .before .before .if1 .left) (first-after (a .at) (a .from) (s .pre .0) (s .pre .1) (s .pre .2) (s .pre .3)) (s .pre .2) (s .pre .1) (c .if3 .taken)
+
+returns-4 : tie.Need-returns-4
+returns-4 c =
+    let s = c .before .before .before .before in
+    let a = s .args in
+    later-none (a .columns .now) (a .at) (a .from) (c .before .before .if1 .left) (first-after (a .at) (a .from) (s .pre .0) (s .pre .1) (s .pre .2) (s .pre .3)) (s .pre .0) (omega (arith, c .if3 .left))
 
 pub next-one-spec : {M : Type 1} → statement M
 next-one-spec =
     tie.close
     (tie.spec
-    Inv-loop
-    μ-loop
-    loop-holds
-    add-left
-    mul-left
-    shared-slice-read-left
-    shr-left
+    (λ c. search needs)
+    (λ c. search needs)
+    (λ c. search needs)
+    (λ c. search needs)
     cast-one
     add-one
     returns
     returns-2
-    add-i
-    mul-i
-    loop-less
-    loop-again
-    returns-3)
+    (λ c. search needs)
+    (λ c. search needs)
+    cast-one-2
+    mul-one-2
+    sub-one
+    returns-3
+    returns-4)

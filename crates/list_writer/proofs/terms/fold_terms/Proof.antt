@@ -10,7 +10,7 @@ use Rattle.list_writer.proofs.terms.fold_terms.Tie as tie
 push-last-requires : tie.Need-push-last-requires
 push-last-requires c κs =
     let b = c .before .before .before .before .before in
-    let s = b .before .before .before .before in
+    let s = b .before .before .before .before .before in
     let a = s .args in
     (s .pre .0 .greatest, omega (arith, s .pre .2, b .first-term .ensures .0, push-most (c .before .before .before .push-pairs .ensures), rows-most (a .mixed) (a .width) (a .columns .now) (a .r) (a .width)))
 

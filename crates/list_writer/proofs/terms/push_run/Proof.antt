@@ -14,38 +14,44 @@ use Rattle.list_writer.proofs.terms.push_run.Statement.{statement}
 use Rattle.list_writer.proofs.terms.push_run.Tie as tie
 
 abbrev Inv-loop : tie.InvT-loop
-Inv-loop out₀ width columns at from to start g₀ d₀ out g d = (from ≤ d) × (d ≤ to) × (d < to → isSet columns at d ≡ true) × (Pushed width g₀ out₀ (runTerms (isSet columns at) start from (d - from)) g out) × (length out ≡ length out₀)
+Inv-loop out₀ width columns firsts at from to start g₀ d₀ out g d = (from ≤ d) × (d ≤ to) × (d < to → isSet columns at d ≡ true) × (Pushed width g₀ out₀ (runTerms (isSet columns at) start from (d - from)) g out) × (length out ≡ length out₀)
 
 abbrev μ-loop : tie.MeasureT-loop
-μ-loop out₀ width columns at from to start g₀ d₀ out g d = to - d
+μ-loop out₀ width columns firsts at from to start g₀ d₀ out g d = to - d
 
 next-one-requires : tie.Need-next-one-requires Inv-loop μ-loop
-next-one-requires c κs = let p = c .before .before .pre in (p .1, omega (arith, p .0, p .2), p .3)
+next-one-requires c κs = let p = c .before .before .before .pre in (p .1, omega (arith, p .0, p .2), p .3, p .6)
 
 loop-holds : tie.Need-loop-holds Inv-loop μ-loop
 loop-holds c =
-    let a = c .before .before .before .args in
+    let a = c .before .before .before .before .args in
     let n = c .next-one .ensures in
     (n .least, n .most, n .found, run-first (isSet (a .columns .now) (a .at)) (a .start) (a .from) n, refl)
 
 add-push : tie.Need-add-push Inv-loop μ-loop
-add-push c = omega (arith, c .before .before .before .before .before .before .pre .5, c .before .loop-test .taken)
+add-push c =
+    let b = c .before .before in
+    omega (arith, b .before .before .before .before .before .pre .5, c .before .loop-test .taken)
 
 cast-push : tie.Need-cast-push Inv-loop μ-loop
-cast-push c = omega (arith, c .before .before .before .before .before .before .pre .5, c .before .loop-test .taken)
+cast-push c =
+    let b = c .before .before in
+    omega (arith, b .before .before .before .before .before .pre .5, c .before .loop-test .taken)
 
 push-requires : tie.Need-push-requires Inv-loop μ-loop
 push-requires c κs =
-    let a = c .before .before .before .before .before .before .args in
-    let p = c .before .before .before .before .before .before .pre in
-    let w = c .before .before .loop in
+    let b = c .before .before in
+    let s = b .before .before .before .before .before in
+    let a = s .args in
+    let p = s .pre in
+    let w = b .loop in
     (p .0, omega (arith, p .4, push-most (w .inv .3), run-most (isSet (a .columns .now) (a .at)) (a .start) (a .from) (w .d - a .from), c .before .loop-test .taken))
 
 next-one-requires-2 : tie.Need-next-one-requires-2 Inv-loop μ-loop
 next-one-requires-2 c κs =
     let b = c .before .before .before .before in
-    let p = b .before .before .before .before .before .pre in
-    (omega (arith, b .loop-test .taken), omega (arith, p .0, p .2), p .3)
+    let p = b .before .before .before .before .before .before .pre in
+    (omega (arith, b .loop-test .taken), omega (arith, p .0, p .2), p .3, p .6)
 
 loop-less : tie.Need-loop-less Inv-loop μ-loop
 loop-less c = omega (arith, c .next-one2 .ensures .least, c .next-one2 .ensures .most)
@@ -53,7 +59,7 @@ loop-less c = omega (arith, c .next-one2 .ensures .least, c .next-one2 .ensures 
 loop-again : tie.Need-loop-again Inv-loop μ-loop
 loop-again c =
     let b = c .before .before .before .before .before in
-    let a = b .before .before .before .before .before .args in
+    let a = b .before .before .before .before .before .before .args in
     let w = b .before .loop in
     let n = c .next-one2 .ensures in
     (omega (arith, n .least, w .inv .0), n .most, n .found, run-next (isSet (a .columns .now) (a .at)) (a .start) (a .from) (w .inv .0) (w .inv .2 (b .loop-test .taken)) (w .inv .3) (c .before .before .before .push .ensures) n, c .before .before .before .push .kept .0 ∙ w .inv .4)
@@ -64,7 +70,7 @@ same-length c = c .before .loop .inv .4
 returns : tie.Need-returns Inv-loop μ-loop
 returns c =
     let w = c .before .loop in
-    let e : w .d ≡ c .before .before .before .before .before .args .to = omega (arith, w .inv .1) in
+    let e : w .d ≡ c .before .before .before .before .before .before .args .to = omega (arith, w .inv .1) in
     rw e at (w .inv .3)
 
 pub push-run-spec : {M : Type 1} → statement M

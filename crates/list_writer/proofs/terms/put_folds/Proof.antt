@@ -12,20 +12,21 @@ use Rattle.list_writer.proofs.terms.put_folds.Statement.{statement}
 use Rattle.list_writer.proofs.terms.put_folds.Tie as tie
 
 abbrev Inv-loop : tie.InvT-loop
-Inv-loop out₀ ends₀ width columns mixed square last count n k₀ r₀ out ends k r = (r ≤ count) × (Folded width r n (foldTerms mixed square width columns last) out₀ ends₀ k out ends) × (length out ≡ length out₀) × (length ends ≡ length ends₀)
+Inv-loop out₀ ends₀ width columns firsts mixed square last count n k₀ r₀ out ends k r = (r ≤ count) × (Folded width r n (foldTerms mixed square width columns last) out₀ ends₀ k out ends) × (length out ≡ length out₀) × (length ends ≡ length ends₀)
 
 abbrev μ-loop : tie.MeasureT-loop
-μ-loop out₀ ends₀ width columns mixed square last count n k₀ r₀ out ends k r = count - r
+μ-loop out₀ ends₀ width columns firsts mixed square last count n k₀ r₀ out ends k r = count - r
 
 loop-holds : tie.Need-loop-holds Inv-loop μ-loop
 loop-holds c = (omega arith, folds-none, refl, refl)
 
 fold-terms-requires : tie.Need-fold-terms-requires Inv-loop μ-loop
 fold-terms-requires c κs =
-    let w = c .before .before .loop in
-    let s = c .before .before .before .before .before .before .before in
+    let b = c .before .before in
+    let w = b .loop in
+    let s = b .before .before .before .before .before .before in
     let a = s .args in
-    (s .pre .0, omega (arith, s .pre .1, c .before .loop-test .taken), omega (arith, s .pre .2, folds-next (w .inv .1), sum-mono (λ i. length (foldTerms (a .mixed) (a .square) (a .width) (a .columns .now) (a .last .now) i) - 1) (w .r) (a .count) (w .inv .0)))
+    (s .pre .0, omega (arith, s .pre .1, c .before .loop-test .taken), omega (arith, s .pre .2, folds-next (w .inv .1), sum-mono (λ i. length (foldTerms (a .mixed) (a .square) (a .width) (a .columns .now) (a .last .now) i) - 1) (w .r) (a .count) (w .inv .0)), s .pre .3)
 
 loop-again : tie.Need-loop-again Inv-loop μ-loop
 loop-again c =
@@ -41,8 +42,9 @@ same-length-2 c = c .before .loop .inv .3
 
 returns : tie.Need-returns Inv-loop μ-loop
 returns c =
-    let w = c .before .loop in
-    let e : w .r ≡ c .before .before .before .before .before .before .args .count = omega arith in
+    let b = c .before in
+    let w = b .loop in
+    let e : w .r ≡ b .before .before .before .before .before .before .args .count = omega arith in
     rw e at (w .inv .1)
 
 pub put-folds-spec : {M : Type 1} → statement M
