@@ -44,8 +44,9 @@ fn without_contracts(text: &str) -> String {
 fn as_module(name: &str, text: &str) -> String {
     let mut text = without_contracts(text)
         .replace("pub extern \"C\" fn", "pub fn")
+        .replace("std::num::wrapping_add_usize", "usize::wrapping_add")
         .replace("crate::", &format!("crate::same::{name}::"));
-    for other in CRATES {
+    for other in CRATES.iter().filter(|other| **other != name) {
         text = text.replace(&format!("use {other}::"), &format!("use crate::same::{other}::"));
     }
     let crates: String = CRATES.iter().filter(|other| **other != name).map(|other| format!("use crate::same::{other};\n")).collect();
