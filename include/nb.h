@@ -113,7 +113,7 @@ uint64_t nb_product_reduced(uint64_t width, const uint8_t *table, size_t table_l
                             const uint8_t *b, size_t b_len, uint8_t *result, size_t result_len);
 
 /* result: a to the power 2^m - 2 by the chain of Itoh and Tsujii, the inverse of a under an accepted table.
- * first: the number of products made. Faults: 1; 2 table, a, result; 3 in a row, a; 9. Stack: 73,728. */
+ * first: the number of products made. Faults: 1; 2 table, a, result; 3 in a row, a; 9. Stack: 13,312. */
 uint64_t nb_inverse(uint64_t width, const uint8_t *table, size_t table_len, const uint8_t *a, size_t a_len,
                     uint8_t *result, size_t result_len);
 
