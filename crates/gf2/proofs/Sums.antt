@@ -1,5 +1,5 @@
 -- Laws of `sum` and `every`.
--- Sums: equal terms, terms added, no term but 0, a sum split at a place, two sums exchanged, a sum by digits, a sum modulo 2.
+-- Sums: equal terms, terms added, no term but 0, no term above a bound, a sum split at a place, two sums exchanged, a sum by digits, a sum modulo 2.
 -- Tests: a test that holds of every number below a bound, both ways; a search for one of which it doesn't.
 use mathlib.Core.Path.{_≡_, refl, sym, ap, ap₂, fun-ext, _∙_}
 use mathlib.Core.Bool.{Bool, true, false, _&&_, true≢false}
@@ -24,6 +24,12 @@ sum-none (suc n) f z = rw (sum-none n f (λ i l. z i (omega arith)), z n (omega 
 
 pub sum-split : (n k : ℕ) (f : ℕ → ℕ) → sum (n + k) f ≡ sum n f + sum k (λ i. f (n + i))
 sum-split n k f = sum-big (n + k) f ∙ big-append nats n k f ∙ sym (ap₂ _+_ (sum-big n f) (sum-big k (λ i. f (n + i))))
+
+-- terms of which none is above c
+pub sum-most : (n c : ℕ) (f : ℕ → ℕ) → ((i : ℕ) → f i ≤ c) → sum n f ≤ n * c
+unfolding sum
+sum-most zero c f h = omega arith
+sum-most (suc n) c f h = omega (arith, sum-most n c f h, h n, suc-mul n c)
 
 -- terms from m on that are 0
 pub sum-clear : (m n : ℕ) (f : ℕ → ℕ) → m ≤ n → ((i : ℕ) → m ≤ i → f i ≡ 0) → sum n f ≡ sum m f

@@ -4,19 +4,18 @@
 -- Small: what a fault returns has room, where that of each cause has.
 -- Steps: parts judged one after another, as code does.
 use mathlib.Core.Path.{_≡_, refl, sym, ap, _∙_}
-use mathlib.Core.Logic.{_⊎_, inl, inr}
-use mathlib.Core.Bool.{Bool, true, false, not, _&&_, true≢false}
+use mathlib.Core.Logic.{_↔_, inl, inr}
+use mathlib.Core.Bool.{Bool, true, false, true≢false}
 use mathlib.Core.List.{List, [], _∷_, _++_}
 use Prim.Native.Nat.{ℕ, _<_}
 use native.Mathlib.Omega.{arith}
 use lib.Dec.{ltb, eqb}
 use borrow.Author.Tests.{ltb-true, ne-eqb}
-use Rattle.gf2.specs.Operands.{choose}
 use Rattle.gf2.proofs.Parity.{and-both}
 use Rattle.judging.specs.declared.fault.Fault.{Fault}
 use Rattle.judging.specs.declared.fault.Fault.the-variants.{None}
 use Rattle.judging.specs.Faults.{numberOf, isNone}
-use Rattle.judging.specs.Causes.{Cause, faultOf, from, First, NoCause, Exact}
+use Rattle.judging.specs.Causes.{Cause, faultOf, First, NoCause, Exact}
 
 never : {A : Type 0} → false ≡ true → A
 never e = absurd (true≢false (sym e))
@@ -79,6 +78,9 @@ none-given (c ∷ cs) n = head-fails c cs (n .0) ∙ none-given cs (n .1)
 
 pub none-is : (cs : List Cause) → isNone (faultOf cs) ≡ true → faultOf cs ≡ None
 none-is cs e = none-given cs (fine cs e)
+
+pub none-fine : (cs : List Cause) → (faultOf cs ≡ None) ↔ Fine cs
+none-fine cs = (λ e. fine cs (none-true e), none-given cs)
 
 -- a part that gives a fault ends it; where a part gives none the rest decides
 pub stops : (cs ds : List Cause) → isNone (faultOf cs) ≡ false → faultOf (cs ++ ds) ≡ faultOf cs
@@ -152,3 +154,7 @@ module _ (P : Fault → Type 0) (none : P None) where
   unfolding faultOf
   keeps [] h = none
   keeps (c ∷ cs) h = cases (c .test) (λ q. rw (head-holds c cs q) (h .0)) (λ q. rw (head-fails c cs q) (keeps cs (h .1 q)))
+
+  pub keeps-both : (cs ds : List Cause) → P (faultOf cs) → (Fine cs → P (faultOf ds)) → P (faultOf (cs ++ ds))
+  keeps-both cs ds p q =
+      cases (isNone (faultOf cs)) (λ e. rw (goes-on cs ds e) (q (fine cs e))) (λ e. rw (stops cs ds e) p)

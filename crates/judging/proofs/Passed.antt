@@ -1,24 +1,19 @@
 -- What holds where the test of a cause fails, and back: a width, a length, bits, the rules of a table, and the others of the table of faults.
-use mathlib.Core.Path.{_≡_, refl, sym, _∙_}
-use mathlib.Core.Logic.{_↔_}
-use mathlib.Core.Bool.{Bool, true, false, not, _&&_, true≢false}
-use mathlib.Core.List.{List, [], _∷_, _++_}
+use mathlib.Core.Path.{_≡_, refl, sym}
+use mathlib.Core.Bool.{Bool, true, false, not, _&&_}
+use mathlib.Core.List.{List}
 use Prim.Native.Nat.{ℕ, _-_, _*_, _<_, _≤_}
 use native.Mathlib.Nat.{mul-le-mul}
 use native.Mathlib.Omega.{arith}
-use lib.Dec.{leb, ltb, eqb}
-use lib.ListN.{length}
-use borrow.Author.Tests.{leb-true, leb-false, le-leb, lt-leb, ltb-false, le-ltb, eqb-true, eqb-false, eq-eqb, ne-eqb}
+use lib.Dec.{leb, eqb}
+use borrow.Author.Tests.{leb-true, leb-false, le-leb, lt-leb, ltb-false, le-ltb, eqb-true, eq-eqb}
 use Rattle.gf2.specs.Sums.{every}
-use Rattle.gf2.specs.Operands.{maxWidth, bytesFor, carriedBytes, IsOperand, isClear, same, zeroes, turned}
-use Rattle.gf2.specs.Quadratic.{trace}
-use Rattle.gf2.specs.Tables.{row, basis}
-use Rattle.gf2.specs.Check.{Rule4, Rule5, Rule6, Rule7, Symmetric}
+use Rattle.gf2.specs.Operands.{maxWidth, bytesFor, carriedBytes, IsOperand, isClear, same}
+use Rattle.gf2.specs.Tables.{row}
 use Rattle.gf2.proofs.Parity.{and-both}
 use Rattle.gf2.proofs.Operands.{clear-of}
 use Rattle.gf2.proofs.Decisions.{same-decides}
-use Rattle.judging.specs.Causes.{Cause}
-use Rattle.judging.specs.FaultTable.{badWidth, badLength, highBit, highBitInRow, rowZeroWrong, rowsDiffer, tripleDiffers, rowSumWrong, turnTooFar, isZero, traceIsOne, tooShort}
+use Rattle.judging.specs.FaultTable.{badWidth, badLength, highBit, highBitInRow, turnTooFar, tooShort}
 
 pub not-not : (b : Bool) → not b ≡ false → b ≡ true
 not-not true e = refl

@@ -1,6 +1,6 @@
 -- Causes that an index gives, one after another, and the steps of a loop that looks for the first.
 -- Append, from: no test of two parts holds, nor of all that an index gives. Steps: none left; the next one holds; the next part fails.
-use mathlib.Core.Path.{_≡_, refl, sym, ap, _∙_}
+use mathlib.Core.Path.{_≡_, ap, _∙_}
 use mathlib.Core.Bool.{true, false}
 use mathlib.Core.List.{List, [], _∷_, _++_}
 use Prim.Native.Nat.{ℕ, zero, suc, _+_, _-_, _<_, _≤_}
@@ -10,7 +10,7 @@ use Rattle.judging.specs.declared.fault.Fault.{Fault}
 use Rattle.judging.specs.declared.fault.Fault.the-variants.{None}
 use Rattle.judging.specs.Faults.{isNone}
 use Rattle.judging.specs.Causes.{Cause, faultOf, from}
-use Rattle.judging.proofs.CauseLaws.{Fine, Each, stops, goes-on, head-holds, head-fails}
+use Rattle.judging.proofs.CauseLaws.{Fine, Each, stops, goes-on}
 
 pub fine-append : (cs ds : List Cause) → Fine cs → Fine ds → Fine (cs ++ ds)
 fine-append [] ds p q = q

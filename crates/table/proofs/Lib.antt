@@ -1,14 +1,14 @@
--- Searches: what `same` and `firstFrom` decide, and the steps of a loop that searches.
+-- Comparing: bytes compared as limbs.
 -- Shapes: tables without fault of shape: their rows, as they lie in the table and carried.
--- Carrying: operands of W bytes and the same operands carried.
+-- BasisOperands: the basis operands, products of them and sums of rows as operands.
 -- Rules: rules 5 and 6 as tests of one row and of one pair.
 -- RowSums: sums of rows: which products they are, and the sum of all rows.
 -- RowsAtOnes: the sum of the rows at the ones of an operand, in words.
--- TableOnes: the number of ones in a table, byte by byte.
+-- TableOnes: the ones of a table's bytes are those of its rows.
 -- Theorems: the proofs of the statements in specs/Statements.antt.
-pub mod Searches
+pub mod Comparing
 pub mod Shapes
-pub mod Carrying
+pub mod BasisOperands
 pub mod Rules
 pub mod RowSums
 pub mod RowsAtOnes

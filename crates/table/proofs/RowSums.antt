@@ -25,10 +25,9 @@ use Rattle.judging.specs.Faults.{isNone}
 use Rattle.operand.specs.Calls.{answer, zeroCall}
 use Rattle.operand.proofs.FaultFree.{done, width-none}
 use Rattle.judging.proofs.Passed.{IsWidth}
-use Rattle.gf2.proofs.Carrying.{coord-carried}
+use Rattle.gf2.proofs.Carrying.{coord-carried, carried-from}
 use Rattle.table.specs.Rows.{Shaped, carriedRow, rowsAt, leftProduct, rightProduct}
 use Rattle.table.proofs.Shapes.{sized, row-short}
-use Rattle.table.proofs.Carrying.{carried-from}
 
 pub minus-lt : (m j i : ℕ) → 0 < m → minus m j i < m
 unfolding minus

@@ -1,9 +1,9 @@
--- Rules 5 and 6 of the check: the fault that is given where the test of one row or of one pair fails.
--- symmetric-rows: rules 4 and 5 say what each row is made of, so that no element of a row is above 255.
+-- Rules 5 and 6 of the check: the causes of one row and of one pair, and their tests.
+-- symmetric-rows: rules 4 and 5 say what each row is made of, so that no element of a row is above a byte.
 -- mirror-back, half-search: rule 5 for row d is that for row m-d, so that half of the rows are enough.
 use mathlib.Core.Path.{_≡_, refl, sym, ap, _∙_}
-use mathlib.Core.Bool.{true, not}
-use mathlib.Core.List.{List}
+use mathlib.Core.Bool.{Bool, true, not}
+use mathlib.Core.List.{List, [], _∷_}
 use Prim.Native.Nat.{ℕ, zero, suc, _+_, _-_, _*_, _<_, _≤_}
 use native.Mathlib.Omega.{arith}
 use Rattle.gf2.specs.Operands.{bytesFor, IsOperand, turned}
@@ -13,34 +13,35 @@ use Rattle.gf2.proofs.Index.{at, at-add, at-all}
 use Rattle.gf2.proofs.Vector.{turn, turn-turn, turn-z}
 use Rattle.gf2.proofs.OperandVectors.{bytes-fit, vec, bytes, operand-vec, turned-bytes}
 use Rattle.gf2.proofs.Operands.{turned-operand}
-use Rattle.judging.specs.declared.fault.Fault.{Fault}
-use Rattle.judging.specs.declared.fault.Fault.the-variants.{None, RowPair, Triple}
-use Rattle.operand.specs.Faults.{when, firstFrom}
+use Rattle.gf2.proofs.Decisions.{same-decides}
+use Rattle.judging.specs.declared.fault.Fault.the-variants.{None}
+use Rattle.judging.specs.Causes.{Cause, faultOf, from}
+use Rattle.judging.specs.FaultTable.{rowsDiffer, tripleDiffers}
+use Rattle.judging.proofs.CauseLaws.{none-given}
+use Rattle.judging.proofs.Searches.{upTo, fine-from}
 use Rattle.limbs.proofs.ByteLists.{Bytes}
-use Rattle.table.specs.Judgements.{rowPairFault, tripleFault}
 use Rattle.table.specs.Rows.{Shaped, mirrors, leftProduct, rightProduct, associates}
-use Rattle.table.proofs.Searches.{same-correct, when-passes, first-none}
-use Rattle.table.proofs.Carrying.{basis-operand}
+use Rattle.table.proofs.BasisOperands.{basis-operand}
 
 module _ (m : ℕ) (t : List ℕ) where
-  -- 5 for row d
-  abbrev pub mirrorFault : ℕ → Fault
-  mirrorFault d = when (not (mirrors m t d)) (RowPair d)
+  -- 5 for row d, and 6 for i and every j
+  abbrev pub mirrorCauses : ℕ → List Cause
+  mirrorCauses d = rowsDiffer m t d ∷ []
 
-  pub mirror-search : rowPairFault m t ≡ firstFrom 1 (m - 1) mirrorFault
-  unfolding rowPairFault mirrors
-  mirror-search = refl
+  abbrev pub pairCauses : ℕ → ℕ → List Cause
+  pairCauses i j = tripleDiffers m t i j ∷ []
 
-  -- 6 for i and j, and for i and every j
-  abbrev pub pairFault : ℕ → ℕ → Fault
-  pairFault i j = when (not (associates m t i j)) (Triple i j)
+  abbrev pub rowCauses : ℕ → List Cause
+  rowCauses i = from 0 m (pairCauses i)
 
-  abbrev pub rowFault : ℕ → Fault
-  rowFault i = firstFrom 0 m (pairFault i)
+  -- the causes' tests, as the code makes them
+  pub mirror-test : (d : ℕ) {b : Bool} → mirrors m t d ≡ b → rowsDiffer m t d .test ≡ not b
+  unfolding mirrors
+  mirror-test d e = ap not e
 
-  pub triple-search : tripleFault m t ≡ firstFrom 0 m rowFault
-  unfolding tripleFault associates leftProduct rightProduct
-  triple-search = refl
+  pub triple-test : (i j : ℕ) {b : Bool} → associates m t i j ≡ b → tripleDiffers m t i j .test ≡ not b
+  unfolding associates leftProduct rightProduct
+  triple-test i j e = ap not e
 
 pub symmetric-rows : {m : ℕ} {t : List ℕ} → Symmetric m t → (d : ℕ) → d < m → Bytes (row m t d)
 symmetric-rows {m} s zero l = rw (s .rule4) (basis-operand m 1 .byte)
@@ -61,13 +62,13 @@ unfolding mirrors
 mirror-back {m = zero} {t} s d l h e = absurd (omega arith)
 mirror-back {m = suc p} {t} s d l h e =
     let whole : suc p - (suc p - d) ≡ d = omega arith in
-    let back = same-correct _ _ .0 e ∙ ap (λ k. turned (suc p) (suc p - d) (row (suc p) t k)) whole in
-    same-correct _ _ .1 (sym (ap (turned (suc p) d) back ∙ turn-home p (bytesFor (suc p)) (bytes-fit (suc p)) d (omega arith) (s .isTable .rows d h)))
+    let back = same-decides _ _ .0 e ∙ ap (λ k. turned (suc p) (suc p - d) (row (suc p) t k)) whole in
+    same-decides _ _ .1 (sym (ap (turned (suc p) d) back ∙ turn-home p (bytesFor (suc p)) (bytes-fit (suc p)) d (omega arith) (s .isTable .rows d h)))
 
 -- the rows from 1 to d-1 pass
 pub record MirrorsTo (m : ℕ) (t : List ℕ) (d : ℕ) : Type 0 where
   pub at : (k : ℕ) → 1 ≤ k → k < d → mirrors m t k ≡ true
 
-pub half-search : {m : ℕ} {t : List ℕ} → Shaped m t → (d : ℕ) → m < d + d → MirrorsTo m t d → firstFrom d (m - d) (mirrorFault m t) ≡ None
-half-search {m} {t} s d h passed = first-none (mirrorFault m t) d (m - d) .1 (λ k l q.
-    when-passes _ (RowPair k) (mirror-back s k (omega arith) (omega arith) (passed .at (m - k) (omega arith) (omega arith))))
+pub half-search : {m : ℕ} {t : List ℕ} → Shaped m t → (d : ℕ) → m < d + d → MirrorsTo m t d → faultOf (upTo (mirrorCauses m t) m d) ≡ None
+half-search {m} {t} s d h passed = none-given (upTo (mirrorCauses m t) m d) (fine-from (mirrorCauses m t) d (m - d) (λ k l q.
+    (mirror-test m t k (mirror-back s k (omega arith) (omega arith) (passed .at (m - k) (omega arith) (omega arith))), tt)))

@@ -1,12 +1,12 @@
 -- Tables without fault of shape: their rows, as they lie in the table and carried.
--- shape-none, shape-rows, shape-fine: no fault of shape is given exactly where a table whose rows are bytes is shaped.
+-- shape-none, shape-rows, shaped, shape-fine: no fault of shape is given exactly where a table whose rows are bytes is shaped.
 -- row-bytes, table-bytes: the rows of a list of bytes are bytes, and a table whose rows are bytes is a list of bytes.
 use mathlib.Core.Path.{_≡_, refl, sym, ap, _∙_}
 use mathlib.Core.Logic.{_↔_}
-use mathlib.Core.Bool.{Bool, true, false, true≢false}
+use mathlib.Core.Bool.{Bool, true, false, not, true≢false}
 use mathlib.Core.List.{List, [], _∷_}
 use Prim.Native.Nat.{ℕ, zero, suc, _+_, _-_, _*_, _/_, _%_, _^_, _<_, _≤_}
-use native.Mathlib.Nat.{suc-mul, mul-le-mul-right, mul-le-mul, mod-lt, div-add-mod', div-lt-iff-lt-mul, min-le-left, le-trans, lt-of-le-of-lt, lt-of-lt-of-le, div-eq-of-lt, zero-div}
+use native.Mathlib.Nat.{suc-mul, mul-le-mul-right, mod-lt, div-add-mod', div-lt-iff-lt-mul, min-le-left, le-trans, lt-of-le-of-lt, lt-of-lt-of-le, div-eq-of-lt, zero-div}
 use native.Mathlib.Decide.{decLt}
 use native.Mathlib.Omega.{arith}
 use lib.ListN.{length, getD, drop, length-drop, length-take, List·getD-eq-default}
@@ -14,60 +14,45 @@ use lib.Pow.{shr-shr, shr-le, pow-mono}
 use lib.Seq.{length-take-le, getD-take, getD-drop}
 use Rattle.gf2.specs.Sums.{sum, every}
 use Rattle.gf2.specs.Coordinates.{coord, value}
-use Rattle.gf2.specs.Operands.{maxWidth, bytesFor, carriedBytes, IsOperand, isClear, carriedBy}
+use Rattle.gf2.specs.Operands.{maxWidth, bytesFor, carriedBytes, IsOperand, isClear}
 use Rattle.gf2.specs.Tables.{row, IsTable}
 use Rattle.gf2.proofs.Parity.{bool-ext}
 use Rattle.gf2.proofs.Sums.{every-at, every-of}
-use Rattle.gf2.proofs.Coordinates.{length-pack, pack-byte, coord-past, coord-digit, value-eq}
+use Rattle.gf2.proofs.Coordinates.{coord-past, coord-digit, value-eq}
 use Rattle.gf2.proofs.Operands.{clear-at, clear-of}
-use Rattle.judging.specs.declared.fault.Fault.{Fault}
 use Rattle.judging.specs.declared.fault.Fault.the-variants.{None, HighBit}
-use Rattle.operand.specs.Faults.{orElse, firstOf}
 use Rattle.judging.specs.Faults.{isNone}
-use Rattle.operand.specs.Judgements.{widthFault, lengthFault}
+use Rattle.judging.specs.Causes.{Cause, faultOf}
+use Rattle.judging.specs.FaultTable.{badWidth, notTable, highBitInRow, shapeCauses}
+use Rattle.judging.proofs.CauseLaws.{Fine, fine, none-true, none-given, head-holds}
+use Rattle.judging.proofs.Passed.{IsWidth, is-width, width-passes, as-laid-down, length-passes, are-clear, rows-pass}
 use Rattle.limbs.proofs.ByteLists.{Bytes}
 use Rattle.limbs.proofs.LimbLoops.{ored, ored-at, ored-of, ored-shr}
-use Rattle.gf2.proofs.Carrying.{coord-carried}
-use Rattle.operand.proofs.FaultLaws.{or-second, or-assoc, first-two, first-more, two-fine, width-fine, length-fine}
-use Rattle.operand.proofs.FaultFree.{width-none, length-none}
-use Rattle.judging.proofs.Passed.{IsWidth}
+use Rattle.gf2.proofs.Carrying.{carried-operand}
 use Rattle.table.specs.Rows.{Shaped, carriedRow}
-use Rattle.table.specs.Judgements.{rowsFault, shapeFault}
-use Rattle.table.proofs.Searches.{when-passes, when-fails, when-none, none-true, high-some, three-none}
+use Rattle.table.specs.Judgements.{shapeFault}
 
--- three causes, of which the first two are judged together
-pub first-three : (f g h : Fault) → firstOf (f ∷ g ∷ h ∷ []) ≡ orElse (firstOf (f ∷ g ∷ [])) h
-first-three f g h =
-    first-more f g (h ∷ []) ∙ ap (orElse f) (first-two g h) ∙ sym (or-assoc f g h) ∙ ap (λ z. orElse z h) (sym (first-two f g))
+-- 1 and 2 of a table
+abbrev pub sizeCauses : ℕ → List ℕ → List Cause
+sizeCauses m t = badWidth m ∷ notTable m t ∷ []
 
--- 1 and 2
-abbrev pub sizeFault : ℕ → ℕ → Fault
-sizeFault m size = firstOf (widthFault m ∷ lengthFault size (m * bytesFor m) ∷ [])
-
+-- and what has passed where they give no fault
 pub record Sized (m size : ℕ) : Type 0 where
   pub least : 2 ≤ m
   pub greatest : m ≤ maxWidth
   pub exact : size ≡ m * bytesFor m
 
-pub size-fine : (m size : ℕ) → isNone (sizeFault m size) ≡ true → Sized m size
-size-fine m size e =
-    let h = two-fine _ _ e in
-    let w = width-fine m (h .0) in
-    record { least = w .0; greatest = w .1; exact = length-fine _ _ (h .1) }
+pub size-fine : (m : ℕ) (t : List ℕ) → isNone (faultOf (sizeCauses m t)) ≡ true → Sized m (length t)
+size-fine m t e =
+    let p = fine (sizeCauses m t) e in
+    let w = is-width m (p .0) in
+    record { least = w .least; greatest = w .greatest; exact = as-laid-down _ _ (p .1 .0) }
 
-pub width-of : {m size : ℕ} → Sized m size → IsWidth m
+pub width-of : {m : ℕ} {t : List ℕ} → Shaped m t → IsWidth m
 width-of s = record { least = s .least; greatest = s .greatest }
-
-pub size-none : {m size : ℕ} → Sized m size → isNone (sizeFault m size) ≡ true
-size-none {m} {size} s =
-    none-true (first-two _ _ ∙ or-second _ _ (none-true (width-none m (width-of s))) ∙ length-none _ _ (s .exact))
 
 pub sized : {m : ℕ} {t : List ℕ} → Shaped m t → Sized m (length t)
 sized s = record { least = s .least; greatest = s .greatest; exact = s .isTable .size }
-
--- m·W is a small number
-pub size-small : (m : ℕ) → m ≤ maxWidth → m * bytesFor m ≤ maxWidth * carriedBytes
-size-small m h = let w : bytesFor m ≤ carriedBytes = omega arith in mul-le-mul h w
 
 module _ (m d : ℕ) (t : List ℕ) (h : length t ≡ m * bytesFor m) (l : d < m) where
   pub row-within : d * bytesFor m + bytesFor m ≤ length t
@@ -108,13 +93,6 @@ table-bytes (suc p) t is b = elim (decLt b (length t)) [
 pub row-short : (m d : ℕ) (t : List ℕ) → Sized m (length t) → d < m → length (row m t d) ≤ carriedBytes
 row-short m d t s l = let g = s .greatest in omega (arith, row-length m d t (s .exact) l)
 
-pub carried-operand : {m n : ℕ} {x : List ℕ} → n ≤ carriedBytes → IsOperand n m x → IsOperand carriedBytes m (carriedBy x)
-carried-operand {m} {n} {x} h o = record {
-  size = length-pack carriedBytes (coord x);
-  byte = pack-byte carriedBytes (coord x);
-  clear = λ i l. coord-carried carriedBytes x (rw (o .size) h) i ∙ o .clear i l;
-}
-
 -- a row of a table, carried
 module _ {m : ℕ} {t : List ℕ} (s : Shaped m t) (d : ℕ) (l : d < m) where
   pub row-operand : IsOperand carriedBytes m (carriedRow m t d)
@@ -129,9 +107,8 @@ module _ (m : ℕ) (t : List ℕ) where
   abbrev pub clearRow : ℕ → Bool
   clearRow d = isClear m (row m t d)
 
-  pub rows-done : every m clearRow ≡ true → rowsFault m t ≡ None
-  unfolding rowsFault
-  rows-done e = when-passes _ HighBit e
+  pub rows-done : every m clearRow ≡ true → faultOf (highBitInRow m t ∷ []) ≡ None
+  rows-done e = none-given (highBitInRow m t ∷ []) (rows-pass m t e, tt)
 
 -- the bits at m and above of m/8 bytes, rounded up
 module _ (m : ℕ) (x : List ℕ) (size : length x ≡ bytesFor m) where
@@ -169,39 +146,44 @@ module _ (m : ℕ) (t : List ℕ) (size : length t ≡ m * bytesFor m) (part : m
   last-row d l = ap (λ y. y / 2 ^ (m % 8)) (row-getD m d t size l (m / 8) (omega arith))
 
   -- the last bytes together tell whether some row has a bit at m or above
-  pub ends-clear : ored m (lastByte m t) / 2 ^ (m % 8) ≡ 0 → rowsFault m t ≡ None
+  pub ends-clear : ored m (lastByte m t) / 2 ^ (m % 8) ≡ 0 → faultOf (highBitInRow m t ∷ []) ≡ None
   ends-clear e = rows-done m t (every-of m (clearRow m t) (λ d l.
       clear-end m (row m t d) (row-length m d t size l) (last-row d l ∙ ored-at m _ (sym (ored-shr m (lastByte m t) (m % 8)) ∙ e) d l)))
 
-  pub ends-broken : Bytes t → (ored m (lastByte m t) / 2 ^ (m % 8) ≡ 0 → ⊥) → rowsFault m t ≡ HighBit
-  unfolding rowsFault
-  ends-broken small n = when-fails _ HighBit (bool-ext (every m (clearRow m t)) false (λ e. absurd (n (each e))) (λ e. absurd (true≢false (sym e))))
+  pub ends-broken : Bytes t → (ored m (lastByte m t) / 2 ^ (m % 8) ≡ 0 → ⊥) → faultOf (highBitInRow m t ∷ []) ≡ HighBit
+  ends-broken small n = head-holds (highBitInRow m t) [] (ap not (bool-ext (every m (clearRow m t)) false (λ e. absurd (n (each e))) (λ e. absurd (true≢false (sym e)))))
     where
       each : every m (clearRow m t) ≡ true → ored m (lastByte m t) / 2 ^ (m % 8) ≡ 0
       each e = ored-shr m (lastByte m t) (m % 8) ∙ ored-of m _ (λ d l.
           sym (last-row d l) ∙ clear-last m (row m t d) (row-length m d t size l) (row-bytes m d t small) (every-at m (clearRow m t) e d l))
 
 module _ {m : ℕ} {t : List ℕ} where
-  pub shape-none : Shaped m t → shapeFault m t ≡ None
-  unfolding shapeFault
-  shape-none s = three-none _ _ _ .1
-      (width-none m (width-of (sized s)), length-none _ _ (s .isTable .size), rows-done m t (every-of m _ (λ d l. clear-of m _ (s .isTable .rows d l .clear))))
+  pub shape-passes : Shaped m t → Fine (shapeCauses m t)
+  shape-passes s = (
+    width-passes m (width-of s),
+    (length-passes _ _ (s .isTable .size), (rows-pass m t (every-of m _ (λ d l. clear-of m _ (s .isTable .rows d l .clear))), tt)),
+  )
 
-  pub shape-rows : ((d : ℕ) → d < m → Bytes (row m t d)) → shapeFault m t ≡ None → Shaped m t
-  unfolding shapeFault rowsFault
-  shape-rows small e =
-      let q = three-none _ _ _ .0 e in
-      let w = width-fine m (none-true (q .0)) in
-      let size = length-fine _ _ (none-true (q .1)) in
-      let clear = when-none (every m (clearRow m t)) HighBit high-some (q .2) in
+  pub shape-none : Shaped m t → shapeFault m t ≡ None
+  shape-none s = none-given (shapeCauses m t) (shape-passes s)
+
+  pub shape-rows : ((d : ℕ) → d < m → Bytes (row m t d)) → Fine (shapeCauses m t) → Shaped m t
+  shape-rows small p =
+      let w = is-width m (p .0) in
+      let size = as-laid-down _ _ (p .1 .0) in
+      let clear = are-clear m t (p .1 .1 .0) in
       record {
-        least = w .0;
-        greatest = w .1;
+        least = w .least;
+        greatest = w .greatest;
         isTable = record {
           size = size;
           rows = λ d l. record { size = row-length m d t size l; byte = small d l; clear = clear-at m _ (every-at m (clearRow m t) clear d l) };
         };
       }
 
+  -- what judging the shape has shown
+  pub shaped : Bytes t → isNone (shapeFault m t) ≡ true → Shaped m t
+  shaped small e = shape-rows (λ d l. row-bytes m d t small) (fine (shapeCauses m t) e)
+
 pub shape-fine : (m : ℕ) (t : List ℕ) → Bytes t → (shapeFault m t ≡ None) ↔ Shaped m t
-shape-fine m t small = (shape-rows (λ d l. row-bytes m d t small), shape-none)
+shape-fine m t small = (λ e. shaped small (none-true e), shape-none)

@@ -2,83 +2,81 @@
 -- shape, symmetry, acceptance, fields, row-sums, first-triples, carried-pass. first-passes: rule 6 for i = 0 is enough.
 use mathlib.Core.Path.{_≡_, refl, sym, ap, _∙_}
 use mathlib.Core.Logic.{_↔_}
-use mathlib.Core.Bool.{Bool, true, false, not, _&&_}
-use mathlib.Core.List.{List, [], _∷_}
-use Prim.Native.Nat.{ℕ, _-_, _*_, _<_, _≤_}
+use mathlib.Core.Bool.{Bool, true, false}
+use mathlib.Core.List.{List, [], _∷_, _++_}
+use Prim.Native.Nat.{ℕ, _-_, _<_, _≤_}
 use native.Mathlib.Omega.{arith}
-use lib.ListN.{length}
-use lib.Dec.{leb, eqb, lit≤}
+use lib.Dec.{lit≤}
 use Rattle.gf2.specs.Sums.{every}
-use Rattle.gf2.specs.Operands.{maxWidth, bytesFor, isClear, same}
-use Rattle.gf2.specs.Tables.{IsTable, row, basis}
-use Rattle.gf2.specs.Check.{Rule4, Rule5, Rule6, Rule7, Symmetric, Accepted, rowSum}
+use Rattle.gf2.specs.Operands.{maxWidth}
+use Rattle.gf2.specs.Tables.{IsTable}
+use Rattle.gf2.specs.Check.{Rule5, Rule6, Rule7, Symmetric, Accepted}
 use Rattle.gf2.proofs.Sums.{every-at}
+use Rattle.gf2.proofs.Decisions.{same-decides}
 use Rattle.gf2.proofs.Theorems.{theoremA, theoremC, theoremF}
 use Rattle.gf2.proofs.CarriedTables.{carried}
 use Rattle.judging.specs.declared.fault.Fault.{Fault}
 use Rattle.judging.specs.declared.fault.Fault.the-variants.{None, Width, Length, HighBit, RowZero, RowPair, Triple, RowSum}
-use Rattle.operand.specs.Faults.{when, firstOf}
-use Rattle.judging.specs.FaultTable.{badWidth, badLength}
-use Rattle.judging.proofs.CauseLaws.{keeps}
 use Rattle.judging.specs.Faults.{numberOf, isNone}
-use Rattle.operand.specs.Judgements.{widthFault, lengthFault}
-use Rattle.operand.proofs.FaultLaws.{none-is, when-keeps, first-keeps, from-keeps}
+use Rattle.judging.specs.Causes.{faultOf}
+use Rattle.judging.specs.FaultTable.{rowSumWrong, shapeCauses, rowPairCauses, ruleCauses, symmetryCauses, tripleCauses, checkCauses}
+use Rattle.judging.proofs.CauseLaws.{Fine, fine, none-given, none-fine, keeps, keeps-both}
+use Rattle.judging.proofs.Searches.{fine-append, fine-parts, fine-from, fine-at, up-start, found-here, each-from}
+use Rattle.judging.proofs.Passed.{are-same, same-passes}
 use Rattle.table.specs.Carried.{carried2, carried3, carried4, carried5}
-use Rattle.table.specs.Rows.{Shaped, mirrors, leftProduct, rightProduct, associates}
-use Rattle.table.specs.Judgements.{rowsFault, shapeFault, rowZeroFault, rowPairFault, tripleFault, rowSumFault, symmetryFault, checkFault}
+use Rattle.table.specs.Rows.{Shaped, leftProduct, rightProduct, associates}
+use Rattle.table.specs.Judgements.{tripleFault, symmetryFault, checkFault}
 use Rattle.table.specs.Statements.{Shape, Symmetry, Acceptance, Fields, RowSums, FirstTriples, CarriedPass}
-use Rattle.table.proofs.Searches.{same-correct, when-passes, when-none, three-none, first-none, first-start, first-hit}
-use Rattle.table.proofs.Shapes.{shape-none, shape-rows, shape-fine}
-use Rattle.table.proofs.Rules.{symmetric-rows, mirrorFault, mirror-search, pairFault, rowFault, triple-search}
+use Rattle.table.proofs.Shapes.{shape-passes, shape-rows, shape-fine}
+use Rattle.table.proofs.Rules.{symmetric-rows, mirrorCauses, pairCauses, rowCauses}
 
 pub shape : Shape
 shape = shape-fine
 
--- a fault that is given where two lists differ
-unequal : (a b : List ℕ) (f : Fault) → isNone f ≡ false → (when (not (same a b)) f ≡ None) ↔ (a ≡ b)
-unequal a b f n = (λ e. same-correct a b .0 (when-none _ f n e), λ e. when-passes _ f (same-correct a b .1 e))
-
 module _ (m : ℕ) (t : List ℕ) where
-  rule4 : (rowZeroFault m t ≡ None) ↔ Rule4 m t
-  unfolding rowZeroFault isNone
-  rule4 = unequal _ _ RowZero refl
-
-  rule5 : (rowPairFault m t ≡ None) ↔ ((d : ℕ) → 1 ≤ d → d < m → Rule5 m t d)
-  unfolding mirrors isNone
+  rule5 : Fine (rowPairCauses m t) ↔ ((d : ℕ) → 1 ≤ d → d < m → Rule5 m t d)
   rule5 = (
-    λ e d l h. unequal _ _ (RowPair d) refl .0 (first-none (mirrorFault m t) 1 _ .0 (sym (mirror-search m t) ∙ e) d l (omega arith)),
-    λ r. mirror-search m t ∙ first-none (mirrorFault m t) 1 _ .1 (λ d l h. unequal _ _ (RowPair d) refl .1 (r d l (omega arith))),
+    λ p d l h. are-same _ _ (fine-at (mirrorCauses m t) 1 (m - 1) p d l (omega arith) .0),
+    λ r. fine-from (mirrorCauses m t) 1 (m - 1) (λ d l h. (same-passes _ _ (r d l (omega arith)), tt)),
   )
 
-  rule6 : (tripleFault m t ≡ None) ↔ ((i j : ℕ) → i < m → j < m → Rule6 m t i j)
-  unfolding associates leftProduct rightProduct isNone
+  rule6 : Fine (tripleCauses m t) ↔ ((i j : ℕ) → i < m → j < m → Rule6 m t i j)
   rule6 = (
-    λ e i j li lj. unequal _ _ (Triple i j) refl .0
-        (first-none (pairFault m t i) 0 m .0 (first-none (rowFault m t) 0 m .0 (sym (triple-search m t) ∙ e) i (omega arith) (omega arith)) j (omega arith) (omega arith)),
-    λ r. triple-search m t ∙ first-none (rowFault m t) 0 m .1 (λ i l li. first-none (pairFault m t i) 0 m .1 (λ j k lj.
-        unequal _ _ (Triple i j) refl .1 (r i j (omega arith) (omega arith)))),
+    λ p i j li lj. are-same _ _ (fine-at (pairCauses m t i) 0 m (fine-at (rowCauses m t) 0 m p i (omega arith) (omega arith)) j (omega arith) (omega arith) .0),
+    λ r. fine-from (rowCauses m t) 0 m (λ i l li. fine-from (pairCauses m t i) 0 m (λ j k lj. (same-passes _ _ (r i j (omega arith) (omega arith)), tt))),
   )
 
-  rule7 : (rowSumFault m t ≡ None) ↔ Rule7 m t
-  unfolding rowSumFault isNone
-  rule7 = unequal _ _ RowSum refl
+  rules : Fine (ruleCauses m t) ↔ Symmetric m t
+  rules = (
+    λ p. record { rule4 = are-same _ _ (p .0); rule5 = rule5 .0 (p .1) },
+    λ s. (same-passes _ _ (s .rule4), rule5 .1 (s .rule5)),
+  )
+
+  rule7 : (faultOf (rowSumWrong m t ∷ []) ≡ None) ↔ Rule7 m t
+  rule7 = (λ e. are-same _ _ (none-fine (rowSumWrong m t ∷ []) .0 e .0), λ r. none-given (rowSumWrong m t ∷ []) (same-passes _ _ r, tt))
+
+  symmetric : Fine (symmetryCauses m t) ↔ (Shaped m t × Symmetric m t)
+  symmetric = (
+    λ p. let q = fine-parts (shapeCauses m t) (ruleCauses m t) p in
+        let s = rules .0 (q .1) in
+        (shape-rows (symmetric-rows s) (q .0), s),
+    λ h. fine-append (shapeCauses m t) (ruleCauses m t) (shape-passes (h .0)) (rules .1 (h .1)),
+  )
 
 pub symmetry : Symmetry
-unfolding symmetryFault
 symmetry m t = (
-  λ e. let q = three-none _ _ _ .0 e in
-      let s : Symmetric m t = record { rule4 = rule4 m t .0 (q .1); rule5 = rule5 m t .0 (q .2) } in
-      (shape-rows (symmetric-rows s) (q .0), s),
-  λ h. three-none _ _ _ .1 (shape-none (h .0), rule4 m t .1 (h .1 .rule4), rule5 m t .1 (h .1 .rule5)),
+  λ e. symmetric m t .0 (none-fine (symmetryCauses m t) .0 e),
+  λ h. none-given (symmetryCauses m t) (symmetric m t .1 h),
 )
 
 pub acceptance : Acceptance
-unfolding checkFault
 acceptance m t = (
-  λ e. let q = three-none _ _ _ .0 e in
-      let s = symmetry m t .0 (q .0) in
-      (s .0, record { symmetric = s .1; rule6 = rule6 m t .0 (q .1); rule7 = rule7 m t .0 (q .2) }),
-  λ h. three-none _ _ _ .1 (symmetry m t .1 (h .0, h .1 .symmetric), rule6 m t .1 (h .1 .rule6), rule7 m t .1 (h .1 .rule7)),
+  λ e. let p = fine-parts (symmetryCauses m t) (tripleCauses m t ++ (rowSumWrong m t ∷ [])) (none-fine (checkCauses m t) .0 e) in
+      let q = fine-parts (tripleCauses m t) (rowSumWrong m t ∷ []) (p .1) in
+      let s = symmetric m t .0 (p .0) in
+      (s .0, record { symmetric = s .1; rule6 = rule6 m t .0 (q .0); rule7 = are-same _ _ (q .1 .0) }),
+  λ h. none-given (checkCauses m t) (fine-append (symmetryCauses m t) (tripleCauses m t ++ (rowSumWrong m t ∷ [])) (symmetric m t .1 (h .0, h .1 .symmetric))
+      (fine-append (tripleCauses m t) (rowSumWrong m t ∷ []) (rule6 m t .1 (h .1 .rule6)) (same-passes _ _ (h .1 .rule7), tt))),
 )
 
 pub fields : Fields
@@ -92,16 +90,16 @@ fields m t = (
 pub row-sums : RowSums
 row-sums m t e six =
     let s = symmetry m t .0 e in
-    rule7 m t .1 (theoremC m t (s .0 .least) (s .0 .isTable) (s .1) (rule6 m t .0 six))
+    rule7 m t .1 (theoremC m t (s .0 .least) (s .0 .isTable) (s .1) (rule6 m t .0 (none-fine (tripleCauses m t) .0 six)))
 
 -- rule 6 for i = 0 is enough
 module _ (m : ℕ) (t : List ℕ) (s : Shaped m t) (y : Symmetric m t) where
   first-enough : ((j : ℕ) → j < m → Rule6 m t 0 j) → tripleFault m t ≡ None
-  first-enough h = rule6 m t .1 (theoremF m t (s .least) (s .isTable) y h)
+  first-enough h = none-given (tripleCauses m t) (rule6 m t .1 (theoremF m t (s .least) (s .isTable) y h))
 
   pub first-passes : every m (associates m t 0) ≡ true → tripleFault m t ≡ None
   unfolding associates leftProduct rightProduct
-  first-passes e = first-enough (λ j l. same-correct _ _ .0 (every-at m (associates m t 0) e j l))
+  first-passes e = first-enough (λ j l. same-decides _ _ .0 (every-at m (associates m t 0) e j l))
 
 -- a triple with i = 0, or another fault
 abbrev First : Fault → Type 0
@@ -113,47 +111,39 @@ other f n i j e = absurd (n (ap (λ g. numberOf g .0) e))
 no-fault : First None
 no-fault = other None (λ e. omega arith)
 
-other-when : (b : Bool) (f : Fault) → (numberOf f .0 ≡ 6 → ⊥) → First (when b f)
-other-when b f n = when-keeps First no-fault b f (other f n)
-
-none-first : First (firstOf [])
-unfolding firstOf
-none-first = no-fault
-
 module _ (m : ℕ) (t : List ℕ) where
-  shape-first : First (shapeFault m t)
-  unfolding shapeFault rowsFault
-  shape-first =
-      first-keeps First _ (keeps First no-fault (badWidth m ∷ []) (other Width (λ e. omega arith), λ q. tt)) (λ q.
-      first-keeps First _ (keeps First no-fault (badLength (length t) (m * bytesFor m) ∷ []) (other Length (λ e. omega arith), λ q. tt)) (λ q.
-      first-keeps First _ (other-when (not (every m (λ d. isClear m (row m t d)))) HighBit (λ e. omega arith)) (λ q. none-first)))
-
-  pairs-first : First (rowPairFault m t)
-  pairs-first = rw (mirror-search m t) (from-keeps First no-fault 1 (m - 1) (mirrorFault m t) (λ d l h. other-when (not (mirrors m t d)) (RowPair d) (λ e. omega arith)))
-
   symmetry-first : First (symmetryFault m t)
-  unfolding symmetryFault rowZeroFault
-  symmetry-first =
-      first-keeps First _ shape-first (λ q.
-      first-keeps First _ (other-when (not (same (row m t 0) (basis m 1))) RowZero (λ e. omega arith)) (λ q. first-keeps First _ pairs-first (λ q. none-first)))
+  symmetry-first = keeps First no-fault (symmetryCauses m t) (
+    other Width (λ e. omega arith),
+    λ a. (
+      other Length (λ e. omega arith),
+      λ b. (
+        other HighBit (λ e. omega arith),
+        λ c. (
+          other RowZero (λ e. omega arith),
+          λ d.
+              each-from First no-fault (mirrorCauses m t) 1 (m - 1) (λ d l h. (other (RowPair d) (λ e. omega arith), λ e. tt)),
+        ),
+      ),
+    ),
+  )
 
+  -- the first round of the search finds a pair, or there is none
   triple-first : Shaped m t → Symmetric m t → First (tripleFault m t)
-  unfolding associates leftProduct rightProduct isNone
-  triple-first s y = go (isNone (rowFault m t 0)) refl
+  triple-first s y = go (isNone (faultOf (rowCauses m t 0))) refl
     where
-      go : (b : Bool) → isNone (rowFault m t 0) ≡ b → First (tripleFault m t)
-      go true e = rw (first-enough m t s y (λ j l. unequal _ _ (Triple 0 j) refl .0 (first-none (pairFault m t 0) 0 m .0 (none-is _ e) j (omega arith) (omega arith)))) no-fault
+      go : (b : Bool) → isNone (faultOf (rowCauses m t 0)) ≡ b → First (tripleFault m t)
+      go true e = rw (first-enough m t s y (λ j l. are-same _ _ (fine-at (pairCauses m t 0) 0 m (fine (rowCauses m t 0) e) j (omega arith) (omega arith) .0))) no-fault
       go false e =
           let l = s .least in
-          rw (triple-search m t ∙ first-start (rowFault m t) m ∙ first-hit (rowFault m t) 0 m (omega arith) e)
-          (from-keeps First no-fault 0 m (pairFault m t 0) (λ j l h. when-keeps First no-fault (not (associates m t 0 j)) (Triple 0 j) (λ i k q. cc)))
+          rw (sym (ap faultOf (up-start (rowCauses m t) m)) ∙ found-here (rowCauses m t) m 0 (omega arith) e)
+          (keeps First no-fault (rowCauses m t 0) (each-from First no-fault (pairCauses m t 0) 0 m (λ j l h. ((λ i k q. cc), λ e. tt))))
 
 pub first-triples : FirstTriples
-unfolding checkFault rowSumFault
-first-triples m t = first-keeps First _ (symmetry-first m t) (λ e.
-    let s = symmetry m t .0 (none-is _ e) in
-    first-keeps First _ (triple-first m t (s .0) (s .1)) (λ q.
-    first-keeps First _ (other-when (not (same (rowSum m t) (basis m 0))) RowSum (λ e. omega arith)) (λ q. none-first)))
+first-triples m t = keeps-both First no-fault (symmetryCauses m t) (tripleCauses m t ++ (rowSumWrong m t ∷ [])) (symmetry-first m t) (λ p.
+    let s = symmetric m t .0 p in
+    keeps-both First no-fault (tripleCauses m t) (rowSumWrong m t ∷ []) (triple-first m t (s .0) (s .1)) (λ q.
+    keeps First no-fault (rowSumWrong m t ∷ []) (other RowSum (λ e. omega arith), λ e. tt)))
 
 pub carried-pass : CarriedPass
 carried-pass = record {

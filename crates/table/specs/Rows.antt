@@ -3,7 +3,7 @@ use mathlib.Core.Bool.{Bool}
 use mathlib.Core.List.{List}
 use Prim.Native.Nat.{ℕ, _+_, _-_, _*_, _/_, _%_, _^_, _≤_}
 use Rattle.gf2.specs.Sums.{sum}
-use Rattle.gf2.specs.Coordinates.{coord, pack}
+use Rattle.gf2.specs.Coordinates.{coord}
 use Rattle.gf2.specs.Operands.{maxWidth, carriedBytes, carriedBy, fromCoords, turned, same}
 use Rattle.gf2.specs.Tables.{row, IsTable, basis}
 use Rattle.gf2.specs.Products.{product}

@@ -6,15 +6,17 @@
 -- CarriedPass: the four carried tables are accepted.
 use mathlib.Core.Path.{_≡_}
 use mathlib.Core.Logic.{_↔_}
-use mathlib.Core.List.{List}
+use mathlib.Core.List.{List, [], _∷_}
 use Prim.Native.Nat.{ℕ, _<_}
 use lib.ListN.{getD}
 use Rattle.gf2.specs.Check.{Symmetric, Accepted}
 use Rattle.gf2.specs.Field.{Field, Squares}
 use Rattle.judging.specs.declared.fault.Fault.the-variants.{None, Triple}
+use Rattle.judging.specs.Causes.{faultOf}
+use Rattle.judging.specs.FaultTable.{rowSumWrong}
 use Rattle.table.specs.Carried.{carried2, carried3, carried4, carried5}
 use Rattle.table.specs.Rows.{Shaped}
-use Rattle.table.specs.Judgements.{shapeFault, symmetryFault, tripleFault, rowSumFault, checkFault}
+use Rattle.table.specs.Judgements.{shapeFault, symmetryFault, tripleFault, checkFault}
 
 -- every element is a byte
 abbrev pub Bytes : List ℕ → Type 0
@@ -38,7 +40,7 @@ Fields = (m : ℕ) (table : List ℕ) → (checkFault m table ≡ None) ↔ (Sha
 
 -- rules 4 to 6 imply rule 7: where the check gives none of 1 to 6, it doesn't give 7
 abbrev pub RowSums : Type 0
-RowSums = (m : ℕ) (table : List ℕ) → symmetryFault m table ≡ None → tripleFault m table ≡ None → rowSumFault m table ≡ None
+RowSums = (m : ℕ) (table : List ℕ) → symmetryFault m table ≡ None → tripleFault m table ≡ None → faultOf (rowSumWrong m table ∷ []) ≡ None
 
 -- rules 4 and 5 with rule 6 for i = 0 imply rule 6: the first pair that differs has i = 0
 abbrev pub FirstTriples : Type 0

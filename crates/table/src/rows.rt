@@ -4,24 +4,12 @@ ghost use mathlib.Core.List.{[], _∷_};
 ghost use Prim.Native.Nat.{_*_, _<_, _≤_};
 ghost use lib.ListN.{length};
 ghost use Rattle.gf2.specs.Operands.{maxWidth, bytesFor, carriedBytes, IsOperand, turned};
-ghost use Rattle.operand.specs.Faults.{firstOf};
-ghost use Rattle.operand.specs.Judgements.{widthFault, lengthFault};
+ghost use Rattle.judging.specs.Causes.{faultOf};
+ghost use Rattle.judging.specs.FaultTable.{highBitInRow};
 ghost use Rattle.table.specs.Rows.{Shaped, carriedRow};
-ghost use Rattle.table.specs.Judgements.{rowsFault, shapeFault};
+ghost use Rattle.table.specs.Judgements.{shapeFault};
 use judging::Fault;
 use operand::Operand;
-
-// The number of bytes is worked out only for a width that has passed: of any other it may be more than a usize holds.
-fn judge_size(width: usize, size: usize) -> Fault
-    ensures { λ r. ⌜ r ≡ firstOf (widthFault width ∷ lengthFault size (width * bytesFor width) ∷ []) ⌝ }
-{
-    let fault = judging::judge_width(width);
-    if judging::is_none(fault) {
-        judging::judge_length(size, width * limbs::bytes_for(width))
-    } else {
-        fault
-    }
-}
 
 // The bytes of row d, in those of a carried operand.
 pub(crate) fn row_bytes(width: usize, table: &[u8], d: usize) -> [u8; Operand::BYTES]
@@ -37,7 +25,7 @@ pub(crate) fn row_bytes(width: usize, table: &[u8], d: usize) -> [u8; Operand::B
 // The last bytes of all rows are looked at together.
 fn judge_ends(width: usize, table: &[u8]) -> Fault
     requires { ⌜ (width ≤ maxWidth) × (length (now table) ≡ width * bytesFor width) ⌝ }
-    ensures { λ r. ⌜ r ≡ rowsFault width (now (table .entry)) ⌝ }
+    ensures { λ r. ⌜ r ≡ faultOf (highBitInRow width (now (table .entry)) ∷ []) ⌝ }
 {
     let used = width % 8;
     if used == 0 {
@@ -60,7 +48,7 @@ fn judge_ends(width: usize, table: &[u8]) -> Fault
 pub fn judge_shape(width: usize, table: &[u8]) -> Fault
     ensures { λ r. ⌜ r ≡ shapeFault width (now (table .entry)) ⌝ }
 {
-    let fault = judge_size(width, table.len());
+    let fault = judging::judge_table_size(width, table.len());
     if !judging::is_none(fault) {
         return fault;
     }

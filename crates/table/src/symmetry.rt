@@ -1,10 +1,13 @@
 // Rules 4 and 5 of the check: row 0, and row d against row m-d.
 ghost use mathlib.Core.Path.{_≡_};
+ghost use mathlib.Core.List.{[], _∷_};
 ghost use Prim.Native.Nat.{_-_, _<_, _≤_};
 ghost use Rattle.gf2.specs.Operands.{maxWidth, carriedBy, same};
 ghost use Rattle.gf2.specs.Tables.{basis};
+ghost use Rattle.judging.specs.Causes.{faultOf};
+ghost use Rattle.judging.specs.FaultTable.{rowZeroWrong, rowPairCauses};
 ghost use Rattle.table.specs.Rows.{Shaped, mirrors};
-ghost use Rattle.table.specs.Judgements.{rowZeroFault, rowPairFault, symmetryFault};
+ghost use Rattle.table.specs.Judgements.{symmetryFault};
 use crate::rows;
 use judging::Fault;
 use operand::Operand;
@@ -36,7 +39,7 @@ pub(crate) fn basis_bytes(width: usize, k: usize) -> [u8; Operand::BYTES]
 
 fn judge_row_zero(width: usize, table: &[u8]) -> Fault
     requires { ⌜ Shaped width (now table) ⌝ }
-    ensures { λ r. ⌜ r ≡ rowZeroFault width (now (table .entry)) ⌝ }
+    ensures { λ r. ⌜ r ≡ faultOf (rowZeroWrong width (now (table .entry)) ∷ []) ⌝ }
 {
     if same_bytes(rows::row_bytes(width, table, 0), basis_bytes(width, 1)) {
         Fault::None
@@ -59,7 +62,7 @@ fn mirrored(width: usize, table: &[u8], d: usize) -> bool
 // Rows d and m-d are looked at once: if one is the other turned, so is the other.
 fn judge_row_pairs(width: usize, table: &[u8]) -> Fault
     requires { ⌜ Shaped width (now table) ⌝ }
-    ensures { λ r. ⌜ r ≡ rowPairFault width (now (table .entry)) ⌝ }
+    ensures { λ r. ⌜ r ≡ faultOf (rowPairCauses width (now (table .entry))) ⌝ }
 {
     let mut d = 1;
     while d <= width / 2 {

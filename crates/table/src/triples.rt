@@ -1,10 +1,13 @@
 // The check. Rules 6 and 7 are judged by sums of rows, on a table that has passed rules 4 and 5: no product is made.
 ghost use mathlib.Core.Path.{_≡_};
+ghost use mathlib.Core.List.{[], _∷_};
 ghost use Prim.Native.Nat.{_<_};
 ghost use Rattle.gf2.specs.Check.{Symmetric};
+ghost use Rattle.judging.specs.Causes.{faultOf};
+ghost use Rattle.judging.specs.FaultTable.{rowSumWrong};
 ghost use Rattle.table.specs.Rows.{Shaped, leftProduct, rightProduct, associates};
 ghost use Rattle.gf2.specs.Operands.{carriedBy};
-ghost use Rattle.table.specs.Judgements.{tripleFault, rowSumFault, checkFault};
+ghost use Rattle.table.specs.Judgements.{tripleFault, checkFault};
 use crate::first;
 use crate::rows;
 use crate::sums;
@@ -79,7 +82,7 @@ fn judge_triples(width: usize, table: &[u8]) -> Fault
 
 fn judge_row_sum(width: usize, table: &[u8]) -> Fault
     requires { ⌜ Shaped width (now table) ⌝ }
-    ensures { λ r. ⌜ r ≡ rowSumFault width (now (table .entry)) ⌝ }
+    ensures { λ r. ⌜ r ≡ faultOf (rowSumWrong width (now (table .entry)) ∷ []) ⌝ }
 {
     let sum = sums::sum_of_rows(width, table);
     let bytes = sum.bytes;

@@ -1,7 +1,6 @@
 -- `judging::parts::judge_sizes` meets its contract.
 use mathlib.Core.Path.{ap, _∙_}
 use mathlib.Core.List.{[], _∷_}
-use Rattle.gf2.specs.Operands.{bytesFor}
 use Rattle.judging.specs.Causes.{faultOf}
 use Rattle.judging.specs.FaultTable.{badWidth, badLength}
 use Rattle.judging.proofs.CauseLaws.{ends, follows}

@@ -3,7 +3,6 @@ use mathlib.Core.Path.{ap, _∙_}
 use native.Mathlib.Omega.{arith}
 use Prim.Native.Nat.{_*_}
 use mathlib.Core.List.{[], _∷_}
-use Rattle.gf2.specs.Operands.{bytesFor}
 use Rattle.judging.specs.Causes.{faultOf}
 use Rattle.judging.specs.FaultTable.{badWidth, badLength}
 use Rattle.judging.proofs.CauseLaws.{fine, judged, ends, follows}

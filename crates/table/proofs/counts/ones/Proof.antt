@@ -1,38 +1,38 @@
 -- `table::counts::ones` meets its contract.
 use mathlib.Core.Path.{_≡_, _∙_}
 use mathlib.Core.Bool.{true}
+use mathlib.Core.List.{[]}
 use Rattle.judging.specs.Faults.{isNone}
-use Rattle.operand.proofs.FaultLaws.{judged, none-is}
-use Rattle.table.specs.Rows.{Shaped}
+use Rattle.judging.specs.FaultTable.{shapeCauses}
+use Rattle.judging.proofs.CauseLaws.{judged}
 use Rattle.table.specs.Judgements.{shapeFault}
 use Rattle.table.specs.Calls.{onesCall}
-use Rattle.table.proofs.Shapes.{size-small}
-use Rattle.table.proofs.TableOnes.{table-ones}
-use Rattle.table.proofs.Theorems.{shape}
+use Rattle.table.proofs.Shapes.{shaped}
+use Rattle.table.proofs.TableOnes.{ones-small}
 use borrow.Author.Needs.{needs}
 use Rattle.table.proofs.counts.ones.Statement.{statement}
 use Rattle.table.proofs.counts.ones.Tie as tie
 
--- what is judged when the shape has no fault
-none : (c : tie.Then1) → isNone (shapeFault (c .before .before .before .before .args .width) (c .before .before .before .before .args .table .now)) ≡ true
-none c = judged (c .before .before .judge-shape .ensures) (c .before .is-none .ensures) (c .if1 .taken)
-
-shaped : (c : tie.Then1) → Shaped (c .before .before .before .before .args .width) (c .before .before .before .before .args .table .now)
-shaped c = shape _ _ (λ k. c .before .before .before .shared-slice-known .given k .fits) .0 (none-is _ (none c))
-
-count-requires : tie.Need-count-requires
-count-requires c κs = let s = shaped c in rw (s .isTable .size) (size-small _ (s .greatest))
+-- where the shape has passed
+none : (c : tie.Then1) → let a = c .before .before .before .before .args in isNone (shapeFault (a .width) (a .table .now)) ≡ true
+none c = let a = c .before .before .before .before .args in judged (shapeCauses (a .width) (a .table .now)) [] (c .before .before .judge-shape .ensures) (c .before .is-none .ensures) (c .if1 .taken)
 
 returns : tie.Need-returns
 unfolding onesCall
-returns c = rw (c .count .ensures ∙ table-ones _ _ (shaped (c .before) .isTable), c .before .before .before .judge-shape .ensures, none (c .before))
+returns c =
+    let s = c .before .before .before in
+    let e = none (c .before) in
+    let is = shaped (λ k. s .before .shared-slice-known .given k .fits) e in
+    let a = s .before .before .args in
+    rw (c .ones-of .ensures ∙ ones-small (a .width) (a .table .now) (is .greatest) (is .isTable), s .judge-shape .ensures, e)
 
 returns-2 : tie.Need-returns-2
 unfolding onesCall
 returns-2 c =
     let s = c .before in
-    rw (s .before .judge-shape .ensures, judged (s .before .judge-shape .ensures) (s .is-none .ensures) (c .if1 .left))
+    let a = s .before .before .before .args in
+    rw (s .before .judge-shape .ensures, judged (shapeCauses (a .width) (a .table .now)) [] (s .before .judge-shape .ensures) (s .is-none .ensures) (c .if1 .left))
 
 pub ones-spec : {M : Type 1} → statement M
 ones-spec =
-    tie.close (tie.spec (λ c κs. search needs) (λ c κs. search needs) count-requires returns returns-2)
+    tie.close (tie.spec (λ c κs. search needs) (λ c κs. search needs) (λ c κs. search needs) returns returns-2)

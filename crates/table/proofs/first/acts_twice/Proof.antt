@@ -6,7 +6,8 @@ use Prim.Native.Nat.{_<_}
 use Rattle.gf2.specs.Operands.{turned, same}
 use Rattle.table.specs.Rows.{carriedRow, rowsAt, associates}
 use Rattle.table.proofs.Shapes.{row-operand, row-turns}
-use Rattle.table.proofs.Carrying.{same-carried, left-operand, right-operand}
+use Rattle.gf2.proofs.Carrying.{same-carried}
+use Rattle.table.proofs.BasisOperands.{left-operand, right-operand}
 use Rattle.table.proofs.RowSums.{minus-at, first-left, first-right}
 use borrow.Author.Needs.{needs}
 use Rattle.table.proofs.first.acts_twice.Statement.{statement}

@@ -7,7 +7,7 @@ use Rattle.gf2.proofs.Operands.{from-operand}
 use Rattle.operand.specs.declared.OperandAnswer.{OperandAnswer}
 use Rattle.operand.specs.Calls.{sumCall}
 use Rattle.operand.proofs.FaultFree.{carry, sum-done}
-use Rattle.table.proofs.Shapes.{width-of, sized, row-operand}
+use Rattle.table.proofs.Shapes.{width-of, row-operand}
 use Rattle.table.proofs.RowSums.{zero-done, firstRows, rows-none, rows-more, rows-all}
 use borrow.Author.Needs.{needs}
 use Rattle.table.proofs.sums.sum_of_rows.Statement.{statement}
@@ -22,7 +22,7 @@ abbrev μ-loop : tie.MeasureT-loop
 loop-holds : tie.Need-loop-holds Inv-loop μ-loop
 loop-holds c =
     let s = c .before .before .before .pre in
-    (omega arith, ap (λ (r : OperandAnswer). r .value) (c .before .zero .ensures ∙ zero-done (width-of (sized s))) ∙ ap (carry _) (rows-none _ _))
+    (omega arith, ap (λ (r : OperandAnswer). r .value) (c .before .zero .ensures ∙ zero-done (width-of s)) ∙ ap (carry _) (rows-none _ _))
 
 row-at-requires : tie.Need-row-at-requires Inv-loop μ-loop
 row-at-requires c κs = (c .before .before .before .before .before .pre, c .loop-test .taken)
@@ -34,7 +34,7 @@ loop-again c =
     let w = c .before .before .before .before .loop in (
       omega arith,
       ap (λ (r : OperandAnswer). r .value)
-          (c .before .sum .ensures ∙ ap₂ sumCall (w .inv .1) (c .before .before .row-at .ensures) ∙ sum-done (width-of (sized s)) (from-operand carriedBytes _ _) (row-operand s _ l))
+          (c .before .sum .ensures ∙ ap₂ sumCall (w .inv .1) (c .before .before .row-at .ensures) ∙ sum-done (width-of s) (from-operand carriedBytes _ _) (row-operand s _ l))
           ∙ ap (carry _) (rows-more s _ l),
     )
 

@@ -1,6 +1,6 @@
 -- `table::symmetry::basis_bytes` meets its contract.
 use native.Mathlib.Omega.{arith}
-use Rattle.table.proofs.Carrying.{basis-carried}
+use Rattle.table.proofs.BasisOperands.{basis-carried}
 use borrow.Author.Needs.{needs}
 use Rattle.table.proofs.symmetry.basis_bytes.Statement.{statement}
 use Rattle.table.proofs.symmetry.basis_bytes.Tie as tie

@@ -1,45 +1,43 @@
 -- `table::symmetry::judge_row_pairs` meets its contract.
-use mathlib.Core.Path.{_≡_, sym, ap, _∙_}
+use mathlib.Core.Path.{_≡_, refl, sym, _∙_}
 use Prim.Native.Nat.{_-_, _≤_}
 use native.Mathlib.Decide.{ℕ-discrete}
 use native.Mathlib.Omega.{arith}
 use borrow.Author.Tests.{not-true, not-false}
-use Rattle.judging.specs.declared.fault.Fault.the-variants.{RowPair}
-use Rattle.operand.specs.Faults.{firstFrom}
-use Rattle.judging.specs.Faults.{isNone}
-use Rattle.table.specs.Judgements.{rowPairFault}
-use Rattle.table.proofs.Searches.{when-passes, when-fails, none-true, first-hit, first-miss}
-use Rattle.table.proofs.Rules.{mirrorFault, mirror-search, MirrorsTo, half-search}
+use Rattle.judging.specs.Causes.{faultOf}
+use Rattle.judging.specs.FaultTable.{rowPairCauses, rowsDiffer}
+use Rattle.judging.proofs.Searches.{upTo, one-found, one-fails}
+use Rattle.table.proofs.Rules.{mirrorCauses, mirror-test, MirrorsTo, half-search}
 use borrow.Author.Needs.{needs}
 use Rattle.table.proofs.symmetry.judge_row_pairs.Statement.{statement}
 use Rattle.table.proofs.symmetry.judge_row_pairs.Tie as tie
 
 abbrev Inv-loop : tie.InvT-loop
-Inv-loop width table d₀ d = (1 ≤ d) × (rowPairFault width table ≡ firstFrom d (width - d) (mirrorFault width table)) × (MirrorsTo width table d)
+Inv-loop width table d₀ d =
+    (1 ≤ d) × (faultOf (rowPairCauses width table) ≡ faultOf (upTo (mirrorCauses width table) width d)) × (MirrorsTo width table d)
 
 abbrev μ-loop : tie.MeasureT-loop
 μ-loop width table d₀ d = width - d
 
 loop-holds : tie.Need-loop-holds Inv-loop μ-loop
-loop-holds c = (omega arith, mirror-search _ _, record { at = λ k l h. absurd (omega arith) })
+loop-holds c = (omega arith, refl, record { at = λ k l h. absurd (omega arith) })
 
 mirrored-requires : tie.Need-mirrored-requires Inv-loop μ-loop
 mirrored-requires c κs = let s = c .before .before .before .pre in (s, c .before .loop .inv .0, omega (arith, s .least, c .loop-test .taken))
 
 returns : tie.Need-returns Inv-loop μ-loop
-unfolding isNone
 returns c =
     let s = c .before .before .before in
-    let e = when-fails _ (RowPair (s .loop .d)) (sym (c .before .mirrored .ensures) ∙ not-true _ (c .if1 .taken)) in
-    sym (s .loop .inv .1 ∙ first-hit _ _ _ (omega (arith, s .before .before .pre .least, c .before .before .loop-test .taken)) (ap isNone e) ∙ e)
+    let a = s .before .before in
+    sym (s .loop .inv .1 ∙ one-found (rowsDiffer _ _) _ (s .loop .d) (omega (arith, a .pre .least, c .before .before .loop-test .taken))
+    (mirror-test _ _ (s .loop .d) (sym (c .before .mirrored .ensures) ∙ not-true _ (c .if1 .taken))))
 
 loop-again : tie.Need-loop-again Inv-loop μ-loop
 loop-again c =
     let s = c .before .before .before in
-    let mirrors = sym (c .before .mirrored .ensures) ∙ not-false _ (c .if1 .left) in
-    let e = when-passes _ (RowPair (s .loop .d)) mirrors in (
+    let mirrors = sym (c .before .mirrored .ensures) ∙ not-false _ (c .if1 .left) in (
       omega arith,
-      s .loop .inv .1 ∙ first-miss _ _ _ (omega (arith, s .before .before .pre .least, c .before .before .loop-test .taken)) (none-true e),
+      s .loop .inv .1 ∙ one-fails (rowsDiffer _ _) _ (s .loop .d) (omega (arith, s .before .before .pre .least, c .before .before .loop-test .taken)) (mirror-test _ _ (s .loop .d) mirrors),
       record { at = λ k l h. elim (ℕ-discrete k (s .loop .d)) [ yes q ↦ rw q mirrors | no q ↦ s .loop .inv .2 .at k l (omega arith) ] },
     )
 

@@ -1,12 +1,14 @@
 -- `table::symmetry::judge_row_zero` meets its contract.
-use mathlib.Core.Path.{_≡_, sym, ap₂, _∙_}
+use mathlib.Core.Path.{_≡_, sym, ap, ap₂, _∙_}
+use mathlib.Core.Bool.{not}
+use mathlib.Core.List.{[], _∷_}
 use native.Mathlib.Omega.{arith}
 use Rattle.gf2.specs.Tables.{row, basis}
-use Rattle.judging.specs.declared.fault.Fault.the-variants.{RowZero}
-use Rattle.table.specs.Judgements.{rowZeroFault}
+use Rattle.judging.specs.FaultTable.{rowZeroWrong}
+use Rattle.judging.proofs.CauseLaws.{none-given, head-holds}
 use Rattle.gf2.specs.Operands.{same}
-use Rattle.table.proofs.Searches.{when-passes, when-fails}
-use Rattle.table.proofs.Carrying.{same-carried, basis-operand}
+use Rattle.gf2.proofs.Carrying.{same-carried}
+use Rattle.table.proofs.BasisOperands.{basis-operand}
 use borrow.Author.Needs.{needs}
 use Rattle.table.proofs.symmetry.judge_row_zero.Statement.{statement}
 use Rattle.table.proofs.symmetry.judge_row_zero.Tie as tie
@@ -25,12 +27,10 @@ tested c =
     ∙ same-carried (omega (arith, s .greatest)) (s .isTable .rows 0 (omega (arith, s .least))) (basis-operand _ 1)
 
 returns : tie.Need-returns
-unfolding rowZeroFault
-returns c = sym (when-passes _ RowZero (sym (tested (c .before)) ∙ c .if1 .taken))
+returns c = sym (none-given (rowZeroWrong _ _ ∷ []) (ap not (sym (tested (c .before)) ∙ c .if1 .taken), tt))
 
 returns-2 : tie.Need-returns-2
-unfolding rowZeroFault
-returns-2 c = sym (when-fails _ RowZero (sym (tested (c .before)) ∙ c .if1 .left))
+returns-2 c = sym (head-holds (rowZeroWrong _ _) [] (ap not (sym (tested (c .before)) ∙ c .if1 .left)))
 
 pub judge-row-zero-spec : {M : Type 1} → statement M
 judge-row-zero-spec =

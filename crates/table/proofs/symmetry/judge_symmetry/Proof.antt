@@ -1,50 +1,46 @@
 -- `table::symmetry::judge_symmetry` meets its contract.
-use mathlib.Core.Path.{_≡_, sym, _∙_}
-use mathlib.Core.Bool.{true}
+use mathlib.Core.List.{[], _∷_}
 use borrow.Author.Tests.{not-true, not-false}
-use Rattle.judging.specs.Faults.{isNone}
-use Rattle.operand.proofs.FaultLaws.{judged, none-is}
+use Rattle.judging.specs.FaultTable.{rowZeroWrong, rowPairCauses, shapeCauses, ruleCauses}
+use Rattle.judging.proofs.CauseLaws.{judged, ends, follows}
 use Rattle.table.specs.Rows.{Shaped}
-use Rattle.table.specs.Judgements.{shapeFault, symmetryFault}
-use Rattle.table.proofs.Searches.{three-first, three-second, three-third}
-use Rattle.table.proofs.Shapes.{shape-fine}
+use Rattle.table.proofs.Shapes.{shaped as shape-shown}
 use borrow.Author.Needs.{needs}
 use Rattle.table.proofs.symmetry.judge_symmetry.Statement.{statement}
 use Rattle.table.proofs.symmetry.judge_symmetry.Tie as tie
 
--- what is judged when the shape has no fault
-none : (c : tie.Else1) → isNone (shapeFault (c .before .before .before .before .args .width) (c .before .before .before .before .args .table .now)) ≡ true
-none c = judged (c .before .before .judge-shape .ensures) (c .before .is-none .ensures) (not-false _ (c .if1 .left))
-
-shaped : (c : tie.Else1) → Shaped (c .before .before .before .before .args .width) (c .before .before .before .before .args .table .now)
-shaped c = shape-fine _ _ (λ k. c .before .before .before .shared-slice-known .given k .fits) .0 (none-is _ (none c))
+-- where the shape has passed
+shaped : (c : tie.Else1) → let a = c .before .before .before .before .args in Shaped (a .width) (a .table .now)
+shaped c =
+    let s = c .before .before in
+    let a = s .before .before .args in
+    shape-shown (λ k. s .before .shared-slice-known .given k .fits) (judged (shapeCauses (a .width) (a .table .now)) [] (s .judge-shape .ensures) (c .before .is-none .ensures) (not-false _ (c .if1 .left)))
 
 returns : tie.Need-returns
-unfolding symmetryFault
 returns c =
-    let s = c .before in
-    s .before .judge-shape .ensures
-    ∙ sym (three-first _ _ _ (judged (s .before .judge-shape .ensures) (s .is-none .ensures) (not-true _ (c .if1 .taken))))
+    let a = c .before .before .before .before .args in
+    ends (shapeCauses (a .width) (a .table .now)) (ruleCauses (a .width) (a .table .now)) (c .before .before .judge-shape .ensures) (c .before .is-none .ensures) (not-true _ (c .if1 .taken))
 
 judge-row-zero-requires : tie.Need-judge-row-zero-requires
 judge-row-zero-requires c κs = shaped c
 
 returns-2 : tie.Need-returns-2
-unfolding symmetryFault
 returns-2 c =
-    let s = c .before .before in
-    s .judge-row-zero .ensures
-    ∙ sym (three-second _ _ _ (none (s .before)) (judged (s .judge-row-zero .ensures) (c .before .is-none2 .ensures) (not-true _ (c .if2 .taken))))
+    let s = c .before .before .before .before in
+    let a = s .before .before .before .args in
+    follows (shapeCauses (a .width) (a .table .now)) (ruleCauses (a .width) (a .table .now)) (s .before .judge-shape .ensures) (s .is-none .ensures) (not-false _ (c .before .before .before .if1 .left))
+    (ends (rowZeroWrong (a .width) (a .table .now) ∷ []) (rowPairCauses (a .width) (a .table .now)) (c .before .before .judge-row-zero .ensures) (c .before .is-none2 .ensures) (not-true _ (c .if2 .taken)))
 
 judge-row-pairs-requires : tie.Need-judge-row-pairs-requires
 judge-row-pairs-requires c κs = shaped (c .before .before .before)
 
 returns-3 : tie.Need-returns-3
-unfolding symmetryFault
 returns-3 c =
-    let s = c .before .before .before in
-    c .judge-row-pairs .ensures
-    ∙ sym (three-third _ _ _ (none (s .before)) (judged (s .judge-row-zero .ensures) (c .before .before .is-none2 .ensures) (not-false _ (c .before .if2 .left))))
+    let z = c .before .before .before in
+    let s = z .before .before in
+    let a = s .before .before .before .args in
+    follows (shapeCauses (a .width) (a .table .now)) (ruleCauses (a .width) (a .table .now)) (s .before .judge-shape .ensures) (s .is-none .ensures) (not-false _ (z .before .if1 .left))
+    (follows (rowZeroWrong (a .width) (a .table .now) ∷ []) (rowPairCauses (a .width) (a .table .now)) (z .judge-row-zero .ensures) (c .before .before .is-none2 .ensures) (not-false _ (c .before .if2 .left)) (c .judge-row-pairs .ensures))
 
 pub judge-symmetry-spec : {M : Type 1} → statement M
 judge-symmetry-spec =

@@ -3,11 +3,9 @@ use mathlib.Core.Path.{ap, ap₂, _∙_}
 use Prim.Native.Nat.{_-_, _<_, _≤_}
 use native.Mathlib.Omega.{arith}
 use Rattle.gf2.specs.Operands.{bytesFor, carriedBytes, turned, same}
-use Rattle.gf2.proofs.Operands.{turned-operand}
-use Rattle.gf2.proofs.OperandVectors.{bytes-fit}
 use Rattle.table.specs.Rows.{mirrors}
 use Rattle.table.proofs.Shapes.{row-turns}
-use Rattle.table.proofs.Carrying.{same-carried, turned-carried}
+use Rattle.gf2.proofs.Carrying.{same-carried, turned-carried, turned-is, has-bytes}
 use borrow.Author.Needs.{needs}
 use Rattle.table.proofs.symmetry.mirrored.Statement.{statement}
 use Rattle.table.proofs.symmetry.mirrored.Tie as tie
@@ -29,11 +27,11 @@ returns c =
     let a = s .args in
     let short : bytesFor (a .width) ≤ carriedBytes = omega (arith, p .0 .greatest) in
     let l : a .width - a .d < a .width = omega (arith, p .1, p .2) in
-    let row = p .0 .isTable .rows (a .width - a .d) l in
+    let has = has-bytes (p .0 .greatest) (p .0 .isTable .rows (a .width - a .d) l) in
     let other = c .before .turned .ensures ∙ ap (turned (a .width) (a .d)) (c .before .before .row-bytes2 .ensures) in
     c .same-bytes .ensures
-    ∙ ap₂ same (c .before .before .before .row-bytes .ensures) (other ∙ turned-carried short (bytes-fit _) (a .d) row)
-    ∙ same-carried short (p .0 .isTable .rows (a .d) (p .2)) (turned-operand _ (row .size) (a .d))
+    ∙ ap₂ same (c .before .before .before .row-bytes .ensures) (other ∙ turned-carried has (a .d))
+    ∙ same-carried short (p .0 .isTable .rows (a .d) (p .2)) (turned-is has (a .d))
 
 pub mirrored-spec : {M : Type 1} → statement M
 mirrored-spec =

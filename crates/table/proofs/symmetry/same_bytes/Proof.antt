@@ -9,7 +9,7 @@ use mir.Syntax.{w8}
 use Rattle.gf2.specs.Operands.{carriedBytes}
 use Rattle.limbs.specs.Limbs.{carriedLimbs}
 use Rattle.limbs.proofs.LimbLoops.{ored, ored-none, ored-more}
-use Rattle.table.proofs.Searches.{apart, same-limbs}
+use Rattle.table.proofs.Comparing.{apart, same-limbs}
 use borrow.Author.Needs.{needs}
 use Rattle.table.proofs.symmetry.same_bytes.Statement.{statement}
 use Rattle.table.proofs.symmetry.same_bytes.Tie as tie

@@ -3,7 +3,8 @@ use mathlib.Core.Path.{ap₂, _∙_}
 use native.Mathlib.Omega.{arith}
 use Rattle.table.specs.Rows.{associates}
 use Rattle.gf2.specs.Operands.{same}
-use Rattle.table.proofs.Carrying.{same-carried, left-operand, right-operand}
+use Rattle.gf2.proofs.Carrying.{same-carried}
+use Rattle.table.proofs.BasisOperands.{left-operand, right-operand}
 use borrow.Author.Needs.{needs}
 use Rattle.table.proofs.triples.associative.Statement.{statement}
 use Rattle.table.proofs.triples.associative.Tie as tie

@@ -1,14 +1,16 @@
 -- `table::triples::judge_row_sum` meets its contract.
 use mathlib.Core.Path.{_≡_, sym, ap, ap₂, _∙_}
+use mathlib.Core.Bool.{not}
+use mathlib.Core.List.{[], _∷_}
 use native.Mathlib.Omega.{arith}
 use Rattle.gf2.specs.Tables.{basis}
 use Rattle.gf2.specs.Check.{rowSum}
 use Rattle.operand.specs.declared.Operand.{Operand}
-use Rattle.judging.specs.declared.fault.Fault.the-variants.{RowSum}
-use Rattle.table.specs.Judgements.{rowSumFault}
+use Rattle.judging.specs.FaultTable.{rowSumWrong}
+use Rattle.judging.proofs.CauseLaws.{none-given, head-holds}
 use Rattle.gf2.specs.Operands.{same}
-use Rattle.table.proofs.Searches.{when-passes, when-fails}
-use Rattle.table.proofs.Carrying.{same-carried, basis-operand, sum-operand}
+use Rattle.gf2.proofs.Carrying.{same-carried}
+use Rattle.table.proofs.BasisOperands.{basis-operand, sum-operand}
 use borrow.Author.Needs.{needs}
 use Rattle.table.proofs.triples.judge_row_sum.Statement.{statement}
 use Rattle.table.proofs.triples.judge_row_sum.Tie as tie
@@ -29,12 +31,10 @@ tested c =
     ∙ same-carried (omega (arith, s .greatest)) (sum-operand _ _) (basis-operand _ 0)
 
 returns : tie.Need-returns
-unfolding rowSumFault
-returns c = sym (when-passes _ RowSum (sym (tested (c .before)) ∙ c .if1 .taken))
+returns c = sym (none-given (rowSumWrong _ _ ∷ []) (ap not (sym (tested (c .before)) ∙ c .if1 .taken), tt))
 
 returns-2 : tie.Need-returns-2
-unfolding rowSumFault
-returns-2 c = sym (when-fails _ RowSum (sym (tested (c .before)) ∙ c .if1 .left))
+returns-2 c = sym (head-holds (rowSumWrong _ _) [] (ap not (sym (tested (c .before)) ∙ c .if1 .left)))
 
 pub judge-row-sum-spec : {M : Type 1} → statement M
 judge-row-sum-spec =

@@ -1,4 +1,4 @@
--- Operands of W bytes and the same operands carried: made from coordinates, turned, compared, and the basis operands.
+-- The basis operands, products of them and sums of rows as operands of W bytes; a basis operand carried.
 use mathlib.Core.Path.{_≡_, refl, sym, ap, _∙_}
 use mathlib.Core.Bool.{Bool, true}
 use mathlib.Core.List.{List}
@@ -10,35 +10,16 @@ use lib.ListN.{set, replicate}
 use lib.Dec.{eqb}
 use borrow.Author.Tests.{eqb-true, ne-eqb}
 use Rattle.gf2.specs.Sums.{every}
-use Rattle.gf2.specs.Coordinates.{coord, tabulate}
-use Rattle.gf2.specs.Operands.{bytesFor, carriedBytes, minus, choose, IsOperand, below, fromCoords, turned, carriedBy, same}
+use Rattle.gf2.specs.Coordinates.{tabulate}
+use Rattle.gf2.specs.Operands.{bytesFor, carriedBytes, choose, IsOperand, below, fromCoords, carriedBy}
 use Rattle.gf2.specs.Tables.{basis}
 use Rattle.gf2.specs.Products.{product}
 use Rattle.gf2.specs.Check.{rowSum}
 use Rattle.gf2.proofs.Sums.{every-at}
-use Rattle.gf2.proofs.Coordinates.{length-pack, pack-of}
-use Rattle.gf2.proofs.Operands.{below-in, below-out, coord-from, length-from, from-operand, from-ext, from-eq, operand-ext}
-use Rattle.gf2.proofs.Carrying.{coord-carried}
+use Rattle.gf2.proofs.Coordinates.{pack-of}
+use Rattle.gf2.proofs.Operands.{below-in, below-out, from-operand}
+use Rattle.gf2.proofs.Carrying.{carried-from}
 use Rattle.table.specs.Rows.{leftProduct, rightProduct}
-use Rattle.table.proofs.Searches.{same-both}
-use Rattle.table.proofs.Shapes.{carried-operand}
-
-module _ {n m : ℕ} (short : n ≤ carriedBytes) where
-  pub carried-from : m ≤ 8 * n → (f : ℕ → ℕ) → carriedBy (fromCoords n m f) ≡ fromCoords carriedBytes m f
-  carried-from fits f = from-eq carriedBytes m f (carried-operand short (from-operand n m f)) (λ i l.
-      coord-carried carriedBytes (fromCoords n m f) (rw length-from short) i ∙ coord-from n m f fits i l)
-
-  pub carried-inj : {a b : List ℕ} → IsOperand n m a → IsOperand n m b → carriedBy a ≡ carriedBy b → a ≡ b
-  carried-inj {a} {b} oa ob e = operand-ext oa ob (λ i l.
-      sym (coord-carried carriedBytes a (rw (oa .size) short) i) ∙ ap (λ x. coord x i) e ∙ coord-carried carriedBytes b (rw (ob .size) short) i)
-
-  pub same-carried : {a b : List ℕ} → IsOperand n m a → IsOperand n m b → same (carriedBy a) (carriedBy b) ≡ same a b
-  same-carried {a} {b} oa ob = same-both _ _ _ _ (carried-inj oa ob) (ap carriedBy)
-
-  pub turned-carried : m ≤ 8 * n → (k : ℕ) {a : List ℕ} → IsOperand n m a → turned m k (carriedBy a) ≡ carriedBy (turned m k a)
-  unfolding turned
-  turned-carried fits k {a} o = rw (o .size, length-pack, carried-from fits)
-      (from-ext carriedBytes m _ _ (λ i l. ap (λ x. x % 2) (coord-carried carriedBytes a (rw (o .size) short) (minus m i k))))
 
 pub basis-operand : (m k : ℕ) → IsOperand (bytesFor m) m (basis m k)
 unfolding basis
