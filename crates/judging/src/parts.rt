@@ -31,6 +31,36 @@ pub fn judge_length(given: usize, laid_down: usize) -> Fault
     }
 }
 
+// Two widths, the second as the first.
+pub fn judge_widths(m: usize, n: usize) -> Fault
+    ensures { λ r. ⌜ r ≡ faultOf (badWidth m ∷ badWidth n ∷ badLength n m ∷ []) ⌝ }
+{
+    let first = judge_width(m);
+    if !is_none(first) {
+        return first;
+    }
+    let second = judge_width(n);
+    if !is_none(second) {
+        return second;
+    }
+    judge_length(n, m)
+}
+
+// A width, and those of two operands.
+pub fn judge_pair_widths(width: usize, m: usize, n: usize) -> Fault
+    ensures { λ r. ⌜ r ≡ faultOf (badWidth width ∷ badWidth m ∷ badWidth n ∷ badLength n m ∷ badLength m width ∷ []) ⌝ }
+{
+    let first = judge_width(width);
+    if !is_none(first) {
+        return first;
+    }
+    let pair = judge_widths(m, n);
+    if !is_none(pair) {
+        return pair;
+    }
+    judge_length(m, width)
+}
+
 // An operand's length.
 pub fn judge_size(width: usize, a: usize) -> Fault
     ensures { λ r. ⌜ r ≡ faultOf (badWidth width ∷ badLength a (bytesFor width) ∷ []) ⌝ }

@@ -5,14 +5,13 @@ ghost use mathlib.Core.List.{[], _∷_};
 ghost use Prim.Native.Nat.{_*_};
 ghost use Rattle.gf2.specs.Operands.{carriedBytes};
 ghost use Rattle.judging.specs.Causes.{faultOf};
-ghost use Rattle.judging.specs.FaultTable.{badWidth, badLength, highBit, turnTooFar, traceIsOne};
+ghost use Rattle.judging.specs.FaultTable.{highBit, turnTooFar, traceIsOne};
 ghost use Rattle.operand.specs.Causes.{operandCauses, pairCauses};
 use crate::Operand;
 use crate::quadratic;
 use judging::Fault;
 use judging::is_none;
 use judging::judge_high;
-use judging::judge_length;
 use judging::judge_width;
 
 pub fn judge_operand(a: Operand) -> Fault
@@ -25,21 +24,6 @@ pub fn judge_operand(a: Operand) -> Fault
         return first;
     }
     judge_high(x, m)
-}
-
-// Two widths, the second as the first.
-fn judge_widths(m: usize, n: usize) -> Fault
-    ensures { λ r. ⌜ r ≡ faultOf (badWidth m ∷ badWidth n ∷ badLength n m ∷ []) ⌝ }
-{
-    let first = judge_width(m);
-    if !is_none(first) {
-        return first;
-    }
-    let second = judge_width(n);
-    if !is_none(second) {
-        return second;
-    }
-    judge_length(n, m)
 }
 
 // The bits of two operands.
@@ -65,7 +49,7 @@ pub fn judge_pair(a: Operand, b: Operand) -> Fault
     let n = b.width as usize;
     let x = a.bytes;
     let y = b.bytes;
-    let widths = judge_widths(m, n);
+    let widths = judging::judge_widths(m, n);
     if !is_none(widths) {
         return widths;
     }

@@ -3,18 +3,17 @@ use mathlib.Core.Path.{_≡_, refl, sym, ap, ap₂, _∙_}
 use mathlib.Core.Bool.{Bool, true, false}
 use mathlib.Core.List.{List}
 use Prim.Native.Nat.{ℕ, zero, suc, _+_, _-_, _*_, _/_, _%_, _<_, _≤_}
-use native.Mathlib.Nat.{add-zero, zero-mul, mul-zero, mod-eq-of-lt, add-mod-left}
+use native.Mathlib.Nat.{zero-mul, mul-zero, mod-eq-of-lt, add-mod-left}
 use native.Mathlib.Numerals.{add-one}
 use native.Mathlib.Decide.{decLt}
 use native.Mathlib.Omega.{arith}
 use lib.ListN.{length, replicate}
 use Rattle.gf2.specs.Sums.{sum}
 use Rattle.gf2.specs.Coordinates.{coord, pack}
-use Rattle.gf2.specs.Operands.{carriedBytes, maxWidth, minus, choose, fromCoords}
+use Rattle.gf2.specs.Operands.{carriedBytes, maxWidth, minus, choose}
 use Rattle.gf2.specs.Tables.{row}
 use Rattle.gf2.proofs.Sums.{sum-ext, sum-none}
-use Rattle.gf2.proofs.Coordinates.{coord-lt, length-pack, pack-ext}
-use Rattle.gf2.proofs.Operands.{below-in, below-out}
+use Rattle.gf2.proofs.Coordinates.{coord-lt, length-pack}
 use Rattle.operand.specs.declared.Operand.{Operand}
 use Rattle.limbs.specs.Limbs.{carriedLimbs, limbCoord, packLimbs, raised}
 use Rattle.limbs.proofs.LimbCoords.{limb-lt, limb-pack, length-limbs, limb-zero, limbs-same}

@@ -7,7 +7,7 @@
 -- ReducedLimbs: the reduced product by the places of the ones in half of the rows.
 -- TimesLaws: the product by either method.
 -- ChainSteps: the steps of the inverse's chain.
--- FaultOrder: the order of the faults, and what holds where there is none.
+-- Judged: what has passed where no fault is given, and the same causes carried and as W bytes.
 -- Theorems: the proofs of the statements in specs/Statements.antt.
 pub mod SoundOperands
 pub mod GatherLaws
@@ -17,5 +17,5 @@ pub mod PlainLimbs
 pub mod ReducedLimbs
 pub mod TimesLaws
 pub mod ChainSteps
-pub mod FaultOrder
+pub mod Judged
 pub mod Theorems

@@ -1,6 +1,5 @@
 -- The plain product on limbs: what all rows add at the places of their ones, gathered.
 use mathlib.Core.Path.{_≡_, refl, sym, ap, _∙_}
-use mathlib.Core.Bool.{false}
 use mathlib.Core.List.{List}
 use Prim.Native.Nat.{ℕ, zero, suc, _+_, _-_, _*_, _%_, _<_}
 use native.Mathlib.Nat.{add-zero, zero-add, mod-self, mod-eq-of-lt, add-mod-right, mod-lt}
@@ -19,7 +18,7 @@ use Rattle.limbs.specs.Limbs.{carriedLimbs, packLimbs}
 use Rattle.table.specs.Rows.{Shaped}
 use Rattle.product.specs.Inner.{Sound, carried, made, rowsTo, gatheredAt}
 use Rattle.product.specs.declared.kernel.Method.the-variants.{Plain}
-use Rattle.scatter.specs.Cells.{cell, Added}
+use Rattle.scatter.specs.Cells.{Added}
 use Rattle.product.proofs.SoundOperands.{fits}
 use Rattle.product.proofs.ScatterBytes.{apartAt, spreadAt, plainTo, plain-all}
 use Rattle.scatter.proofs.CellLaws.{bit-mul}

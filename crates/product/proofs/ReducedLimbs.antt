@@ -22,7 +22,7 @@ use Rattle.operand.specs.declared.Operand.{Operand}
 use Rattle.table.specs.Rows.{Shaped}
 use Rattle.product.specs.Inner.{Sound, carried, made, rowsTo, gatheredAt}
 use Rattle.product.specs.declared.kernel.Method.the-variants.{Reduced}
-use Rattle.scatter.specs.Cells.{cell, Added}
+use Rattle.scatter.specs.Cells.{Added}
 use Rattle.product.proofs.KernelLaws.{metBytes, rows-made}
 use Rattle.gf2.proofs.Monoid.{big, big-ext}
 use Rattle.gf2.proofs.Parity.{_⊕_, bits, xor-zero, odd, odd-add, odd-mul, odd-sum, odd-true, bit, bit-odd}

@@ -1,12 +1,12 @@
 -- The product by a method: what its rows give, gathered, with what the method adds to them.
 use mathlib.Core.Path.{_≡_, sym, ap, ap₂, _∙_}
 use mathlib.Core.List.{List}
-use Prim.Native.Nat.{ℕ, _+_, _-_, _*_, _/_, _%_, _<_, _≤_}
+use Prim.Native.Nat.{ℕ, _+_, _-_, _*_, _%_, _<_, _≤_}
 use native.Mathlib.Nat.{add-zero, mod-lt, mod-mod}
 use native.Mathlib.Omega.{arith}
-use lib.ListN.{length, replicate}
+use lib.ListN.{replicate}
 use Rattle.gf2.specs.Coordinates.{coord}
-use Rattle.gf2.specs.Operands.{carriedBytes, maxWidth, minus}
+use Rattle.gf2.specs.Operands.{carriedBytes, minus}
 use Rattle.gf2.proofs.Operands.{from-ext, coord-from}
 use Rattle.operand.specs.declared.Operand.{Operand}
 use Rattle.operand.specs.declared.OperandAnswer.{OperandAnswer}

@@ -2,7 +2,7 @@
 -- add, and the states of the inverse's chain. No demand cites them.
 use mathlib.Core.Path.{_≡_}
 use mathlib.Core.Bool.{Bool, true}
-use mathlib.Core.List.{List}
+use mathlib.Core.List.{List, [], _∷_, _++_}
 use Prim.Native.Nat.{ℕ, _+_, _-_, _*_, _/_, _%_, _^_, _<_, _≤_}
 use lib.Dec.{eqb}
 use Rattle.gf2.specs.Sums.{sum}
@@ -15,16 +15,17 @@ use Rattle.gf2.specs.Inverse.{Chain, adding, digits, inverse, productsMade}
 use Rattle.limbs.specs.Limbs.{limbCoord}
 use Rattle.operand.specs.declared.Operand.{Operand}
 use Rattle.operand.specs.declared.OperandAnswer.{OperandAnswer}
-use Rattle.judging.specs.declared.fault.Fault.{Fault}
 use Rattle.judging.specs.declared.fault.Fault.the-variants.{None}
-use Rattle.operand.specs.Calls.{answer}
+use Rattle.judging.specs.Causes.{Cause, faultOf}
+use Rattle.judging.specs.FaultTable.{notTable, highBit, highBitInRow, isZero, ruleCauses}
+use Rattle.operand.specs.Calls.{answer, written}
 use Rattle.table.specs.Rows.{Shaped}
 use Rattle.scatter.specs.Cells.{places, HasPlaces, cell}
 use Rattle.product.specs.declared.InverseAnswer.{InverseAnswer}
 use Rattle.product.specs.declared.kernel.Method.{Method}
 use Rattle.product.specs.declared.kernel.Method.the-variants.{Plain, Reduced}
 use Rattle.product.specs.declared.chain.State.{State}
-use Rattle.product.specs.Judgements.{productFault, reducedFault}
+use Rattle.product.specs.Causes.{productCauses, productBytesCauses}
 
 -- the operand of width m with these bytes
 abbrev pub carried : ℕ → List ℕ → Operand
@@ -55,13 +56,32 @@ abbrev pub multiplied : Method → ℕ → List ℕ → List ℕ → List ℕ �
 multiplied Plain m table a b = product m table a b
 multiplied Reduced m table a b = reduced m table a b
 
--- what a product by a method is refused for, and what it answers
-abbrev pub methodFault : Method → ℕ → List ℕ → Operand → Operand → Fault
-methodFault Plain m table a b = productFault m table a b
-methodFault Reduced m table a b = reducedFault m table a b
+-- what follows the widths and the lengths: the table and one operand; another, and the rules that a method asks for; that it isn't zero
+abbrev pub tableCauses : ℕ → List ℕ → List ℕ → List Cause
+tableCauses m table x = notTable m table ∷ highBitInRow m table ∷ highBit m x ∷ []
+
+abbrev pub rulesBy : Method → ℕ → List ℕ → List Cause
+rulesBy Plain m table = []
+rulesBy Reduced m table = ruleCauses m table
+
+abbrev pub factorCauses : Method → ℕ → List ℕ → List ℕ → List ℕ → List Cause
+factorCauses k m table x y = tableCauses m table x ++ (highBit m y ∷ rulesBy k m table)
+
+abbrev pub unitCauses : ℕ → List ℕ → List ℕ → List Cause
+unitCauses m table x = tableCauses m table x ++ (isZero carriedBytes m x ∷ [])
+
+-- what a product by a method is refused for, and what it answers and leaves
+abbrev pub methodCauses : Method → ℕ → List ℕ → Operand → Operand → List Cause
+methodCauses k m table a b = productCauses m table a b ++ rulesBy k m table
 
 abbrev pub multiplyCall : Method → ℕ → List ℕ → Operand → Operand → OperandAnswer
-multiplyCall k m table a b = answer (methodFault k m table a b) m (multiplied k m table (a .bytes) (b .bytes))
+multiplyCall k m table a b = answer (faultOf (methodCauses k m table a b)) m (multiplied k m table (a .bytes) (b .bytes))
+
+abbrev pub methodBytesCauses : Method → ℕ → List ℕ → List ℕ → List ℕ → List ℕ → List Cause
+methodBytesCauses k m table a b result = productBytesCauses m table a b result ++ rulesBy k m table
+
+abbrev pub multiplyInto : Method → ℕ → List ℕ → List ℕ → List ℕ → List ℕ → List ℕ
+multiplyInto k m table a b old = written (faultOf (methodBytesCauses k m table a b old)) (multiplied k m table a b) old
 
 -- the rows that a method looks at: all, or 1 to m/2
 abbrev pub firstRow : Method → ℕ

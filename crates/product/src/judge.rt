@@ -1,62 +1,71 @@
-// What the calls judge before their work: 1 to 3 over all their arguments, the lowest number first, and then the rest.
+// What the calls judge after the widths and the lengths: the table, the bits of the operands, and what a call has of its own.
+// Each part is judged only where those before it give no fault.
 ghost use mathlib.Core.Path.{_≡_};
-ghost use Rattle.product.specs.Judgements.{productFault, zeroFault, inverseFault};
-ghost use Rattle.product.specs.Inner.{methodFault};
+ghost use Rattle.judging.specs.Causes.{faultOf};
+ghost use Rattle.table.specs.Rows.{Shaped};
+ghost use Rattle.product.specs.Inner.{IsWidth, tableCauses, rulesBy, factorCauses, unitCauses};
 use crate::kernel::Method;
 use judging::Fault;
-use judging::judge_length;
-use judging::judge_width;
+use judging::is_none;
+use judging::judge_high;
 use operand::Operand;
-use operand::or_else;
 
-// A table and two operands of its width.
-fn judge_factors(width: usize, table: &[u8], a: Operand, b: Operand) -> Fault
-    ensures { λ r. ⌜ r ≡ productFault width (now (table .entry)) a b ⌝ }
+// A table, and one operand.
+fn judge_table(width: usize, table: &[u8], x: [u8; Operand::BYTES]) -> Fault
+    requires { ⌜ IsWidth width ⌝ }
+    ensures { λ r. ⌜ r ≡ faultOf (tableCauses width (now (table .entry)) x) ⌝ }
 {
-    let m = a.width as usize;
-    let n = b.width as usize;
-    let widths = or_else(judge_width(width), or_else(judge_width(m), judge_width(n)));
-    let sizes = or_else(judge_length(m, width), judge_length(n, width));
-    let bits = or_else(table::judge_shape(width, table), operand::judge_pair(a, b));
-    or_else(widths, or_else(sizes, bits))
+    let shape = table::judge_shape(width, table);
+    if !is_none(shape) {
+        return shape;
+    }
+    judge_high(x, width)
 }
 
-// The same, and for the reduced product the rules 4 and 5.
-pub(crate) fn judge_product(
+// For the reduced product the rules 4 and 5.
+fn judge_rules(method: Method, width: usize, table: &[u8]) -> Fault
+    requires { ⌜ Shaped width (now table) ⌝ }
+    ensures { λ r. ⌜ r ≡ faultOf (rulesBy method width (now (table .entry))) ⌝ }
+{
+    match method {
+        Method::Plain => Fault::None,
+        Method::Reduced => table::judge_symmetry(width, table),
+    }
+}
+
+// A table and two factors, by a method.
+pub(crate) fn judge_factors(
     method: Method,
     width: usize,
     table: &[u8],
-    a: Operand,
-    b: Operand,
+    x: [u8; Operand::BYTES],
+    y: [u8; Operand::BYTES],
 ) -> Fault
-    ensures { λ r. ⌜ r ≡ methodFault method width (now (table .entry)) a b ⌝ }
+    requires { ⌜ IsWidth width ⌝ }
+    ensures { λ r. ⌜ r ≡ faultOf (factorCauses method width (now (table .entry)) x y) ⌝ }
 {
-    let factors = judge_factors(width, table, a, b);
-    match method {
-        Method::Plain => factors,
-        Method::Reduced => or_else(factors, table::judge_symmetry(width, table)),
+    let first = judge_table(width, table, x);
+    if !is_none(first) {
+        return first;
     }
+    let second = judge_high(y, width);
+    if !is_none(second) {
+        return second;
+    }
+    judge_rules(method, width, table)
 }
 
-// Zero is the operand with no bit at 0 or above.
-fn judge_zero(a: Operand) -> Fault
-    ensures { λ r. ⌜ r ≡ zeroFault a ⌝ }
+// A table and an operand that isn't zero: zero is the operand with no bit at 0 or above.
+pub(crate) fn judge_unit(width: usize, table: &[u8], x: [u8; Operand::BYTES]) -> Fault
+    requires { ⌜ IsWidth width ⌝ }
+    ensures { λ r. ⌜ r ≡ faultOf (unitCauses width (now (table .entry)) x) ⌝ }
 {
-    let x = a.bytes;
-    if judging::is_none(judging::judge_high(x, 0)) {
-        Fault::InverseOfZero
-    } else {
-        Fault::None
+    let first = judge_table(width, table, x);
+    if !is_none(first) {
+        return first;
     }
-}
-
-// A table and an operand of its width that isn't zero.
-pub(crate) fn judge_inverse(width: usize, table: &[u8], a: Operand) -> Fault
-    ensures { λ r. ⌜ r ≡ inverseFault width (now (table .entry)) a ⌝ }
-{
-    let m = a.width as usize;
-    let widths = or_else(judge_width(width), judge_width(m));
-    let bits = or_else(table::judge_shape(width, table), operand::judge_operand(a));
-    let rest = or_else(bits, judge_zero(a));
-    or_else(widths, or_else(judge_length(m, width), rest))
+    if limbs::is_clear(x, 0) {
+        return Fault::InverseOfZero;
+    }
+    Fault::None
 }

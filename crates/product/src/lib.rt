@@ -1,18 +1,26 @@
-// Products of operands under a table, plain and reduced, and the inverse.
+// Products of operands under a table, plain and reduced, and the inverse, carried by value and as W bytes.
 // Each call judges what it is given; a fault stands beside the operand of width 0.
 ghost use mathlib.Core.Path.{_≡_};
+ghost use Rattle.operand.specs.Calls.{noOperand};
 ghost use Rattle.product.specs.Calls.{productCall, reducedCall, inverseCall};
 ghost use Rattle.product.specs.Inner.{multiplyCall};
 use judging::Fault;
+use judging::is_none;
 use kernel::Method;
 use operand::Operand;
 use operand::OperandAnswer;
 
+mod bytes;
 mod chain;
 mod judge;
 mod kernel;
 mod places;
 mod times;
+
+pub use bytes::CountAnswer;
+pub use bytes::inverse_into;
+pub use bytes::product_into;
+pub use bytes::reduced_into;
 
 // A fault, or none and an inverse with the number of products that it took.
 pub struct InverseAnswer {
@@ -25,15 +33,20 @@ pub struct InverseAnswer {
 fn multiply(method: Method, width: usize, table: &[u8], a: Operand, b: Operand) -> OperandAnswer
     ensures { λ r. ⌜ r ≡ multiplyCall method width (now (table .entry)) a b ⌝ }
 {
-    let fault = judge::judge_product(method, width, table, a, b);
-    if judging::is_none(fault) {
-        let mut g = [0u64; scatter::ROOM];
-        OperandAnswer {
-            fault: Fault::None,
-            value: times::times(method, width, table, a, b, &mut g),
-        }
-    } else {
-        operand::refused(fault)
+    let x = a.bytes;
+    let y = b.bytes;
+    let widths = judging::judge_pair_widths(width, a.width as usize, b.width as usize);
+    if !is_none(widths) {
+        return operand::refused(widths);
+    }
+    let fault = judge::judge_factors(method, width, table, x, y);
+    if !is_none(fault) {
+        return operand::refused(fault);
+    }
+    let mut g = [0u64; scatter::ROOM];
+    OperandAnswer {
+        fault: Fault::None,
+        value: times::times(method, width, table, a, b, &mut g),
     }
 }
 
@@ -51,20 +64,30 @@ pub fn product_reduced(width: usize, table: &[u8], a: Operand, b: Operand) -> Op
     multiply(Method::Reduced, width, table, a, b)
 }
 
+fn refused(fault: Fault) -> InverseAnswer
+    ensures { λ r. ⌜ r ≡ record { fault = fault; value = noOperand; count = 0 } ⌝ }
+{
+    let none = operand::refused(fault);
+    let value = none.value;
+    InverseAnswer {
+        fault,
+        value,
+        count: 0,
+    }
+}
+
 // The inverse by the chain, under any table of the right shape.
 pub fn inverse(width: usize, table: &[u8], a: Operand) -> InverseAnswer
     ensures { λ r. ⌜ r ≡ inverseCall width (now (table .entry)) a ⌝ }
 {
-    let fault = judge::judge_inverse(width, table, a);
-    if judging::is_none(fault) {
-        chain::inverted(width, table, a)
-    } else {
-        let none = operand::refused(fault);
-        let value = none.value;
-        InverseAnswer {
-            fault,
-            value,
-            count: 0,
-        }
+    let x = a.bytes;
+    let widths = judging::judge_widths(width, a.width as usize);
+    if !is_none(widths) {
+        return refused(widths);
     }
+    let fault = judge::judge_unit(width, table, x);
+    if !is_none(fault) {
+        return refused(fault);
+    }
+    chain::inverted(width, table, a)
 }

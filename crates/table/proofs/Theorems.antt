@@ -46,7 +46,7 @@ module _ (m : ℕ) (t : List ℕ) where
     λ r. fine-from (rowCauses m t) 0 m (λ i l li. fine-from (pairCauses m t i) 0 m (λ j k lj. (same-passes _ _ (r i j (omega arith) (omega arith)), tt))),
   )
 
-  rules : Fine (ruleCauses m t) ↔ Symmetric m t
+  pub rules : Fine (ruleCauses m t) ↔ Symmetric m t
   rules = (
     λ p. record { rule4 = are-same _ _ (p .0); rule5 = rule5 .0 (p .1) },
     λ s. (same-passes _ _ (s .rule4), rule5 .1 (s .rule5)),

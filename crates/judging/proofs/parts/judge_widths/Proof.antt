@@ -1,11 +1,11 @@
--- `operand::judge::judge_widths` meets its contract.
+-- `judging::parts::judge_widths` meets its contract.
 use mathlib.Core.List.{[], _∷_}
 use borrow.Author.Tests.{not-true, not-false}
 use Rattle.judging.specs.FaultTable.{badWidth, badLength}
 use Rattle.judging.proofs.CauseLaws.{ends, follows}
 use borrow.Author.Needs.{needs}
-use Rattle.operand.proofs.judge.judge_widths.Statement.{statement}
-use Rattle.operand.proofs.judge.judge_widths.Tie as tie
+use Rattle.judging.proofs.parts.judge_widths.Statement.{statement}
+use Rattle.judging.proofs.parts.judge_widths.Tie as tie
 
 returns : tie.Need-returns
 returns c = ends (badWidth _ ∷ []) (badWidth _ ∷ badLength _ _ ∷ []) (c .before .before .judge-width .ensures) (c .before .is-none .ensures) (not-true _ (c .if1 .taken))
