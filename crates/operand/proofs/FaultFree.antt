@@ -11,7 +11,6 @@ use Rattle.judging.proofs.Passed.{IsWidth, width-passes, length-passes, operand
 use Rattle.operand.specs.declared.Operand.{Operand}
 use Rattle.operand.specs.declared.OperandAnswer.{OperandAnswer}
 use Rattle.judging.specs.FaultTable.{badWidth, badLength, highBit}
-use Rattle.operand.specs.Judgements.{widthFault, lengthFault, highFault}
 use Rattle.operand.specs.Causes.{operandCauses, pairCauses, turnCauses}
 use Rattle.operand.specs.Calls.{answer, turnCall, squareCall, sumCall}
 
@@ -21,15 +20,6 @@ carry m x = record { bytes = x; width = m }
 
 abbrev pub done : ℕ → List ℕ → OperandAnswer
 done m x = record { fault = None; value = carry m x }
-
-pub width-none : (m : ℕ) → IsWidth m → widthFault m ≡ None
-width-none m w = none-given (badWidth m ∷ []) (width-passes m w, tt)
-
-pub length-none : (given laidDown : ℕ) → given ≡ laidDown → lengthFault given laidDown ≡ None
-length-none given laidDown e = none-given (badLength given laidDown ∷ []) (length-passes given laidDown e, tt)
-
-pub high-none : {n : ℕ} (m : ℕ) (x : List ℕ) → IsOperand n m x → highFault m x ≡ None
-high-none m x o = none-given (highBit m x ∷ []) (operand-passes m x o, tt)
 
 module _ {m : ℕ} {x : List ℕ} (w : IsWidth m) (o : IsOperand carriedBytes m x) where
   pub operand-none : faultOf (operandCauses (carry m x)) ≡ None

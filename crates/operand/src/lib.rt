@@ -14,7 +14,6 @@ use judging::is_none;
 use judging::judge_width;
 
 mod bytes;
-mod fault;
 mod judge;
 mod quadratic;
 mod turn;
@@ -25,7 +24,6 @@ pub use bytes::sum_into;
 pub use bytes::trace_of;
 pub use bytes::turn_into;
 pub use bytes::zero_into;
-pub use fault::or_else;
 pub use judge::judge_operand;
 pub use judge::judge_pair;
 
