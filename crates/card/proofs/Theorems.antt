@@ -1,26 +1,27 @@
 -- The proofs of the statements in specs/Statements.antt.
 -- A refusal has a number. A card without fault has a table, and the calls answer as the statements say.
 use mathlib.Core.Path.{_≡_, refl, sym, ap, ap₂, _∙_}
-use mathlib.Core.List.{List, []}
+use mathlib.Core.List.{List, [], _∷_}
 use mathlib.Core.Bool.{true, false, true≢false}
 use Prim.Native.Nat.{ℕ, _*_, _≤_}
 use lib.ListN.{length, take}
 use lib.Seq.{take-at}
-use borrow.Author.Tests.{le-ltb}
 use Rattle.gf2.specs.Operands.{maxWidth, bytesFor}
 use Rattle.gf2.specs.Coordinates.{coord}
 use Rattle.gf2.specs.Tables.{row, IsTable}
 use Rattle.judging.specs.declared.fault.Fault.{Fault}
 use Rattle.judging.specs.declared.fault.Fault.the-variants.{None}
-use Rattle.operand.specs.Faults.{orElse, firstOf}
 use Rattle.judging.specs.Faults.{isNone}
+use Rattle.judging.specs.FaultTable.{tooShort, shapeCauses}
+use Rattle.judging.proofs.CauseLaws.{none-given, none-true}
+use Rattle.judging.proofs.Searches.{fine-append}
+use Rattle.judging.proofs.Passed.{room-passes}
 use Rattle.table.specs.Rows.{Shaped}
-use Rattle.table.specs.Judgements.{shapeFault}
-use Rattle.table.proofs.Shapes.{shape-none}
+use Rattle.table.proofs.Shapes.{shape-passes}
 use Rattle.card.specs.Numbers.{number, Read, refused, got}
 use Rattle.card.specs.Rows.{places, steps, rowCard, rowsCard}
 use Rattle.card.specs.Cards.{card, Table, readCard}
-use Rattle.card.specs.Calls.{inFront, readAnswer, readInto, readCall, writeFault, writeCall, writeCard}
+use Rattle.card.specs.Calls.{inFront, readAnswer, readInto, readCall, writeCauses, writeFault, writeCall, writeCard}
 use Rattle.card.specs.Statements.{Bytes, TableTrip, widthRead, tableRead, CardTrip, CardLaws, CardLengths, CarriedCards}
 use Rattle.card.proofs.Numbers.{read-written, written-read}
 use Rattle.card.proofs.Trips.{rows-placed, rows-read, rows-written, card-read, CardRead, card-written}
@@ -39,15 +40,14 @@ found room s e = go (readCard room s) refl e
   where
     go : (x : Read Table) → readCard room s ≡ x → readAnswer x .fault ≡ None → (t : Table) × (rest : List ℕ) × (readCard room s ≡ got t rest)
     go (refused f) q e =
-        let none : isNone f ≡ true = unfold isNone in ap isNone e in
-        absurd (true≢false (sym none ∙ card-blank room s f q))
+        absurd (true≢false (sym (none-true e) ∙ card-blank room s f q))
     go (got t rest) q e = (t, rest, q)
 
 -- what is written where the table has a shape and the output room
-module _ (m : ℕ) (table out : List ℕ) (shape : shapeFault m table ≡ None) (fits : length (card m table) ≤ length out) where
+module _ (m : ℕ) (table out : List ℕ) (shape : Shaped m table) (fits : length (card m table) ≤ length out) where
   write-none : writeFault m table (length out) ≡ None
-  unfolding writeFault firstOf orElse isNone
-  write-none = rw (shape, le-ltb (length out) (length (card m table)) fits)
+  write-none = none-given (writeCauses m table (length out))
+      (fine-append (shapeCauses m table) (tooShort (length out) (length (card m table)) ∷ []) (shape-passes shape) (room-passes (length out) (length (card m table)) fits, tt))
 
   write-answers : writeCall m table out ≡ (record { fault = None; value = length (card m table) })
   unfolding isNone
@@ -61,14 +61,13 @@ module _ (m : ℕ) (table out : List ℕ) (shape : shapeFault m table ≡ None) 
 card-trip : (s old : List ℕ) (t : Table) → CardRead (length old) s t → CardTrip s (t .width) (t .bytes)
 card-trip s old t r =
     let shaped : Shaped (t .width) (t .bytes) = record { least = r .lent .least; greatest = r .lent .greatest; isTable = r .isTable } in
-    let none = shape-none shaped in
     record {
       least = r .lent .least;
       greatest = r .lent .greatest;
       shape = r .isTable;
       isCard = sym (r .isCard);
-      answers = λ out h. write-answers (t .width) (t .bytes) out none (rw (r .isCard) at h) ∙ rw (← r .isCard);
-      writes = λ out h. write-writes (t .width) (t .bytes) out none (rw (r .isCard) at h) ∙ rw (← r .isCard);
+      answers = λ out h. write-answers (t .width) (t .bytes) out shaped (rw (r .isCard) at h) ∙ rw (← r .isCard);
+      writes = λ out h. write-writes (t .width) (t .bytes) out shaped (rw (r .isCard) at h) ∙ rw (← r .isCard);
     }
 
 front-of : (m : ℕ) (table old : List ℕ) → length table ≡ m * bytesFor m → take (m * bytesFor m) (inFront table old) ≡ table

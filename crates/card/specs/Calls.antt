@@ -2,13 +2,12 @@
 use mathlib.Core.List.{List, [], _∷_, _++_}
 use Prim.Native.Nat.{ℕ}
 use lib.ListN.{length, drop}
-use lib.Dec.{ltb}
 use Rattle.gf2.specs.Operands.{choose}
 use Rattle.judging.specs.declared.fault.Fault.{Fault}
-use Rattle.judging.specs.declared.fault.Fault.the-variants.{None, OutputShort}
-use Rattle.operand.specs.Faults.{when, firstOf}
+use Rattle.judging.specs.declared.fault.Fault.the-variants.{None}
 use Rattle.judging.specs.Faults.{isNone}
-use Rattle.table.specs.Judgements.{shapeFault}
+use Rattle.judging.specs.Causes.{Cause, faultOf}
+use Rattle.judging.specs.FaultTable.{tooShort, shapeCauses}
 use Rattle.card.specs.declared.CardAnswer.{CardAnswer}
 use Rattle.card.specs.Numbers.{Read, refused, got}
 use Rattle.card.specs.Cards.{card, Table, readCard}
@@ -39,8 +38,11 @@ abbrev pub readTable : List ℕ → List ℕ → List ℕ
 readTable s old = readInto (readCard (length old) s) old
 
 -- 1 to 3 of the table, then 11: "lent output shorter than needed"
-unfoldable pub writeFault : ℕ → List ℕ → ℕ → Fault
-writeFault m table room = firstOf (shapeFault m table ∷ when (ltb room (length (card m table))) OutputShort ∷ [])
+abbrev pub writeCauses : ℕ → List ℕ → ℕ → List Cause
+writeCauses m table room = shapeCauses m table ++ (tooShort room (length (card m table)) ∷ [])
+
+abbrev pub writeFault : ℕ → List ℕ → ℕ → Fault
+writeFault m table room = faultOf (writeCauses m table room)
 
 -- "Writing a card returns its length in bytes", where the lent output is `old`
 abbrev pub writeCall : ℕ → List ℕ → List ℕ → CardAnswer
