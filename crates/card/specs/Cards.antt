@@ -1,7 +1,7 @@
 -- The card of a table: how it is written, and what reading one finds.
 -- "Card" is document 01's word for the serialised form of a table.
 use mathlib.Core.List.{List, [], _∷_, _++_}
-use Prim.Native.Nat.{ℕ, _+_, _*_}
+use Prim.Native.Nat.{ℕ, _*_}
 use lib.Dec.{eqb}
 use Rattle.gf2.specs.Operands.{bytesFor, choose}
 use Rattle.judging.specs.declared.fault.Fault.{Fault}
@@ -15,10 +15,6 @@ use Rattle.card.specs.Rows.{rowsCard, readRows}
 -- "A card: form 1, m, then for each row .."
 unfoldable pub card : ℕ → List ℕ → List ℕ
 card m table = number 1 ++ (number m ++ rowsCard m table 0 m)
-
--- no card of width m is longer: the form takes one byte, m at most two, each row at most two for its number of ones and m for its places
-abbrev pub longest : ℕ → ℕ
-longest m = 3 + m * (m + 2)
 
 -- 1: "width not 2..255"; "11 following its width": "lent output shorter than needed", m·W bytes
 abbrev pub lentCauses : ℕ → ℕ → List Cause

@@ -32,15 +32,15 @@ use Rattle.judging.proofs.CauseLaws.{some, fine, head-holds, none-given, ends, 
 use Rattle.judging.proofs.Passed.{is-width, are-clear, room-passes}
 use Rattle.table.specs.Judgements.{shapeFault}
 use Rattle.table.proofs.Shapes.{clearRow}
 use Rattle.card.specs.declared.CardAnswer.{CardAnswer}
 use Rattle.card.specs.Numbers.{number}
 use Rattle.card.specs.Rows.{places, steps, onesOf, rowCard, rowsCard}
 use Rattle.card.specs.Cards.{card}
-use Rattle.card.specs.Calls.{writeFault, writeCall, writeCard}
-use Rattle.card.specs.Steps.{Put, InCard, limbOnes, Writable}
+use Rattle.card_writer.specs.Calls.{writeFault, writeCall, writeCard}
+use Rattle.card_writer.specs.Inner.{Put, InCard, limbOnes, Writable}
 use Rattle.card.proofs.Places.{places-zero, places-one}
-use Rattle.card.proofs.Lengths.{one-byte, two-bytes, card-most}
+use Rattle.card_writer.proofs.Lengths.{one-byte, two-bytes, card-most}
 use Rattle.card.proofs.Stores.{sets-append, sets-front}
 
 module _ (n at : ℕ) (out : List ℕ) where
   pub put-short : n < 128 → Put at (number n) (at + 1) out (set out at n)

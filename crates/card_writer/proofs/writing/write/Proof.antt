@@ -1,14 +1,14 @@
--- `card::writing::write` meets its contract.
+-- `card_writer::writing::write` meets its contract.
 use mathlib.Core.List.{[]}
 use borrow.Author.Tests.{not-true, not-false}
 use Rattle.judging.specs.FaultTable.{shapeCauses}
 use Rattle.judging.proofs.CauseLaws.{judged}
-use Rattle.card.specs.Steps.{Writable}
-use Rattle.card.proofs.WriteSteps.{shape-writable, wrote-shape, wrote-short, wrote-card}
+use Rattle.card_writer.specs.Inner.{Writable}
+use Rattle.card_writer.proofs.WriteSteps.{shape-writable, wrote-shape, wrote-short, wrote-card}
 use native.Mathlib.Omega.{arith}
 use borrow.Author.Needs.{needs}
-use Rattle.card.proofs.writing.write.Statement.{statement}
-use Rattle.card.proofs.writing.write.Tie as tie
+use Rattle.card_writer.proofs.writing.write.Statement.{statement}
+use Rattle.card_writer.proofs.writing.write.Tie as tie
 
 returns : tie.Need-returns
 returns c =
