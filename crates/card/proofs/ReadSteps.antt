@@ -13,9 +13,9 @@ use lib.ListN.{length, getD, take, drop, set, replicate, length-append, length-s
 use lib.Seq.{drop-cons, sets, take-all, take-append-le, getD-set-same, getD-set-other}
 use lib.Bits.{bitXor, xor-lt}
 use lib.Pow.{pow-mono}
-use lib.Dec.{eqb}
+use lib.Dec.{eqb, ltb}
 use borrow.Author.Tests.{lt-ltb, le-ltb, le-leb, lt-leb, eq-eqb, ne-eqb, eqb-true}
-use Rattle.gf2.specs.Sums.{every}
+use Rattle.gf2.specs.Sums.{sum, every}
 use Rattle.gf2.specs.Coordinates.{coord, value, tabulate, pack}
 use Rattle.gf2.specs.Operands.{maxWidth, bytesFor, carriedBytes, choose, below, fromCoords, zeroes}
 use Rattle.gf2.proofs.Sums.{every-at}
@@ -24,7 +24,6 @@ use Rattle.gf2.proofs.Operands.{below-in, below-out, length-from}
 use Rattle.judging.specs.declared.fault.Fault.{Fault}
 use Rattle.judging.specs.declared.fault.Fault.the-variants.{None, CardPlace, CardForm, CardTail}
 use Rattle.judging.specs.Faults.{isNone}
-use Rattle.operand.proofs.CallLaws.{zero-bytes}
 use Rattle.card.specs.declared.CardAnswer.{CardAnswer}
 use Rattle.card.specs.declared.reading.Step.{Step}
 use Rattle.card.specs.declared.reading.Step.the-variants.{Got, Refused}
@@ -32,7 +31,7 @@ use Rattle.card.specs.Numbers.{Read, refused, got, readNumber}
 use Rattle.card.specs.Rows.{after, readPlaces, readRow, isPlace, rowOf, readRows}
 use Rattle.card.specs.Cards.{lentFault, readWidth, readHead, ended, readCard}
 use Rattle.card.specs.Calls.{readCall, readTable, readAnswer, readInto}
-use Rattle.card.specs.Steps.{told, carriedPlaces, endOf, RowsRead}
+use Rattle.card.specs.Inner.{told, carriedPlaces, endOf, RowsRead}
 use Rattle.card.proofs.Numbers.{no-value}
 use Rattle.card.proofs.Places.{place-here, place-there}
 use Rattle.card.proofs.Stores.{sets-append, sets-front}
@@ -132,8 +131,15 @@ pub record PlacesTo (m : ℕ) (x : Read (List ℕ)) (s bytes : List ℕ) (free l
   pub stored : bytes ≡ fromCoords carriedBytes m (isPlace front)
 
 no-places : (m : ℕ) → replicate carriedBytes 0 ≡ fromCoords carriedBytes m (isPlace [])
-unfolding zeroes isPlace
-no-places m = zero-bytes m
+unfolding fromCoords pack tabulate value sum below isPlace
+no-places m = start ∙ pack-ext carriedBytes (λ i. 0) (below m (isPlace [])) (λ i l. zeros (ltb i m))
+  where
+    start : replicate carriedBytes 0 ≡ pack carriedBytes (λ i. 0)
+    start = refl
+
+    zeros : (b : Bool) → 0 % 2 ≡ choose b 0 0 % 2
+    zeros true = refl
+    zeros false = refl
 
 -- one more place, stored
 stored-place : (m : ℕ) (ps : List ℕ) (p : ℕ) → p < m → m ≤ maxWidth → isPlace ps p ≡ 0 →

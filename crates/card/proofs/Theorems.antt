@@ -1,30 +1,23 @@
 -- The proofs of the statements in specs/Statements.antt.
--- A refusal has a number. A card without fault has a table, and the calls answer as the statements say.
+-- A refusal has a number. A card without fault has a table, and the call answers as the statements say.
 use mathlib.Core.Path.{_≡_, refl, sym, ap, ap₂, _∙_}
 use mathlib.Core.List.{List, []}
-use mathlib.Core.Bool.{true, false, true≢false}
+use mathlib.Core.Bool.{false, true≢false}
 use Prim.Native.Nat.{ℕ, _*_, _≤_}
 use lib.ListN.{length, take}
 use lib.Seq.{take-at}
-use borrow.Author.Tests.{le-ltb}
 use Rattle.gf2.specs.Operands.{maxWidth, bytesFor}
-use Rattle.gf2.specs.Coordinates.{coord}
-use Rattle.gf2.specs.Tables.{row, IsTable}
+use Rattle.gf2.specs.Tables.{IsTable}
 use Rattle.judging.specs.declared.fault.Fault.{Fault}
 use Rattle.judging.specs.declared.fault.Fault.the-variants.{None}
-use Rattle.operand.specs.Faults.{orElse, firstOf}
 use Rattle.judging.specs.Faults.{isNone}
-use Rattle.table.specs.Rows.{Shaped}
-use Rattle.table.specs.Judgements.{shapeFault}
-use Rattle.table.proofs.Shapes.{shape-none}
-use Rattle.card.specs.Numbers.{number, Read, refused, got}
-use Rattle.card.specs.Rows.{places, steps, rowCard, rowsCard}
+use Rattle.judging.proofs.CauseLaws.{none-true}
+use Rattle.card.specs.Numbers.{Read, refused, got}
 use Rattle.card.specs.Cards.{card, Table, readCard}
-use Rattle.card.specs.Calls.{inFront, readAnswer, readInto, readCall, writeFault, writeCall, writeCard}
-use Rattle.card.specs.Statements.{Bytes, TableTrip, widthRead, tableRead, CardTrip, CardLaws, CardLengths, CarriedCards}
+use Rattle.card.specs.Calls.{inFront, readAnswer, readInto, readCall}
+use Rattle.card.specs.Statements.{Bytes, TableTrip, widthRead, tableRead, CardOf, CardLaws}
 use Rattle.card.proofs.Numbers.{read-written, written-read}
-use Rattle.card.proofs.Trips.{rows-placed, rows-read, rows-written, card-read, CardRead, card-written}
-use Rattle.card.proofs.Lengths.{card-le, ones-table, ones-longest}
+use Rattle.card.proofs.Trips.{rows-placed, rows-read, rows-written, card-read, card-written}
 use Rattle.card.proofs.Refusals.{card-refusals}
 
 -- a refusal has a number
@@ -39,55 +32,22 @@ found room s e = go (readCard room s) refl e
   where
     go : (x : Read Table) → readCard room s ≡ x → readAnswer x .fault ≡ None → (t : Table) × (rest : List ℕ) × (readCard room s ≡ got t rest)
     go (refused f) q e =
-        let none : isNone f ≡ true = unfold isNone in ap isNone e in
-        absurd (true≢false (sym none ∙ card-blank room s f q))
+        absurd (true≢false (sym (none-true e) ∙ card-blank room s f q))
     go (got t rest) q e = (t, rest, q)
-
--- what is written where the table has a shape and the output room
-module _ (m : ℕ) (table out : List ℕ) (shape : shapeFault m table ≡ None) (fits : length (card m table) ≤ length out) where
-  write-none : writeFault m table (length out) ≡ None
-  unfolding writeFault firstOf orElse isNone
-  write-none = rw (shape, le-ltb (length out) (length (card m table)) fits)
-
-  write-answers : writeCall m table out ≡ (record { fault = None; value = length (card m table) })
-  unfolding isNone
-  write-answers = rw write-none
-
-  write-writes : writeCard m table out ≡ inFront (card m table) out
-  unfolding isNone
-  write-writes = rw write-none
-
--- a card that was read, and the table that was read from it
-card-trip : (s old : List ℕ) (t : Table) → CardRead (length old) s t → CardTrip s (t .width) (t .bytes)
-card-trip s old t r =
-    let shaped : Shaped (t .width) (t .bytes) = record { least = r .lent .least; greatest = r .lent .greatest; isTable = r .isTable } in
-    let none = shape-none shaped in
-    record {
-      least = r .lent .least;
-      greatest = r .lent .greatest;
-      shape = r .isTable;
-      isCard = sym (r .isCard);
-      answers = λ out h. write-answers (t .width) (t .bytes) out none (rw (r .isCard) at h) ∙ rw (← r .isCard);
-      writes = λ out h. write-writes (t .width) (t .bytes) out none (rw (r .isCard) at h) ∙ rw (← r .isCard);
-    }
 
 front-of : (m : ℕ) (table old : List ℕ) → length table ≡ m * bytesFor m → take (m * bytesFor m) (inFront table old) ≡ table
 front-of m table old h = take-at table _ (m * bytesFor m) h
 
-same-trip : {s : List ℕ} {m n : ℕ} {table t : List ℕ} → m ≡ n → table ≡ t → CardTrip s n t → CardTrip s m table
-same-trip e q r = rw (e, q) r
+same-card : {s : List ℕ} {m n : ℕ} {table t : List ℕ} → m ≡ n → table ≡ t → CardOf s n t → CardOf s m table
+same-card e q c = rw (e, q) c
 
-cards-of : (s old : List ℕ) (t : Table) (rest : List ℕ) → Bytes s → readCard (length old) s ≡ got t rest → CardTrip s (widthRead s old) (tableRead s old)
-cards-of s old t rest small q =
+cards : (s old : List ℕ) → Bytes s → readCall s old .fault ≡ None → CardOf s (widthRead s old) (tableRead s old)
+cards s old small e =
+    let (t, rest, q) = found (length old) s e in
     let r = card-written (length old) s t rest small q in
     let w : widthRead s old ≡ t .width = ap (λ x. readAnswer x .value) q in
     let b : tableRead s old ≡ t .bytes = ap₂ (λ k x. take (k * bytesFor k) x) w (ap (λ x. readInto x old) q) ∙ front-of (t .width) (t .bytes) old (r .isTable .size) in
-    same-trip w b (card-trip s old t r)
-
-cards : (s old : List ℕ) → Bytes s → readCall s old .fault ≡ None → CardTrip s (widthRead s old) (tableRead s old)
-cards s old small e =
-    let (t, rest, q) = found (length old) s e in
-    cards-of s old t rest small q
+    same-card w b (record { least = r .lent .least; greatest = r .lent .greatest; shape = r .isTable; isCard = sym (r .isCard) })
 
 tables : (m : ℕ) (table : List ℕ) → 2 ≤ m → m ≤ maxWidth → IsTable m table → TableTrip m table
 tables m table least greatest t = record {
@@ -114,10 +74,3 @@ card-laws = record {
   tables = tables;
   cards = cards;
 }
-
-pub card-lengths : CardLengths
-card-lengths = record { most = card-le; isTable = ones-table; reached = ones-longest }
-
-pub carried-cards : CarriedCards
-unfolding card number rowsCard rowCard places steps row coord
-carried-cards = record { width2 = refl; width3 = refl; width4 = refl; width5 = refl }

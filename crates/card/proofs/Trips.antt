@@ -2,31 +2,27 @@
 -- Ranges: the bytes of a range of rows, row by row, and stored at their own place.
 -- Rows: a range written is read as it was; a range read is written as it was, and its rows are operands.
 -- Cards: a table's card is read as the table; a card read is the card of its table.
-use mathlib.Core.Path.{_≡_, refl, sym, ap, _∙_}
+use mathlib.Core.Path.{_≡_, sym, ap, _∙_}
 use mathlib.Core.List.{List, [], _∷_, _++_, append-assoc, append-nil}
-use mathlib.Core.Bool.{Bool, true, false, true≢false}
+use mathlib.Core.Bool.{true}
 use Prim.Native.Nat.{ℕ, zero, suc, _+_, _-_, _*_, _<_, _≤_}
 use native.Mathlib.Nat.{zero-mul, suc-mul, add-mul, mul-le-mul-right}
 use native.Mathlib.Numerals.{add-one}
 use native.Mathlib.Omega.{arith}
 use lib.ListN.{length, take, drop, length-append, length-drop, take-append-drop}
 use lib.Seq.{sets, sets-eq, take-add, take-all, take-take, take-at, take-append-le, length-take-le, drop-at, drop-drop, drop-append-add, drop-append-le}
-use lib.Dec.{ltb, eqb}
-use borrow.Author.Tests.{lt-ltb, le-ltb, ltb-false, eqb-true}
+use lib.Dec.{eqb}
+use borrow.Author.Tests.{eqb-true}
 use Rattle.gf2.specs.Operands.{maxWidth, bytesFor, IsOperand, choose}
 use Rattle.gf2.specs.Tables.{row, IsTable}
 use Rattle.gf2.proofs.Operands.{from-operand, length-from}
-use Rattle.judging.specs.declared.fault.Fault.{Fault}
-use Rattle.judging.specs.declared.fault.Fault.the-variants.{None, OutputShort, CardForm}
-use Rattle.operand.specs.Faults.{when}
+use Rattle.judging.specs.declared.fault.Fault.the-variants.{CardForm}
 use Rattle.judging.specs.Faults.{isNone}
-use Rattle.operand.specs.Judgements.{widthFault}
-use Rattle.operand.proofs.FaultLaws.{width-fine, two-fine, two-first, two-second}
-use Rattle.operand.proofs.FaultFree.{width-none}
-use Rattle.judging.proofs.Passed.{IsWidth}
+use Rattle.judging.proofs.CauseLaws.{fine, none-true, none-given}
+use Rattle.judging.proofs.Passed.{is-width, width-passes, has-room, room-passes}
 use Rattle.card.specs.Numbers.{number, Read, refused, got, readNumber}
 use Rattle.card.specs.Rows.{rowsCard, rowRange, after, readRow, rowOf, isPlace, readRows}
-use Rattle.card.specs.Cards.{card, lentFault, readWidth, readHead, Table, ended, readCard}
+use Rattle.card.specs.Cards.{card, lentCauses, lentFault, readWidth, readHead, Table, ended, readCard}
 use Rattle.card.specs.Statements.{Bytes}
 use Rattle.card.proofs.Numbers.{no-value, parts, passed, read-written, written-read}
 use Rattle.card.proofs.Places.{row-of-ones, row-read, after-got, row-written}
@@ -177,25 +173,6 @@ rows-table m (suc count) s t rest e =
     each ps w size more zero l = rw (row-first m (rowOf m ps) w size) (from-operand (bytesFor m) m (isPlace ps))
     each ps w size more (suc d) l = rw (row-next m (rowOf m ps) w d size) (more .rows d (omega arith))
 
--- the fault of a width and a lent table
-module _ (room m : ℕ) where
-  pub lent-width : {f : Fault} → f ≡ widthFault m → isNone (widthFault m) ≡ false → f ≡ lentFault room m
-  unfolding lentFault
-  lent-width e n = e ∙ sym (two-first (widthFault m) (when (ltb room (m * bytesFor m)) OutputShort) n)
-
-  pub lent-short : isNone (widthFault m) ≡ true → room < m * bytesFor m → OutputShort ≡ lentFault room m
-  unfolding lentFault
-  lent-short n h = sym (two-second (widthFault m) (when (ltb room (m * bytesFor m)) OutputShort) n ∙ rw (lt-ltb room (m * bytesFor m) h))
-
-  pub lent-room : isNone (widthFault m) ≡ true → m * bytesFor m ≤ room → None ≡ lentFault room m
-  unfolding lentFault
-  lent-room n h = sym (two-second (widthFault m) (when (ltb room (m * bytesFor m)) OutputShort) n ∙ rw (le-ltb room (m * bytesFor m) h))
-
-short-fine : (b : Bool) → isNone (when b OutputShort) ≡ true → b ≡ false
-unfolding isNone
-short-fine true e = absurd (true≢false (sym e))
-short-fine false e = refl
-
 -- a width for which the lent table has room
 pub record Lent (room m : ℕ) : Type 0 where
   pub least : 2 ≤ m
@@ -203,17 +180,14 @@ pub record Lent (room m : ℕ) : Type 0 where
   pub fits : m * bytesFor m ≤ room
 
 pub lent-fine : (room m : ℕ) → isNone (lentFault room m) ≡ true → Lent room m
-unfolding lentFault
 lent-fine room m e =
-    let q = two-fine _ _ e in
-    let w = width-fine m (q .0) in
-    record { least = w .0; greatest = w .1; fits = ltb-false room (m * bytesFor m) (short-fine _ (q .1)) }
+    let p = fine (lentCauses room m) e in
+    let w = is-width m (p .0) in
+    record { least = w .least; greatest = w .greatest; fits = has-room _ _ (p .1 .0) }
 
 pub lent-none : {room m : ℕ} → Lent room m → isNone (lentFault room m) ≡ true
-unfolding lentFault isNone
 lent-none {room} {m} l =
-    let w : IsWidth m = record { least = l .least; greatest = l .greatest } in
-    ap isNone (two-second (widthFault m) (when (ltb room (m * bytesFor m)) OutputShort) (ap isNone (width-none m w))) ∙ rw (le-ltb room (m * bytesFor m) (l .fits))
+    none-true (none-given (lentCauses room m) (width-passes m (record { least = l .least; greatest = l .greatest }), (room-passes room (m * bytesFor m) (l .fits), tt)))
 
 pub card-read : (room m : ℕ) (table : List ℕ) → Lent room m → IsTable m table → readCard room (card m table) ≡ got (record { width = m; bytes = table }) []
 unfolding readCard readHead readWidth card

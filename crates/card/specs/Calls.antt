@@ -1,21 +1,11 @@
--- What each call on cards answers, for every input, and the buffer that it leaves.
-use mathlib.Core.List.{List, [], _∷_, _++_}
+-- What reading a card answers, for every input, and the buffer that it leaves.
+use mathlib.Core.List.{List, _++_}
 use Prim.Native.Nat.{ℕ}
 use lib.ListN.{length, drop}
-use lib.Dec.{ltb}
-use Rattle.gf2.specs.Operands.{choose}
-use Rattle.judging.specs.declared.fault.Fault.{Fault}
-use Rattle.judging.specs.declared.fault.Fault.the-variants.{None, OutputShort}
-use Rattle.operand.specs.Faults.{when, firstOf}
-use Rattle.judging.specs.Faults.{isNone}
-use Rattle.table.specs.Judgements.{shapeFault}
+use Rattle.judging.specs.declared.fault.Fault.the-variants.{None}
 use Rattle.card.specs.declared.CardAnswer.{CardAnswer}
 use Rattle.card.specs.Numbers.{Read, refused, got}
-use Rattle.card.specs.Cards.{card, Table, readCard}
-
--- a fault beside 0, or none and a value
-abbrev pub answer : Fault → ℕ → CardAnswer
-answer f value = record { fault = f; value = choose (isNone f) value 0 }
+use Rattle.card.specs.Cards.{Table, readCard}
 
 -- bytes at the front of a lent buffer: "bytes after a written card or a read table, stay"
 abbrev pub inFront : List ℕ → List ℕ → List ℕ
@@ -37,14 +27,3 @@ readCall s old = readAnswer (readCard (length old) s)
 
 abbrev pub readTable : List ℕ → List ℕ → List ℕ
 readTable s old = readInto (readCard (length old) s) old
-
--- 1 to 3 of the table, then 11: "lent output shorter than needed"
-unfoldable pub writeFault : ℕ → List ℕ → ℕ → Fault
-writeFault m table room = firstOf (shapeFault m table ∷ when (ltb room (length (card m table))) OutputShort ∷ [])
-
--- "Writing a card returns its length in bytes", where the lent output is `old`
-abbrev pub writeCall : ℕ → List ℕ → List ℕ → CardAnswer
-writeCall m table old = answer (writeFault m table (length old)) (length (card m table))
-
-abbrev pub writeCard : ℕ → List ℕ → List ℕ → List ℕ
-writeCard m table old = choose (isNone (writeFault m table (length old))) (inFront (card m table) old) old

@@ -1,14 +1,14 @@
 -- The card of a table: how it is written, and what reading one finds.
 -- "Card" is document 01's word for the serialised form of a table.
 use mathlib.Core.List.{List, [], _∷_, _++_}
-use Prim.Native.Nat.{ℕ, _+_, _*_}
-use lib.Dec.{ltb, eqb}
+use Prim.Native.Nat.{ℕ, _*_}
+use lib.Dec.{eqb}
 use Rattle.gf2.specs.Operands.{bytesFor, choose}
 use Rattle.judging.specs.declared.fault.Fault.{Fault}
-use Rattle.judging.specs.declared.fault.Fault.the-variants.{OutputShort, CardForm, CardTail}
-use Rattle.operand.specs.Faults.{when, firstOf}
+use Rattle.judging.specs.declared.fault.Fault.the-variants.{CardForm, CardTail}
 use Rattle.judging.specs.Faults.{isNone}
-use Rattle.operand.specs.Judgements.{widthFault}
+use Rattle.judging.specs.Causes.{Cause, faultOf}
+use Rattle.judging.specs.FaultTable.{badWidth, tooShort}
 use Rattle.card.specs.Numbers.{number, Read, refused, got, andThen, readNumber}
 use Rattle.card.specs.Rows.{rowsCard, readRows}
 
@@ -16,13 +16,12 @@ use Rattle.card.specs.Rows.{rowsCard, readRows}
 unfoldable pub card : ℕ → List ℕ → List ℕ
 card m table = number 1 ++ (number m ++ rowsCard m table 0 m)
 
--- no card of width m is longer: the form takes one byte, m at most two, each row at most two for its number of ones and m for its places
-abbrev pub longest : ℕ → ℕ
-longest m = 3 + m * (m + 2)
-
 -- 1: "width not 2..255"; "11 following its width": "lent output shorter than needed", m·W bytes
-unfoldable pub lentFault : ℕ → ℕ → Fault
-lentFault room m = firstOf (widthFault m ∷ when (ltb room (m * bytesFor m)) OutputShort ∷ [])
+abbrev pub lentCauses : ℕ → ℕ → List Cause
+lentCauses room m = badWidth m ∷ tooShort room (m * bytesFor m) ∷ []
+
+abbrev pub lentFault : ℕ → ℕ → Fault
+lentFault room m = faultOf (lentCauses room m)
 
 -- the width, for a lent table of `room` bytes
 unfoldable pub readWidth : ℕ → List ℕ → Read ℕ

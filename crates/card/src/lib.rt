@@ -1,12 +1,11 @@
-// Cards, the serialised form of a table that document 01 lays down: reading one, and writing a table's.
+// Cards, the serialised form of a table that document 01 lays down: reading one.
 use judging::Fault;
 
 mod reading;
 mod store;
-mod writing;
 
 pub use reading::read;
-pub use writing::write;
+pub use store::put;
 
 // A fault beside 0, or none and a width or a length.
 pub struct CardAnswer {

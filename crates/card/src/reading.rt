@@ -7,11 +7,10 @@ ghost use Rattle.card.specs.Numbers.{readNumber};
 ghost use Rattle.card.specs.Rows.{readPlaces, readRow};
 ghost use Rattle.card.specs.Cards.{lentFault, readWidth, readHead};
 ghost use Rattle.card.specs.Calls.{readCall, readTable};
-ghost use Rattle.card.specs.Steps.{told, toldRow, carriedPlaces, RowsRead};
+ghost use Rattle.card.specs.Inner.{told, toldRow, carriedPlaces, RowsRead};
 use crate::CardAnswer;
 use crate::store;
 use judging::Fault;
-use operand::Operand;
 
 // A value and the place after it, or a fault.
 pub(crate) enum Step {
@@ -21,7 +20,7 @@ pub(crate) enum Step {
 
 // A row, and where it ends.
 pub(crate) struct Row {
-    pub bytes: [u8; Operand::BYTES],
+    pub bytes: [u8; limbs::BYTES],
     pub end: Step,
 }
 
@@ -55,7 +54,7 @@ fn places_at(card: &[u8], at: usize, width: usize, count: usize) -> Row
     requires { ⌜ width ≤ maxWidth ⌝ }
     ensures { λ r. ⌜ toldRow (now (card .entry)) r ≡ carriedPlaces width (readPlaces width 0 count (drop at (now (card .entry)))) ⌝ }
 {
-    let mut bytes = [0u8; Operand::BYTES];
+    let mut bytes = [0u8; limbs::BYTES];
     let mut next = at;
     let mut free = 0;
     let mut left = count;
@@ -94,14 +93,14 @@ fn row_at(card: &[u8], at: usize, width: usize) -> Row
 {
     match number_at(card, at) {
         Step::Refused(f) => Row {
-            bytes: [0u8; Operand::BYTES],
+            bytes: [0u8; limbs::BYTES],
             end: Step::Refused(f),
         },
         Step::Got(count, then) => if count <= width {
             places_at(card, then, width, count)
         } else {
             Row {
-                bytes: [0u8; Operand::BYTES],
+                bytes: [0u8; limbs::BYTES],
                 end: Step::Refused(Fault::CardPlace),
             }
         },

@@ -11,7 +11,7 @@ use lib.Bits.{bitXor}
 use lib.Dec.{eqb, ltb}
 use borrow.Author.Tests.{eq-eqb, ne-eqb, lt-ltb, le-ltb}
 use Rattle.gf2.specs.Operands.{bytesFor, choose}
-use Rattle.gaussian.specs.Drawing.{HasRow, inRow, Adds}
+use Rattle.gaussian.specs.Inner.{HasRow, inRow, Adds}
 use Rattle.gaussian.proofs.RowLaws.{rows-ext, shifted, flip-rows}
 
 -- one coordinate, as the code adds it

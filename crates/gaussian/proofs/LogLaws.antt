@@ -13,7 +13,7 @@ use borrow.Author.Tests.{eq-eqb, ne-eqb}
 use Rattle.gf2.specs.Operands.{choose}
 use Rattle.gaussian.specs.Types.{modulus}
 use Rattle.gaussian.specs.Table.{gives}
-use Rattle.gaussian.specs.Drawing.{residues, Residue, Drawable, Logarithms}
+use Rattle.gaussian.specs.Inner.{residues, Residue, Drawable, Logarithms}
 use Rattle.gaussian.proofs.Modulo.{mul-cong}
 use Rattle.gaussian.proofs.Cosets.{power-one, coset-in, coset-out}
 use Rattle.gaussian.proofs.ResidueLaws.{residue, residue-mod}

@@ -1,7 +1,7 @@
 -- Remainders of products and powers, and the order of a number modulo another.
 use mathlib.Core.Path.{_≡_, sym, ap, ap₂, _∙_, subst}
 use mathlib.Core.Logic.{_≢_, _⊎_, inl, inr}
-use Prim.Native.Nat.{ℕ, zero, suc, _+_, _*_, _/_, _%_, _^_, _≤_, _<_, zero-le, suc-le-suc}
+use Prim.Native.Nat.{ℕ, zero, suc, _*_, _/_, _%_, _^_, _≤_, _<_, zero-le, suc-le-suc}
 use native.Mathlib.Nat.{mul-zero, mul-suc, mul-comm, mul-one, mod-add-div, mod-eq-of-lt, mod-lt, pow-zero, pow-suc, mul-mul-mul-comm, eq-zero-or-pos, eq-or-lt-of-le, le-of-suc-le-suc, le-trans, not-suc-le-zero}
 use native.Mathlib.Decide.{ℕ-discrete}
 use native.Mathlib.Omega.{arith}

@@ -6,7 +6,7 @@ use native.Mathlib.Omega.{arith}
 use lib.Pow.{pow-add}
 use Rattle.gf2.specs.Operands.{maxWidth}
 use Rattle.gaussian.specs.Types.{modulus, maxType}
-use Rattle.gaussian.specs.Drawing.{residues, Residue, Drawable}
+use Rattle.gaussian.specs.Inner.{residues, Residue, Drawable}
 use Rattle.gaussian.proofs.Modulo.{mul-cong, mul-pow, pow-cong}
 use Rattle.gaussian.proofs.Cosets.{at-least}
 

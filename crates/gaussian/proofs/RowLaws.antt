@@ -19,7 +19,7 @@ use Rattle.gf2.proofs.Sums.{every-at}
 use Rattle.gf2.proofs.Coordinates.{xor-bit, pack-of}
 use Rattle.gf2.proofs.Operands.{coord-from, coord-from-out, length-from, from-operand, from-eq, from-ext}
 use Rattle.gaussian.specs.Table.{rowsOf}
-use Rattle.gaussian.specs.Drawing.{inRow}
+use Rattle.gaussian.specs.Inner.{inRow}
 
 pub length-rows : (m n : ℕ) (f : ℕ → ℕ → ℕ) → length (rowsOf m n f) ≡ n * bytesFor m
 unfolding rowsOf

@@ -11,7 +11,7 @@ use Rattle.gf2.specs.Coordinates.{tabulate}
 use Rattle.gf2.specs.Operands.{bytesFor}
 use Rattle.gaussian.specs.Types.{modulus}
 use Rattle.gaussian.specs.Table.{inK, gives, term, rowCoord, rowsOf, drawn}
-use Rattle.gaussian.specs.Drawing.{Residue, inRow, Adds}
+use Rattle.gaussian.specs.Inner.{Residue, inRow, Adds}
 use Rattle.gf2.proofs.Remainders.{mul-mod-left}
 use Rattle.gaussian.proofs.ResidueLaws.{residue-mod}
 use Rattle.gaussian.proofs.RowLaws.{zero-rows}

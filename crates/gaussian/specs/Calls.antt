@@ -1,21 +1,15 @@
 -- What each call answers, for every input.
-use mathlib.Core.List.{List, [], _∷_}
-use Prim.Native.Nat.{ℕ, _*_}
-use lib.Dec.{eqb}
+use mathlib.Core.List.{List}
+use Prim.Native.Nat.{ℕ}
 use lib.ListN.{length}
-use Rattle.gf2.specs.Operands.{bytesFor, choose}
+use Rattle.gf2.specs.Operands.{choose}
 use Rattle.judging.specs.declared.fault.Fault.{Fault}
-use Rattle.judging.specs.declared.fault.Fault.the-variants.{NoType}
-use Rattle.operand.specs.Faults.{when, firstOf}
 use Rattle.judging.specs.Faults.{isNone}
-use Rattle.operand.specs.Judgements.{widthFault, lengthFault}
+use Rattle.judging.specs.Causes.{faultOf}
 use Rattle.gaussian.specs.declared.TypeAnswer.{TypeAnswer}
 use Rattle.gaussian.specs.Types.{typeOf}
 use Rattle.gaussian.specs.Table.{drawn}
-
--- 17: "type 0"
-unfoldable pub typeFault : ℕ → Fault
-typeFault m = when (eqb (typeOf m) 0) NoType
+use Rattle.gaussian.specs.Causes.{typeCauses, drawCauses}
 
 -- a fault with no type, or no fault and the type of m
 unfoldable pub answer : Fault → ℕ → TypeAnswer
@@ -23,11 +17,11 @@ answer f m = record { fault = f; t = choose (isNone f) (typeOf m) 0 }
 
 -- "A fixed list holds the type of each width 2 to 255"
 abbrev pub typeCall : ℕ → TypeAnswer
-typeCall m = answer (firstOf (widthFault m ∷ typeFault m ∷ [])) m
+typeCall m = answer (faultOf (typeCauses m)) m
 
--- drawing into a buffer of this length: "A drawn table is a result", so a length that isn't m·W is 2
-unfoldable pub drawFault : ℕ → ℕ → Fault
-drawFault m size = firstOf (widthFault m ∷ lengthFault size (m * bytesFor m) ∷ typeFault m ∷ [])
+-- the fault of drawing into a buffer of this length
+abbrev pub drawFault : ℕ → ℕ → Fault
+drawFault m size = faultOf (drawCauses m size)
 
 -- "drawing a table returns its type T"
 abbrev pub drawCall : ℕ → ℕ → TypeAnswer

@@ -1,11 +1,13 @@
--- The definitions that the contracts of this crate cite.
+-- The definitions that the contracts of this crate cite. Inner is for inner functions alone; the others are believed.
 -- Types: types of Gaussian normal bases, and the fixed list of the type of each width.
 -- Table: the table of a width and a type.
--- Drawing: what the inner functions of drawing state.
+-- Causes: what the calls judge.
 -- Calls: what each call answers, for every input.
+-- Inner: residues, logarithms and tables that are drawn. No demand cites it.
 -- Statements: what is proved of the list and of drawn tables; the proofs are proofs/Theorems.antt.
 pub mod Types
 pub mod Table
-pub mod Drawing
+pub mod Causes
 pub mod Calls
+pub mod Inner
 pub mod Statements

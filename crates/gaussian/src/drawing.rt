@@ -7,7 +7,7 @@ ghost use Rattle.gf2.specs.Coordinates.{tabulate};
 ghost use Rattle.gf2.specs.Operands.{choose};
 ghost use Rattle.gaussian.specs.Types.{modulus};
 ghost use Rattle.gaussian.specs.Table.{gives, term, drawn};
-ghost use Rattle.gaussian.specs.Drawing.{Residue, Drawable, Logarithms, HasRow, inRow, Adds};
+ghost use Rattle.gaussian.specs.Inner.{Residue, Drawable, Logarithms, HasRow, inRow, Adds};
 use crate::residues;
 
 // One is added to coordinate s of row d.

@@ -1,7 +1,12 @@
 // Gaussian normal bases: the type of each width, and the table of a width's type.
 ghost use mathlib.Core.Path.{_≡_};
+ghost use mathlib.Core.List.{[], _∷_};
+ghost use Prim.Native.Nat.{_≤_};
 ghost use lib.ListN.{length};
-ghost use Rattle.gaussian.specs.Calls.{typeCall, drawCall, drawnInto};
+ghost use Rattle.gf2.specs.Operands.{maxWidth};
+ghost use Rattle.judging.specs.Causes.{faultOf};
+ghost use Rattle.gaussian.specs.Causes.{typeZero};
+ghost use Rattle.gaussian.specs.Calls.{answer, typeCall, drawCall, drawnInto};
 use judging::Fault;
 
 mod drawing;
@@ -14,16 +19,11 @@ pub struct TypeAnswer {
     pub t: usize,
 }
 
-pub fn type_of(width: usize) -> TypeAnswer
-    ensures { λ r. ⌜ r ≡ typeCall width ⌝ }
+// The type of a width, or 17.
+fn listed_type(width: usize) -> TypeAnswer
+    requires { ⌜ (2 ≤ width) × (width ≤ maxWidth) ⌝ }
+    ensures { λ r. ⌜ r ≡ answer (faultOf (typeZero width ∷ [])) width ⌝ }
 {
-    let judged = judging::judge_width(width);
-    if !judging::is_none(judged) {
-        return TypeAnswer {
-            fault: judged,
-            t: 0,
-        };
-    }
     let t = types::listed(width);
     if t == 0 {
         return TypeAnswer {
@@ -37,22 +37,25 @@ pub fn type_of(width: usize) -> TypeAnswer
     }
 }
 
-// The fault of a width, of a buffer's length and of a type, and the type.
+pub fn type_of(width: usize) -> TypeAnswer
+    ensures { λ r. ⌜ r ≡ typeCall width ⌝ }
+{
+    let first = judging::judge_width(width);
+    if !judging::is_none(first) {
+        return TypeAnswer { fault: first, t: 0 };
+    }
+    listed_type(width)
+}
+
+// What drawing judges, and the type.
 fn judge_draw(width: usize, size: usize) -> TypeAnswer
     ensures { λ r. ⌜ r ≡ drawCall width size ⌝ }
 {
-    let judged = judging::judge_width(width);
-    if !judging::is_none(judged) {
-        return TypeAnswer {
-            fault: judged,
-            t: 0,
-        };
+    let first = judging::judge_table_size(width, size);
+    if !judging::is_none(first) {
+        return TypeAnswer { fault: first, t: 0 };
     }
-    let room = judging::judge_length(size, width * limbs::bytes_for(width));
-    if !judging::is_none(room) {
-        return TypeAnswer { fault: room, t: 0 };
-    }
-    type_of(width)
+    listed_type(width)
 }
 
 // The table of a width's type, and the type.

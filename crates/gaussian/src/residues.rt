@@ -3,12 +3,11 @@ ghost use mathlib.Core.Path.{_≡_};
 ghost use Prim.Native.Nat.{_*_, _%_, _^_};
 ghost use lib.ListN.{getD};
 ghost use Rattle.gaussian.specs.Types.{modulus};
-ghost use Rattle.gaussian.specs.Drawing.{Residue, Drawable, Logarithms};
+ghost use Rattle.gaussian.specs.Inner.{Residue, Drawable, Logarithms};
 use crate::types;
-use operand::Operand;
 
 // No modulus of a listed type reaches this number.
-const RESIDUES: usize = types::MAX_TYPE * Operand::MAX_WIDTH + 2;
+const RESIDUES: usize = types::MAX_TYPE * limbs::MAX_WIDTH + 2;
 
 pub(crate) fn modulus(m: usize, t: usize) -> u64
     requires { ⌜ Drawable m t ⌝ }

@@ -3,10 +3,9 @@ ghost use mathlib.Core.Path.{_≡_};
 ghost use Prim.Native.Nat.{_≤_};
 ghost use Rattle.gf2.specs.Operands.{maxWidth};
 ghost use Rattle.gaussian.specs.Types.{typeOf};
-use operand::Operand;
 
 // Widths 2 to the greatest.
-const LISTED: usize = Operand::MAX_WIDTH - 1;
+const LISTED: usize = limbs::MAX_WIDTH - 1;
 
 // The greatest type of the list.
 pub(crate) const MAX_TYPE: usize = 25;

@@ -1,11 +1,13 @@
 -- `gaussian::draw` meets its contract.
 use mathlib.Core.Path.{_≡_, ap, _∙_}
 use mathlib.Core.Bool.{true}
+use mathlib.Core.List.{[]}
 use native.Mathlib.Omega.{arith}
 use lib.ListN.{length}
 use Rattle.judging.specs.Faults.{isNone}
-use Rattle.operand.proofs.FaultLaws.{judged}
+use Rattle.judging.proofs.CauseLaws.{judged}
 use Rattle.gaussian.specs.Table.{drawn}
+use Rattle.gaussian.specs.Causes.{drawCauses}
 use Rattle.gaussian.specs.Calls.{drawFault}
 use Rattle.gaussian.proofs.Answers.{draw-fine, drawable, fault-drawn, type-drawn}
 use borrow.Author.Needs.{needs}
@@ -14,7 +16,7 @@ use Rattle.gaussian.proofs.draw.Tie as tie
 
 -- nothing is refused
 fine : (c : tie.Then1) → let a = c .before .before .before .before .args in isNone (drawFault (a .width) (length (a .table .now))) ≡ true
-fine c = judged (fault-drawn _ _ (c .before .before .judge-draw .ensures)) (c .before .is-none .ensures) (c .if1 .taken)
+fine c = judged (drawCauses _ _) [] (fault-drawn _ _ (c .before .before .judge-draw .ensures)) (c .before .is-none .ensures) (c .if1 .taken)
 
 fill-requires : tie.Need-fill-requires
 fill-requires c κs =
@@ -33,7 +35,7 @@ returns c =
 returns-2 : tie.Need-returns-2
 returns-2 c =
     let s = c .before .before in
-    (s .judge-draw .ensures, rw (judged (fault-drawn _ _ (s .judge-draw .ensures)) (c .before .is-none .ensures) (c .if1 .left)))
+    (s .judge-draw .ensures, rw (judged (drawCauses _ _) [] (fault-drawn _ _ (s .judge-draw .ensures)) (c .before .is-none .ensures) (c .if1 .left)))
 
 pub draw-spec : {M : Type 1} → statement M
 draw-spec =

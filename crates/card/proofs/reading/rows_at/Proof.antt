@@ -2,7 +2,7 @@
 use mathlib.Core.Path.{sym, ap, _∙_}
 use native.Mathlib.Omega.{arith}
 use lib.ListN.{drop}
-use Rattle.card.specs.Steps.{toldBytes}
+use Rattle.card.specs.Inner.{toldBytes}
 use Rattle.card.proofs.ReadSteps.{carried-got, carried-refused, RowsTo, row-place, rows-none, rows-refused, rows-more, rows-done}
 use borrow.Author.Needs.{needs}
 use Rattle.card.proofs.reading.rows_at.Statement.{statement}

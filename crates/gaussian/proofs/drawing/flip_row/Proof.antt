@@ -7,7 +7,7 @@ use lib.Dec.{ltb, eqb}
 use native.Mathlib.Nat.{lt-of-lt-of-le}
 use borrow.Author.Tests.{lt-ltb, le-ltb}
 use Rattle.gf2.specs.Operands.{choose}
-use Rattle.gaussian.specs.Drawing.{inRow, Adds}
+use Rattle.gaussian.specs.Inner.{inRow, Adds}
 use Rattle.gaussian.proofs.AddLaws.{row-none, row-more, row-same, up-to, has-row}
 use borrow.Author.Needs.{needs}
 use Rattle.gaussian.proofs.drawing.flip_row.Statement.{statement}

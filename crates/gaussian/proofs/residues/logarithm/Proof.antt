@@ -3,7 +3,7 @@ use mathlib.Core.Path.{ap}
 use native.Mathlib.Omega.{arith}
 use lib.ListN.{getD}
 use Rattle.gaussian.specs.Types.{modulus}
-use Rattle.gaussian.specs.Drawing.{Residue}
+use Rattle.gaussian.specs.Inner.{Residue}
 use Rattle.gaussian.proofs.ResidueLaws.{residue-of}
 use Rattle.gaussian.proofs.residues.logarithm.Statement.{statement}
 use Rattle.gaussian.proofs.residues.logarithm.Tie as tie

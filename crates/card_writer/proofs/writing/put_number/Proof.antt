@@ -1,11 +1,11 @@
--- `card::writing::put_number` meets its contract.
+-- `card_writer::writing::put_number` meets its contract.
 use mathlib.Core.Path.{ap, _∙_}
 use Prim.Native.Nat.{_+_, _/_}
 use lib.ListN.{set}
-use Rattle.card.proofs.WriteSteps.{put-short, put-long, put-into}
+use Rattle.card_writer.proofs.WriteSteps.{put-short, put-long, put-into}
 use borrow.Author.Needs.{needs}
-use Rattle.card.proofs.writing.put_number.Statement.{statement}
-use Rattle.card.proofs.writing.put_number.Tie as tie
+use Rattle.card_writer.proofs.writing.put_number.Statement.{statement}
+use Rattle.card_writer.proofs.writing.put_number.Tie as tie
 
 returns : tie.Need-returns
 returns c =

@@ -1,4 +1,4 @@
--- What the inner functions of drawing state of residues, logarithms and tables.
+-- Inner definitions, which no contract of a public function cites: what drawing states of residues, logarithms and tables.
 use mathlib.Core.Path.{_≡_}
 use mathlib.Core.List.{List}
 use Prim.Native.Nat.{ℕ, _+_, _*_, _%_, _^_, _<_, _≤_}

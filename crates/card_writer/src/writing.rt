@@ -4,13 +4,12 @@ ghost use Prim.Native.Nat.{_+_, _<_, _≤_};
 ghost use lib.ListN.{length};
 ghost use Rattle.gf2.specs.Operands.{maxWidth};
 ghost use Rattle.gf2.specs.Tables.{row};
 ghost use Rattle.card.specs.Numbers.{number, numberLimit};
 ghost use Rattle.card.specs.Rows.{steps, rowCard, rowsCard};
-ghost use Rattle.card.specs.Cards.{card, longest};
-ghost use Rattle.card.specs.Calls.{writeCall, writeCard};
-ghost use Rattle.card.specs.Steps.{Put, InCard, limbOnes, Writable};
-use crate::CardAnswer;
-use crate::store;
+ghost use Rattle.card.specs.Cards.{card};
+ghost use Rattle.card_writer.specs.Calls.{longest, writeCall, writeCard};
+ghost use Rattle.card_writer.specs.Inner.{Put, InCard, limbOnes, Writable};
+use card::CardAnswer;
 use judging::Fault;
 
 fn put_number(out: &mut [u8], at: usize, n: usize) -> usize
@@ -18,11 +17,11 @@ fn put_number(out: &mut [u8], at: usize, n: usize) -> usize
     ensures { λ r. ⌜ Put at (number n) r (now (out .entry)) (now (out .exit)) ⌝ }
 {
     if n < 128 {
-        store::put(out, at, n as u8);
+        card::put(out, at, n as u8);
         return at + 1;
     }
-    store::put(out, at, (128 + n % 128) as u8);
-    store::put(out, at + 1, (n / 128) as u8);
+    card::put(out, at, (128 + n % 128) as u8);
+    card::put(out, at + 1, (n / 128) as u8);
     at + 2
 }
 

@@ -1,18 +1,13 @@
--- Inner definitions, which no demand cites: what the code's steps through a card say.
--- Reading: a place in a card's bytes stands for the bytes that are left from there.
--- Writing: bytes are put at a place of a buffer, and the place after them is said.
+-- Inner definitions, which no demand cites: what the code's steps through a card say. A place in a card's bytes stands for the
+-- bytes that are left from there.
 use mathlib.Core.Path.{_≡_}
 use mathlib.Core.List.{List}
-use Prim.Native.Nat.{ℕ, _+_, _*_, _<_, _≤_}
-use lib.ListN.{length, drop}
+use Prim.Native.Nat.{ℕ, _*_}
+use lib.ListN.{drop}
 use lib.Seq.{sets}
-use Rattle.gf2.specs.Coordinates.{coord}
-use Rattle.gf2.specs.Operands.{maxWidth, bytesFor, carriedBytes, fromCoords}
-use Rattle.gf2.specs.Tables.{row}
-use Rattle.limbs.specs.Limbs.{carriedLimbs, limbCoord}
+use Rattle.gf2.specs.Operands.{bytesFor, carriedBytes, fromCoords}
 use Rattle.card.specs.Numbers.{Read, refused, got}
-use Rattle.card.specs.Rows.{places, isPlace, readRows}
-use Rattle.card.specs.Cards.{longest}
+use Rattle.card.specs.Rows.{isPlace, readRows}
 use Rattle.card.specs.declared.reading.Step.{Step}
 use Rattle.card.specs.declared.reading.Step.the-variants.{Got, Refused}
 use Rattle.card.specs.declared.reading.Row.{Row}
@@ -44,21 +39,3 @@ endOf (got t rest) = got 0 rest
 pub record RowsRead (m first count : ℕ) (s : List ℕ) (r : Read ℕ) (old new : List ℕ) : Type 0 where
   pub ends : r ≡ endOf (readRows m count s)
   pub stores : (t rest : List ℕ) → readRows m count s ≡ got t rest → new ≡ sets old (first * bytesFor m) t
-
--- bytes are put at a place of a buffer, as far as it goes, and r is the place after them
-pub record Put (at : ℕ) (bytes : List ℕ) (r : ℕ) (old new : List ℕ) : Type 0 where
-  pub ends : r ≡ at + length bytes
-  pub stored : new ≡ sets old at bytes
-
--- bytes at a place end within the longest card
-pub record InCard (at : ℕ) (bytes : List ℕ) : Type 0 where
-  pub within : at + length bytes ≤ longest maxWidth
-
--- the places of the ones of a row that is carried in limbs
-abbrev pub limbOnes : List ℕ → List ℕ
-limbOnes x = places (limbCoord x) 0 (64 * carriedLimbs)
-
--- a table that can be written: no row has a bit at the width or above
-pub record Writable (m : ℕ) (table : List ℕ) : Type 0 where
-  pub greatest : m ≤ maxWidth
-  pub clear : (d i : ℕ) → d < m → m ≤ i → coord (row m table d) i ≡ 0

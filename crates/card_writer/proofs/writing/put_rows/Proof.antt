@@ -1,10 +1,10 @@
--- `card::writing::put_rows` meets its contract.
+-- `card_writer::writing::put_rows` meets its contract.
 use Prim.Native.Nat.{_+_, _-_}
 use native.Mathlib.Omega.{arith}
-use Rattle.card.proofs.WriteSteps.{left-kept, RowsPut, rows-none, rows-fits, rows-more, rows-done}
+use Rattle.card_writer.proofs.WriteSteps.{left-kept, RowsPut, rows-none, rows-fits, rows-more, rows-done}
 use borrow.Author.Needs.{needs}
-use Rattle.card.proofs.writing.put_rows.Statement.{statement}
-use Rattle.card.proofs.writing.put_rows.Tie as tie
+use Rattle.card_writer.proofs.writing.put_rows.Statement.{statement}
+use Rattle.card_writer.proofs.writing.put_rows.Tie as tie
 
 abbrev Inv-loop : tie.InvT-loop
 Inv-loop out₀ at table width start count next₀ d₀ out next d = RowsPut width table start count at out₀ out next d

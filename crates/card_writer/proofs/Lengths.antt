@@ -13,12 +13,13 @@ use Rattle.gf2.specs.Coordinates.{coord}
 use Rattle.gf2.specs.Operands.{maxWidth, bytesFor, ones, IsOperand}
 use Rattle.gf2.specs.Tables.{row, IsTable}
 use Rattle.gf2.proofs.Operands.{coord-from, from-operand}
 use Rattle.card.specs.Numbers.{number}
 use Rattle.card.specs.Rows.{places, steps, onesOf, rowCard, rowsCard}
-use Rattle.card.specs.Cards.{card, longest}
-use Rattle.card.specs.Statements.{oneRows, allOnesTable}
+use Rattle.card.specs.Cards.{card}
+use Rattle.card_writer.specs.Calls.{longest}
+use Rattle.card_writer.specs.Statements.{oneRows, allOnesTable}
 use Rattle.card.proofs.Places.{Ascending, none, more, places-one, places-ascend}
 use Rattle.card.proofs.Trips.{row-first, row-next}
 
 module _ (n : ℕ) where
   pub one-byte : n < 128 → number n ≡ n ∷ []

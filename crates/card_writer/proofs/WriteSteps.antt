@@ -4,7 +4,7 @@
 -- Calls: the answers of `write`, and the output afterwards.
 use mathlib.Core.Path.{_≡_, refl, sym, ap, ap₂, _∙_}
 use mathlib.Core.List.{List, [], _∷_, _++_}
-use mathlib.Core.Bool.{true, false}
+use mathlib.Core.Bool.{Bool, true, false}
 use Prim.Native.Nat.{ℕ, zero, suc, _+_, _-_, _*_, _/_, _%_, _<_, _≤_}
 use native.Mathlib.Nat.{add-zero, zero-add, mod-eq-of-lt}
 use native.Mathlib.Numerals.{add-one}
@@ -12,8 +12,7 @@ use native.Mathlib.Decide.{ℕ-discrete, decLt}
 use native.Mathlib.Omega.{arith}
 use lib.ListN.{length, set, length-append}
 use lib.Seq.{sets, length-sets}
-use lib.Dec.{ltb}
-use borrow.Author.Tests.{lt-ltb, le-ltb}
+use borrow.Author.Tests.{lt-ltb}
 use Rattle.gf2.specs.Sums.{sum}
 use Rattle.gf2.specs.Coordinates.{coord}
 use Rattle.gf2.specs.Operands.{maxWidth}
@@ -25,22 +24,23 @@ use Rattle.limbs.specs.Limbs.{carriedLimbs, limbCoord, nextOne, rowLimbs}
 use Rattle.limbs.proofs.LimbCoords.{limb-lt, limb-past, limb-pack, length-limbs}
 use Rattle.limbs.proofs.LimbRows.{next-known, sum-bits, row-limbs}
 use Rattle.judging.specs.declared.fault.Fault.{Fault}
-use Rattle.judging.specs.declared.fault.Fault.the-variants.{None, OutputShort, HighBit}
-use Rattle.operand.specs.Faults.{when}
+use Rattle.judging.specs.declared.fault.Fault.the-variants.{None, OutputShort}
 use Rattle.judging.specs.Faults.{isNone}
-use Rattle.operand.proofs.FaultLaws.{none-is, two-first, two-second, width-fine}
-use Rattle.table.specs.Judgements.{rowsFault, shapeFault}
-use Rattle.table.proofs.Searches.{when-none, none-true, high-some, three-none}
+use Rattle.judging.specs.Causes.{Cause}
+use Rattle.judging.specs.FaultTable.{tooShort, shapeCauses}
+use Rattle.judging.proofs.CauseLaws.{some, fine, head-holds, none-given, ends, follows}
+use Rattle.judging.proofs.Passed.{is-width, are-clear, room-passes}
+use Rattle.table.specs.Judgements.{shapeFault}
 use Rattle.table.proofs.Shapes.{clearRow}
 use Rattle.card.specs.declared.CardAnswer.{CardAnswer}
 use Rattle.card.specs.Numbers.{number}
 use Rattle.card.specs.Rows.{places, steps, onesOf, rowCard, rowsCard}
 use Rattle.card.specs.Cards.{card}
-use Rattle.card.specs.Calls.{writeFault, writeCall, writeCard}
-use Rattle.card.specs.Steps.{Put, InCard, limbOnes, Writable}
+use Rattle.card_writer.specs.Calls.{writeFault, writeCall, writeCard}
+use Rattle.card_writer.specs.Inner.{Put, InCard, limbOnes, Writable}
 use Rattle.card.proofs.Places.{places-zero, places-one}
-use Rattle.card.proofs.Lengths.{one-byte, two-bytes, card-most}
+use Rattle.card_writer.proofs.Lengths.{one-byte, two-bytes, card-most}
 use Rattle.card.proofs.Stores.{sets-append, sets-front}
 
 module _ (n at : ℕ) (out : List ℕ) where
   pub put-short : n < 128 → Put at (number n) (at + 1) out (set out at n)
@@ -277,11 +277,12 @@ module _ (m : ℕ) (table : List ℕ) where
 
 -- a table without fault of shape can be written
 pub shape-writable : (m : ℕ) (table : List ℕ) → isNone (shapeFault m table) ≡ true → Writable m table
-unfolding shapeFault rowsFault
 shape-writable m table e =
-    let q = three-none _ _ _ .0 (none-is (shapeFault m table) e) in
-    let clear = when-none _ HighBit high-some (q .2) in
-    record { greatest = width-fine m (none-true (q .0)) .1; clear = λ d i l h. clear-at m _ (every-at m (clearRow m table) clear d l) i h }
+    let p = fine (shapeCauses m table) e in
+    record {
+      greatest = is-width m (p .0) .greatest;
+      clear = λ d i l h. clear-at m _ (every-at m (clearRow m table) (are-clear m table (p .1 .1 .0)) d l) i h;
+    }
 
 -- the answer of `write`, and the output afterwards
 pub record Wrote (m : ℕ) (table old : List ℕ) (r : CardAnswer) (new : List ℕ) : Type 0 where
@@ -289,24 +290,24 @@ pub record Wrote (m : ℕ) (table old : List ℕ) (r : CardAnswer) (new : List �
   pub leaves : new ≡ writeCard m table old
 
 module _ (m : ℕ) (table old : List ℕ) where
-  wrote-fault : {f : Fault} → writeFault m table (length old) ≡ f → isNone f ≡ false → Wrote m table old (record { fault = f; value = 0 }) old
-  wrote-fault e n = record { answers = rw (e, n); leaves = rw (e, n) }
+  abbrev short : Cause
+  short = tooShort (length old) (length (card m table))
 
-  pub wrote-shape : {f : Fault} → f ≡ shapeFault m table → isNone f ≡ false → Wrote m table old (record { fault = f; value = 0 }) old
-  unfolding writeFault
-  wrote-shape {f} e n = wrote-fault (two-first (shapeFault m table) (when (ltb (length old) (length (card m table))) OutputShort) (ap isNone (sym e) ∙ n) ∙ sym e) n
+  wrote-fault : {f : Fault} → f ≡ writeFault m table (length old) → isNone f ≡ false → Wrote m table old (record { fault = f; value = 0 }) old
+  wrote-fault e n = record { answers = rw (← e, n); leaves = rw (← e, n) }
 
-  module _ (shape : isNone (shapeFault m table) ≡ true) {n : ℕ} (size : n ≡ 0 + length (card m table)) where
-    pub wrote-short : length old < n → Wrote m table old (record { fault = OutputShort; value = 0 }) old
-    unfolding writeFault isNone
-    wrote-short h = wrote-fault (two-second (shapeFault m table) (when (ltb (length old) (length (card m table))) OutputShort) shape ∙ rw (lt-ltb (length old) (length (card m table)) (omega arith))) refl
+  -- b is the test whether the shape has no fault
+  module _ {f : Fault} {b : Bool} (e : f ≡ shapeFault m table) (t : b ≡ isNone f) where
+    pub wrote-shape : b ≡ false → Wrote m table old (record { fault = f; value = 0 }) old
+    wrote-shape q = wrote-fault (ends (shapeCauses m table) (short ∷ []) e t q) (sym t ∙ q)
 
-    wrote-none : n ≤ length old → writeFault m table (length old) ≡ None
-    unfolding writeFault isNone
-    wrote-none h = two-second (shapeFault m table) (when (ltb (length old) (length (card m table))) OutputShort) shape ∙ rw (le-ltb (length old) (length (card m table)) (omega arith))
+    module _ (q : b ≡ true) {n : ℕ} (size : n ≡ 0 + length (card m table)) where
+      pub wrote-short : length old < n → Wrote m table old (record { fault = OutputShort; value = 0 }) old
+      wrote-short h =
+          wrote-fault (follows (shapeCauses m table) (short ∷ []) e t q (sym (head-holds short [] (lt-ltb (length old) (length (card m table)) (omega arith))))) (some short)
 
-    pub wrote-card : {new : List ℕ} → n ≤ length old → new ≡ sets old 0 (card m table) → Wrote m table old (record { fault = None; value = n }) new
-    unfolding isNone
-    wrote-card h e =
-        let z = wrote-none h in
-        record { answers = rw (z, size, zero-add); leaves = e ∙ rw z (sets-front old (card m table) (omega arith)) }
+      pub wrote-card : {new : List ℕ} → n ≤ length old → new ≡ sets old 0 (card m table) → Wrote m table old (record { fault = None; value = n }) new
+      unfolding isNone
+      wrote-card h s =
+          let z = follows (shapeCauses m table) (short ∷ []) e t q (sym (none-given (short ∷ []) (room-passes (length old) (length (card m table)) (omega arith), tt))) in
+          record { answers = rw (← z, size, zero-add); leaves = s ∙ rw (← z) (sets-front old (card m table) (omega arith)) }

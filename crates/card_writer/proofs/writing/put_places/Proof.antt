@@ -1,9 +1,9 @@
--- `card::writing::put_places` meets its contract.
+-- `card_writer::writing::put_places` meets its contract.
 use native.Mathlib.Omega.{arith}
-use Rattle.card.proofs.WriteSteps.{StepsTo, left-kept, steps-none, steps-next, steps-fits, steps-more, steps-done}
+use Rattle.card_writer.proofs.WriteSteps.{StepsTo, left-kept, steps-none, steps-next, steps-fits, steps-more, steps-done}
 use borrow.Author.Needs.{needs}
-use Rattle.card.proofs.writing.put_places.Statement.{statement}
-use Rattle.card.proofs.writing.put_places.Tie as tie
+use Rattle.card_writer.proofs.writing.put_places.Statement.{statement}
+use Rattle.card_writer.proofs.writing.put_places.Tie as tie
 
 abbrev Inv-loop : tie.InvT-loop
 Inv-loop out₀ at row count next₀ free₀ left₀ out next free left = StepsTo row at out₀ out next free left

@@ -1,9 +1,9 @@
--- `card::writing::put_row` meets its contract.
+-- `card_writer::writing::put_row` meets its contract.
 use native.Mathlib.Omega.{arith}
-use Rattle.card.proofs.WriteSteps.{put-both, in-second, count-ones, count-few, row-parts}
+use Rattle.card_writer.proofs.WriteSteps.{put-both, in-second, count-ones, count-few, row-parts}
 use borrow.Author.Needs.{needs}
-use Rattle.card.proofs.writing.put_row.Statement.{statement}
-use Rattle.card.proofs.writing.put_row.Tie as tie
+use Rattle.card_writer.proofs.writing.put_row.Statement.{statement}
+use Rattle.card_writer.proofs.writing.put_row.Tie as tie
 
 put-number-requires : tie.Need-put-number-requires
 put-number-requires c κs =

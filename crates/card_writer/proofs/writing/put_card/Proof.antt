@@ -1,9 +1,9 @@
--- `card::writing::put_card` meets its contract.
+-- `card_writer::writing::put_card` meets its contract.
 use native.Mathlib.Omega.{arith}
-use Rattle.card.proofs.WriteSteps.{in-second, card-in, card-put}
+use Rattle.card_writer.proofs.WriteSteps.{in-second, card-in, card-put}
 use borrow.Author.Needs.{needs}
-use Rattle.card.proofs.writing.put_card.Statement.{statement}
-use Rattle.card.proofs.writing.put_card.Tie as tie
+use Rattle.card_writer.proofs.writing.put_card.Statement.{statement}
+use Rattle.card_writer.proofs.writing.put_card.Tie as tie
 
 put-number-requires-2 : tie.Need-put-number-requires-2
 put-number-requires-2 c κs =

@@ -1,0 +1,4 @@
+// Writing a table's card.
+mod writing;
+
+pub use writing::write;
