@@ -25,8 +25,7 @@ use Rattle.netlist.specs.Calls.{countedAs, countsCall}
 use Rattle.netlist.specs.Statements.{Computes, Counted, Sized, Holds, TheoremLists, TheoremCounts, TheoremCommon}
 use Rattle.netlist.proofs.SumLaws.{num, sum-next, sum-const, sum-mono, count-one}
 use Rattle.netlist.proofs.NetlistLaws.{wires-bits}
-use Rattle.netlist.proofs.ListLaws.{Sound, Gates, Gives, coord-product, ones-at, ones-of, plain-sound, plain-gives, plain-gates, reduced-sound, reduced-gives, reduced-gates, common-sound, common-gives, common-gates}
-use Rattle.netlist.proofs.WordLaws.{words-run}
+use Rattle.netlist.proofs.ListLaws.{Gates, Gives, coord-product, ones-at, ones-of, plain-gives, plain-gates, reduced-gives, reduced-gates, common-gives, common-gates}
 use Rattle.netlist.proofs.SizeLaws.{plain-sized, reduced-sized, common-sized}
 use Rattle.netlist.proofs.CallLaws.{answer-counted}
 
@@ -46,19 +45,18 @@ module _ (m : ℕ) (table : List ℕ) where
       resized = resized;
     }
 
-    holds : {x : ℕ} → 2 ≤ m → Sound m list → Gates list (m * m) x → Sized m list → Holds m table list x
-    holds two sound gates size = record {
+    holds : {x : ℕ} → Gates list (m * m) x → Sized m list → Holds m table list x
+    holds gates size = record {
       computes = computes;
-      runs = words-run m list sound two;
       counted = record { andCount = gates .ands; xorCount = gates .xors };
       sized = size;
     }
 
 pub theoremLists : TheoremLists
 theoremLists m table two is s = record {
-  ofPlain = holds m table (plain m table) (plain-gives m table two is s) two (plain-sound m table two is s) (plain-gates m table two is s) (plain-sized m table two is s);
-  ofReduced = holds m table (reduced m table) (reduced-gives m table two is s) two (reduced-sound m table two is s) (reduced-gates m table two is s) (reduced-sized m table two is s);
-  ofCommon = holds m table (common m table) (common-gives m table two is s) two (common-sound m table two is s) (common-gates m table two is s) (common-sized m table two is s);
+  ofPlain = holds m table (plain m table) (plain-gives m table two is s) (plain-gates m table two is s) (plain-sized m table two is s);
+  ofReduced = holds m table (reduced m table) (reduced-gives m table two is s) (reduced-gates m table two is s) (reduced-sized m table two is s);
+  ofCommon = holds m table (common m table) (common-gives m table two is s) (common-gates m table two is s) (common-sized m table two is s);
 }
 
 pub theoremCounts : TheoremCounts
