@@ -3,7 +3,7 @@ use mathlib.Core.Path.{_≡_, refl, sym, ap, ap₂, _∙_}
 use mathlib.Core.Bool.{Bool, true, false}
 use mathlib.Core.List.{List}
 use Prim.Native.Nat.{ℕ, suc, _+_, _-_, _*_, _%_, _<_, _≤_}
-use native.Mathlib.Nat.{mod-eq-of-lt, mul-one, mul-zero}
+use native.Mathlib.Nat.{mod-eq-of-lt, mul-one}
 use native.Mathlib.Omega.{arith}
 use lib.ListN.{length, getD}
 use Rattle.gf2.specs.Coordinates.{coord}
@@ -11,7 +11,7 @@ use Rattle.gf2.specs.Operands.{bytesFor, ones, fromCoords}
 use Rattle.gf2.specs.Tables.{IsTable, row, onesIn}
 use Rattle.gf2.specs.Products.{product}
 use Rattle.gf2.specs.Check.{Accepted}
-use Rattle.gf2.proofs.Sums.{sum-ext}
+use Rattle.gf2.proofs.Sums.{sum-none}
 use Rattle.gf2.proofs.Operands.{coord-from, from-eq, from-ext, from-coord, from-operand}
 use Rattle.gf2.proofs.OperandVectors.{bytes-fit}
 use Rattle.gf2.proofs.Theorems.{theoremA, theoremE}
@@ -23,7 +23,7 @@ use Rattle.netlist.specs.Running.{valueOn, wires, result}
 use Rattle.netlist.specs.Counts.{commonXors}
 use Rattle.netlist.specs.Calls.{countedAs, countsCall}
 use Rattle.netlist.specs.Statements.{Computes, Counted, Sized, Holds, TheoremLists, TheoremCounts, TheoremCommon}
-use Rattle.netlist.proofs.SumLaws.{num, sum-next, sum-const, sum-mono, count-one}
+use Rattle.netlist.proofs.SumLaws.{num, sum-next, sum-mono, count-one}
 use Rattle.netlist.proofs.NetlistLaws.{wires-bits}
 use Rattle.netlist.proofs.ListLaws.{Gates, Gives, coord-product, ones-at, ones-of, plain-gives, plain-gates, reduced-gives, reduced-gates, common-gives, common-gates}
 use Rattle.netlist.proofs.SizeLaws.{plain-sized, reduced-sized, common-sized}
@@ -92,7 +92,7 @@ module _ (m : ℕ) (table : List ℕ) (two : 2 ≤ m) (is : IsTable m table) (k 
 
   no-row : ((d : ℕ) → d < m → ¬ (row m table d ≡ ones (bytesFor m) m)) → fullRows m table ≡ 0
   unfolding fullRows
-  no-row h = sum-ext m _ (λ d. 0) (λ d l. off d l (allOnes m (row m table d)) refl) ∙ sum-const m 0 ∙ mul-zero m
+  no-row h = sum-none m _ (λ d l. off d l (allOnes m (row m table d)) refl)
     where
       off : (d : ℕ) → d < m → (x : Bool) → allOnes m (row m table d) ≡ x → num x ≡ 0
       off d l true e = absurd (h d l (full-row d l e))

@@ -28,22 +28,27 @@ loop-holds c =
 
 on-wire-requires : tie.Need-on-wire-requires Inv-loop μ-loop
 on-wire-requires c κs =
-    let s = c .before .before .before .before .before .before .before .before .before in
-    let w = c .before .before .before .before .before .loop in
+    let t = c .before .before .before .before .before in
+    let s = t .before .before .before .before in
+    let w = t .loop in
     let x = gate-wires (s .args .width) (s .args .list .now) (s .args .g) (s .pre .0 .good) (w .k) (omega arith) in
     (omega (arith, x .0, c .before .before .word2 .ensures .0), omega (arith, w .inv .2, s .pre .0 .bytePerWire), w .inv .3)
 
 on-wire-requires-2 : tie.Need-on-wire-requires-2 Inv-loop μ-loop
 on-wire-requires-2 c κs =
-    let s = c .before .before .before .before .before .before .before .before .before .before .before in
-    let w = c .before .before .before .before .before .before .before .loop in
+    let u = c .before .before in
+    let t = u .before .before .before .before .before in
+    let s = t .before .before .before .before in
+    let w = t .loop in
     let x = gate-wires (s .args .width) (s .args .list .now) (s .args .g) (s .pre .0 .good) (w .k) (omega arith) in
     (omega (arith, x .1, c .before .before .before .word3 .ensures .0), omega (arith, w .inv .2, s .pre .0 .bytePerWire), w .inv .3)
 
 gate-value-requires : tie.Need-gate-value-requires Inv-loop μ-loop
 gate-value-requires c κs =
-    let s = c .before .before .before .before .before .before .before .before .before .before .before .before in
-    let w = c .before .before .before .before .before .before .before .before .loop in
+    let u = c .before .before .before in
+    let t = u .before .before .before .before .before in
+    let s = t .before .before .before .before in
+    let w = t .loop in
     let x = gate-wires (s .args .width) (s .args .list .now) (s .args .g) (s .pre .0 .good) (w .k) (omega arith) in
     let small : (l : ℕ) → l < 2 * s .args .width + w .k → getD (w .wires) l 0 < 2 = λ l h.
     rw (w .inv .1) (filled-bit (s .args .width) (s .args .list .now) (s .args .wires .now) (omega (arith, s .pre .0 .bytePerWire)) (s .pre .2) (w .k) l h) in (
@@ -52,16 +57,21 @@ gate-value-requires c κs =
     )
 
 slice-write-wires : tie.Need-slice-write-wires Inv-loop μ-loop
-slice-write-wires c = omega (arith, c .before .before .before .before .before .before .before .before .before .loop .inv .2, c .before .before .before .before .before .before .before .before .before .before .before .before .before .pre .0 .bytePerWire)
+slice-write-wires c =
+    let u = c .before .before .before .before in
+    let t = u .before .before .before .before .before in
+    omega (arith, t .loop .inv .2, t .before .before .before .before .pre .0 .bytePerWire)
 
 loop-again : tie.Need-loop-again Inv-loop μ-loop
 loop-again c =
-    let s = c .before .before .before .before .before .before .before .before .before .before .before .before .before in
-    let w = c .before .before .before .before .before .before .before .before .before .loop in
+    let u = c .before .before .before .before in
+    let t = u .before .before .before .before .before in
+    let s = t .before .before .before .before in
+    let w = t .loop in
     let x = gate-wires (s .args .width) (s .args .list .now) (s .args .g) (s .pre .0 .good) (w .k) (omega arith) in
-    let kind = c .before .before .before .before .before .before .before .word in
-    let left = c .before .before .before .before .before .before .word2 in
-    let right = c .before .before .before .before .before .word3 in
+    let kind = u .before .before .before .word in
+    let left = u .before .before .word2 in
+    let right = u .before .word3 in
     let n : 2 * s .args .width + (w .k + 1) - 1 ≡ 2 * s .args .width + w .k = omega arith in
     let list = s .args .list .now in (
       omega arith,
