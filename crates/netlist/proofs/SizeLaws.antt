@@ -18,6 +18,7 @@ use Rattle.gf2.proofs.Sums.{sum-ext, sum-split}
 use Rattle.gf2.proofs.Coordinates.{coord-lt}
 use Rattle.gf2.proofs.Operands.{coord-from}
 use Rattle.gf2.proofs.OperandVectors.{bytes-fit}
+use Rattle.limbs.proofs.LimbRows.{sum-bits}
 use Rattle.netlist.specs.Gates.{Gate, AND, XOR, Netlist, andGates, xorGates}
 use Rattle.netlist.specs.Lists.{plain, reduced, common, fullRows}
 use Rattle.netlist.specs.Counts.{plainXors, reducedXors, commonXors}
@@ -28,7 +29,7 @@ use Rattle.netlist.proofs.WordLaws.{size-words}
 
 -- Ones
 row-ones : (m : ℕ) (bytes : List ℕ) → sum m (coord bytes) ≤ m
-row-ones m bytes = omega (arith, sum-most m 1 (coord bytes) (λ s. omega (arith, coord-lt bytes s)), mul-one m)
+row-ones m bytes = sum-bits m (coord bytes) (coord-lt bytes)
 
 pub ones-most : (m : ℕ) (table : List ℕ) → onesIn m table ≤ m * m
 unfolding onesIn

@@ -2,14 +2,15 @@
 use mathlib.Core.Path.{_≡_, refl, sym, ap, ap₂, _∙_}
 use mathlib.Core.Bool.{Bool, true, false, _&&_}
 use Prim.Native.Nat.{ℕ, zero, suc, _+_, _*_, _<_, _≤_}
-use native.Mathlib.Nat.{zero-mul, one-mul, suc-mul, mul-suc, mul-zero}
+use native.Mathlib.Nat.{zero-mul, one-mul, suc-mul, mul-suc}
 use native.Mathlib.Decide.{ℕ-discrete}
 use native.Mathlib.Omega.{arith}
 use lib.Dec.{ltb, eqb}
 use borrow.Author.Tests.{lt-ltb, le-ltb}
 use Rattle.gf2.specs.Sums.{sum}
 use Rattle.gf2.specs.Operands.{choose}
-use Rattle.gf2.proofs.Sums.{sum-ext, sum-swap}
+use Rattle.gf2.proofs.Sums.{sum-ext, sum-none, sum-swap}
+use Rattle.gf2.proofs.Monoid.{sum-big, big-mono, big-const}
 
 -- a test as a number
 abbrev pub num : Bool → ℕ
@@ -33,9 +34,7 @@ unfolding sum
 sum-next f n = refl
 
 pub sum-const : (n c : ℕ) → sum n (λ i. c) ≡ n * c
-unfolding sum
-sum-const zero c = sym (zero-mul c)
-sum-const (suc n) c = rw (sum-const n c, suc-mul)
+sum-const n c = sum-big n (λ i. c) ∙ big-const n c
 
 pub sum-mono : (f : ℕ → ℕ) (i n : ℕ) → i ≤ n → sum i f ≤ sum n f
 unfolding sum
@@ -47,9 +46,7 @@ sum-mono f i (suc n) h = elim (ℕ-discrete i (suc n)) [
 
 -- terms of which none is above c
 pub sum-most : (n c : ℕ) (f : ℕ → ℕ) → ((i : ℕ) → f i ≤ c) → sum n f ≤ n * c
-unfolding sum
-sum-most zero c f h = omega arith
-sum-most (suc n) c f h = omega (arith, sum-most n c f h, h n, suc-mul n c)
+sum-most n c f h = rw (sum-big n f, ← big-const n c) (big-mono n f (λ i. c) (λ i l. h i))
 
 -- a test that at most one number passes
 pub count-one : (n : ℕ) (test : ℕ → Bool) → ((d e : ℕ) → d < n → e < n → test d ≡ true → test e ≡ true → d ≡ e) → sum n (λ d. num (test d)) ≤ 1
@@ -62,7 +59,7 @@ count-one (suc n) test h = go (test n) refl (count-one n test (λ d e ld le. h d
     off t d l false e = ap num e
 
     go : (x : Bool) → test n ≡ x → sum n (λ d. num (test d)) ≤ 1 → sum n (λ d. num (test d)) + num (test n) ≤ 1
-    go true e ih = rw (e, sum-ext n (λ d. num (test d)) (λ d. 0) (λ d l. off e d l (test d) refl), sum-const n 0, mul-zero n) (omega arith)
+    go true e ih = rw (e, sum-none n (λ d. num (test d)) (λ d l. off e d l (test d) refl)) (omega arith)
     go false e ih = rw e (omega arith)
 
 -- only the terms below j

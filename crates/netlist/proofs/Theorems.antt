@@ -3,7 +3,7 @@ use mathlib.Core.Path.{_≡_, refl, sym, ap, ap₂, _∙_}
 use mathlib.Core.Bool.{Bool, true, false}
 use mathlib.Core.List.{List}
 use Prim.Native.Nat.{ℕ, suc, _+_, _-_, _*_, _%_, _<_, _≤_}
-use native.Mathlib.Nat.{mod-eq-of-lt, mul-one, mul-zero}
+use native.Mathlib.Nat.{mod-eq-of-lt, mul-one}
 use native.Mathlib.Omega.{arith}
 use lib.ListN.{length, getD}
 use Rattle.gf2.specs.Coordinates.{coord}
@@ -11,7 +11,7 @@ use Rattle.gf2.specs.Operands.{bytesFor, ones, fromCoords}
 use Rattle.gf2.specs.Tables.{IsTable, row, onesIn}
 use Rattle.gf2.specs.Products.{product}
 use Rattle.gf2.specs.Check.{Accepted}
-use Rattle.gf2.proofs.Sums.{sum-ext}
+use Rattle.gf2.proofs.Sums.{sum-none}
 use Rattle.gf2.proofs.Operands.{coord-from, from-eq, from-ext, from-coord, from-operand}
 use Rattle.gf2.proofs.OperandVectors.{bytes-fit}
 use Rattle.gf2.proofs.Theorems.{theoremA, theoremE}
@@ -23,10 +23,9 @@ use Rattle.netlist.specs.Running.{valueOn, wires, result}
 use Rattle.netlist.specs.Counts.{commonXors}
 use Rattle.netlist.specs.Calls.{countedAs, countsCall}
 use Rattle.netlist.specs.Statements.{Computes, Counted, Sized, Holds, TheoremLists, TheoremCounts, TheoremCommon}
-use Rattle.netlist.proofs.SumLaws.{num, sum-next, sum-const, sum-mono, count-one}
+use Rattle.netlist.proofs.SumLaws.{num, sum-next, sum-mono, count-one}
 use Rattle.netlist.proofs.NetlistLaws.{wires-bits}
-use Rattle.netlist.proofs.ListLaws.{Sound, Gates, Gives, coord-product, ones-at, ones-of, plain-sound, plain-gives, plain-gates, reduced-sound, reduced-gives, reduced-gates, common-sound, common-gives, common-gates}
-use Rattle.netlist.proofs.WordLaws.{words-run}
+use Rattle.netlist.proofs.ListLaws.{Gates, Gives, coord-product, ones-at, ones-of, plain-gives, plain-gates, reduced-gives, reduced-gates, common-gives, common-gates}
 use Rattle.netlist.proofs.SizeLaws.{plain-sized, reduced-sized, common-sized}
 use Rattle.netlist.proofs.CallLaws.{answer-counted}
 
@@ -46,19 +45,18 @@ module _ (m : ℕ) (table : List ℕ) where
       resized = resized;
     }
 
-    holds : {x : ℕ} → 2 ≤ m → Sound m list → Gates list (m * m) x → Sized m list → Holds m table list x
-    holds two sound gates size = record {
+    holds : {x : ℕ} → Gates list (m * m) x → Sized m list → Holds m table list x
+    holds gates size = record {
       computes = computes;
-      runs = words-run m list sound two;
       counted = record { andCount = gates .ands; xorCount = gates .xors };
       sized = size;
     }
 
 pub theoremLists : TheoremLists
 theoremLists m table two is s = record {
-  ofPlain = holds m table (plain m table) (plain-gives m table two is s) two (plain-sound m table two is s) (plain-gates m table two is s) (plain-sized m table two is s);
-  ofReduced = holds m table (reduced m table) (reduced-gives m table two is s) two (reduced-sound m table two is s) (reduced-gates m table two is s) (reduced-sized m table two is s);
-  ofCommon = holds m table (common m table) (common-gives m table two is s) two (common-sound m table two is s) (common-gates m table two is s) (common-sized m table two is s);
+  ofPlain = holds m table (plain m table) (plain-gives m table two is s) (plain-gates m table two is s) (plain-sized m table two is s);
+  ofReduced = holds m table (reduced m table) (reduced-gives m table two is s) (reduced-gates m table two is s) (reduced-sized m table two is s);
+  ofCommon = holds m table (common m table) (common-gives m table two is s) (common-gates m table two is s) (common-sized m table two is s);
 }
 
 pub theoremCounts : TheoremCounts
@@ -94,7 +92,7 @@ module _ (m : ℕ) (table : List ℕ) (two : 2 ≤ m) (is : IsTable m table) (k 
 
   no-row : ((d : ℕ) → d < m → ¬ (row m table d ≡ ones (bytesFor m) m)) → fullRows m table ≡ 0
   unfolding fullRows
-  no-row h = sum-ext m _ (λ d. 0) (λ d l. off d l (allOnes m (row m table d)) refl) ∙ sum-const m 0 ∙ mul-zero m
+  no-row h = sum-none m _ (λ d l. off d l (allOnes m (row m table d)) refl)
     where
       off : (d : ℕ) → d < m → (x : Bool) → allOnes m (row m table d) ≡ x → num x ≡ 0
       off d l true e = absurd (h d l (full-row d l e))

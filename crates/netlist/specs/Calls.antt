@@ -1,10 +1,8 @@
 -- What each call answers, for every input: its fault, its counts, and its buffers afterwards.
-use mathlib.Core.Bool.{Bool, true, false}
 use mathlib.Core.List.{List, [], _∷_, _++_}
 use Prim.Native.Nat.{ℕ}
 use lib.ListN.{length, drop}
-use Rattle.gf2.specs.Operands.{bytesFor, choose}
-use Rattle.operand.specs.declared.Operand.{Operand}
+use Rattle.gf2.specs.Operands.{choose}
 use Rattle.judging.specs.declared.fault.Fault.{Fault}
 use Rattle.judging.specs.declared.fault.Fault.the-variants.{None}
 use Rattle.operand.specs.Faults.{firstOf}
@@ -13,7 +11,6 @@ use Rattle.table.specs.Judgements.{symmetryFault}
 use Rattle.netlist.specs.declared.CountsAnswer.{CountsAnswer}
 use Rattle.netlist.specs.Gates.{Netlist, words, andGates, xorGates}
 use Rattle.netlist.specs.Lists.{plain, reduced, common}
-use Rattle.netlist.specs.Running.{readList, wires, result}
 use Rattle.netlist.specs.Judgements.{outputFault}
 
 -- a fault and no counts, or no fault and both counts
@@ -59,12 +56,3 @@ listBuffer m table list old =
     (isNone (listFault m table list old))
     (words m list ++ drop (length (words m list)) old)
     old
-
--- the runner: "coordinate r of the result is the value of the output wire for r"
-abbrev pub runResult : Fault → ℕ → List ℕ → Operand → Operand → List ℕ → List ℕ
-runResult f m list a b old =
-    choose (isNone f) (result (bytesFor m) m (readList list m) (a .bytes) (b .bytes)) old
-
--- "afterwards byte n is wire n's value"
-abbrev pub runWires : Fault → ℕ → List ℕ → Operand → Operand → List ℕ → List ℕ
-runWires f m list a b old = choose (isNone f) (wires m (readList list m) (a .bytes) (b .bytes)) old

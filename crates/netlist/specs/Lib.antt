@@ -1,9 +1,9 @@
 -- The definitions that the contracts of this crate cite, in document 01's order.
 -- Gates: gates, words, numbers of gates by kind.
 -- Lists: the plain, the reduced and the common list of a table.
--- Running: the values of a list's wires, and its result.
+-- Running: the values of a list's wires, and its result; words read as a list.
 -- Counts: the numbers of gates, without the lists.
--- Judgements: the faults of a list that is run, and of a buffer for a written one.
+-- Judgements: what is judged of the gates of a list, and of a buffer for a written one.
 -- Calls: what each call answers, for every input.
 -- Methods: the lists by their method, all numbers of a list in one answer.
 -- Statements: what is proved of the lists; the proofs are proofs/Theorems.antt.

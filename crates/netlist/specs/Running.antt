@@ -1,6 +1,6 @@
 -- What running a list on two operands gives: the values of its wires, and the result; words read as a list.
 use mathlib.Core.List.{List, [], _∷_, _++_}
-use Prim.Native.Nat.{ℕ, zero, suc, _+_, _*_, _%_, _<_}
+use Prim.Native.Nat.{ℕ, zero, suc, _+_, _*_, _%_}
 use lib.ListN.{getD}
 use Rattle.gf2.specs.Coordinates.{coord, tabulate}
 use Rattle.gf2.specs.Operands.{fromCoords}
@@ -19,10 +19,6 @@ gateValue v (XOR left right) = applied 1 (v left) (v right)
 
 abbrev pub valueOn : List ℕ → ℕ → ℕ
 valueOn values wire = getD values wire 0
-
--- the first n values are "0 or 1"
-pub record AreBits (n : ℕ) (values : List ℕ) : Type 0 where
-  pub bit : (k : ℕ) → k < n → valueOn values k < 2
 
 -- "gate n gives wire 2m+n": each gate's value comes after those of the wires before it
 unfoldable pub run : List Gate → List ℕ → List ℕ

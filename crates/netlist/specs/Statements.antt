@@ -1,6 +1,5 @@
 -- What is proved of the three lists of a table: the statements alone, over the definitions that the contracts cite.
 -- Computes: run on two operands, a list gives their product.
--- Runs: a list's words are read back as the list, and the runner finds no fault in them.
 -- Counted: a list's gates by kind. Sized: the number of its words, and the most that they can be.
 -- ListsHold: all of this for each of the three lists, under rules 4 and 5.
 -- CountsHold: what the calls that count answer for a table that passes.
@@ -10,18 +9,16 @@ use mathlib.Core.List.{List}
 use Prim.Native.Nat.{ℕ, _+_, _-_, _*_, _<_, _≤_}
 use lib.ListN.{length, getD}
 use Rattle.gf2.specs.Coordinates.{coord}
-use Rattle.gf2.specs.Operands.{maxWidth, bytesFor, carriedBytes, IsOperand, fromCoords, ones}
+use Rattle.gf2.specs.Operands.{bytesFor, fromCoords, ones}
 use Rattle.gf2.specs.Tables.{IsTable, row, onesIn}
 use Rattle.gf2.specs.Products.{product}
 use Rattle.gf2.specs.Check.{Symmetric, Accepted}
-use Rattle.operand.specs.declared.Operand.{Operand}
 use Rattle.judging.specs.declared.fault.Fault.the-variants.{None}
 use Rattle.table.specs.Judgements.{symmetryFault}
 use Rattle.netlist.specs.Gates.{Netlist, words, andGates, xorGates}
 use Rattle.netlist.specs.Lists.{plain, reduced, fullRows, common}
-use Rattle.netlist.specs.Running.{valueOn, wires, result, readList}
+use Rattle.netlist.specs.Running.{valueOn, wires, result}
 use Rattle.netlist.specs.Counts.{listAnds, plainXors, reducedXors, commonXors}
-use Rattle.netlist.specs.Judgements.{runFault}
 use Rattle.netlist.specs.Calls.{countedAs, countsPlainCall, countsReducedCall, countsCommonCall}
 
 -- "when run, each give the plain product of a and b": for operands of W bytes or more
@@ -32,13 +29,6 @@ pub record Computes (m : ℕ) (table : List ℕ) (list : Netlist) : Type 0 where
   -- the result's bytes are the product's, in as many bytes as a has, and in any other number
   pub bytes : (a b : List ℕ) → m ≤ 8 * length a → result (length a) m list a b ≡ product m table a b
   pub resized : (n : ℕ) (a b : List ℕ) → m ≤ 8 * length a → result n m list a b ≡ fromCoords n m (coord (product m table a b))
-
--- the runner's own definitions, on a list's words
-pub record Runs (m : ℕ) (list : Netlist) : Type 0 where
-  pub readBack : readList (words m list) m ≡ list
-  pub noFault : (a b : Operand) → m ≤ maxWidth → a .width ≡ m → b .width ≡ m →
-      IsOperand carriedBytes m (a .bytes) → IsOperand carriedBytes m (b .bytes) →
-      runFault m (words m list) a b (bytesFor m) (2 * m + length (list .gates)) ≡ None
 
 -- a list's gates by kind
 pub record Counted (list : Netlist) (ands xors : ℕ) : Type 0 where
@@ -58,7 +48,6 @@ pub record Sized (m : ℕ) (list : Netlist) : Type 0 where
 
 pub record Holds (m : ℕ) (table : List ℕ) (list : Netlist) (xors : ℕ) : Type 0 where
   pub computes : Computes m table list
-  pub runs : Runs m list
   pub counted : Counted list (listAnds m) xors
   pub sized : Sized m list
 

@@ -1,9 +1,6 @@
 // The numbers of gates of a table's lists, without the lists: from the width, the ones and the all-ones rows.
 // Each kind has its own number; the number of all gates is worked out by itself, not from these two.
 ghost use mathlib.Core.Path.{_≡_};
-ghost use Prim.Native.Nat.{_*_, _≤_};
-ghost use Rattle.gf2.specs.Operands.{maxWidth};
-ghost use Rattle.gf2.specs.Tables.{onesIn};
 ghost use Rattle.table.specs.Rows.{Shaped};
 ghost use Rattle.netlist.specs.Counts.{plainXors, reducedXors, commonXors, plainGates, reducedGates, commonGates, Countable};
 ghost use Rattle.netlist.specs.Calls.{countsCall, countsPlainCall, countsReducedCall, countsCommonCall};
@@ -13,22 +10,12 @@ use crate::CountsAnswer;
 use crate::Numbers;
 use crate::XorCount;
 use crate::entries;
-use judging::Fault;
 
 // The three lists of a table.
 pub enum Method {
     Plain,
     Reduced,
     Common,
-}
-
-// C, of a table that has passed.
-fn ones_of(width: usize, table: &[u8]) -> usize
-    requires { ⌜ Shaped width (now table) ⌝ }
-    ensures { λ r. ⌜ (r ≡ onesIn width (now (table .entry))) × (r ≤ width * width) ⌝ }
-{
-    let answer = table::ones(width, table);
-    answer.ones
 }
 
 // The all-ones rows, for a list that shares their pairs.
@@ -117,7 +104,7 @@ fn gates_by(width: usize, ones: usize, full: usize, method: Method) -> usize
     }
 }
 
-// 1 to 5 judged once, and all numbers of a list.
+// 1 to 5 judged once, and all numbers of a list. C is the number of ones of all bytes: no row has a bit at the width or above.
 pub fn tally(width: usize, table: &[u8], method: Method) -> Numbers
     ensures { λ r. ⌜ r ≡ tallyCall method width (now (table .entry)) ⌝ }
 {
@@ -131,7 +118,7 @@ pub fn tally(width: usize, table: &[u8], method: Method) -> Numbers
             full: 0,
         };
     }
-    let ones = ones_of(width, table);
+    let ones = limbs::ones_of(table);
     let full = shared_by(width, table, method);
     let xors = xors_by(width, ones, full, method);
     let gates = gates_by(width, ones, full, method);

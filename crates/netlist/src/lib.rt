@@ -1,10 +1,8 @@
-// Gate lists of a table: counting their gates, running them.
+// Gate lists of a table: counting their gates.
 use judging::Fault;
 
 mod counts;
 mod entries;
-mod judge;
-mod runner;
 mod words;
 
 pub use counts::Method;
@@ -12,7 +10,6 @@ pub use counts::counts_common;
 pub use counts::counts_plain;
 pub use counts::counts_reduced;
 pub use counts::tally;
-pub use runner::run;
 pub use words::coordinate;
 
 // The numbers of a list's gates by kind: the papers' AND and XOR columns are never added together.

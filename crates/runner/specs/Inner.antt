@@ -1,0 +1,65 @@
+-- What only inner functions cite: the parts of the causes, and what the filling of wires and result is given.
+use mathlib.Core.Path.{_≡_}
+use mathlib.Core.Bool.{true}
+use mathlib.Core.List.{List, [], _∷_}
+use Prim.Native.Nat.{ℕ, _+_, _*_, _<_, _≤_}
+use lib.ListN.{length}
+use Rattle.gf2.specs.Sums.{every}
+use Rattle.gf2.specs.Operands.{maxWidth, bytesFor}
+use Rattle.judging.specs.Causes.{Cause}
+use Rattle.judging.specs.FaultTable.{badWidth, badLength, highBit}
+use Rattle.netlist.specs.Running.{valueOn, gateCount, outputAt}
+use Rattle.netlist.specs.Judgements.{isGate, isOutput}
+use Rattle.runner.specs.Causes.{fewWords, otherWidth, badWords, badWires, badGates}
+
+-- the widths and lengths of carried operands and a result
+abbrev pub widthCauses : ℕ → ℕ → ℕ → List Cause
+widthCauses m a b = badWidth m ∷ badWidth a ∷ badWidth b ∷ []
+
+abbrev pub lengthCauses : ℕ → ℕ → ℕ → ℕ → List Cause
+lengthCauses m a b result = badLength a m ∷ badLength b m ∷ badLength result (bytesFor m) ∷ []
+
+abbrev pub carriedCauses : ℕ → ℕ → ℕ → ℕ → List Cause
+carriedCauses m a b result =
+    badWidth m ∷ badWidth a ∷ badWidth b ∷ badLength a m ∷ badLength b m ∷ badLength result (bytesFor m) ∷ []
+
+-- the words of a list, and the length of the buffer for its wires
+abbrev pub wordCauses : ℕ → List ℕ → ℕ → List Cause
+wordCauses m list wires = fewWords list ∷ otherWidth m list ∷ badWords m list ∷ badWires m list wires ∷ []
+
+-- 3 of both operands, then 18
+abbrev pub bitCauses : ℕ → List ℕ → List ℕ → List ℕ → List Cause
+bitCauses m list a b = highBit m a ∷ highBit m b ∷ badGates m list ∷ []
+
+-- all that is judged after the sizes of operands and result
+abbrev pub listCauses : ℕ → List ℕ → List ℕ → List ℕ → ℕ → List Cause
+listCauses m list a b wires =
+    fewWords list
+    ∷ otherWidth m list
+    ∷ badWords m list
+    ∷ badWires m list wires
+    ∷ highBit m a
+    ∷ highBit m b
+    ∷ badGates m list
+    ∷ []
+
+-- the value of the output wire for r
+abbrev pub onOutput : List ℕ → List ℕ → ℕ → ℕ
+onOutput wires list = λ r. valueOn wires (outputAt list r)
+
+-- the first n values are "0 or 1"
+pub record AreBits (n : ℕ) (values : List ℕ) : Type 0 where
+  pub bit : (k : ℕ) → k < n → valueOn values k < 2
+
+-- g gates whose wires are earlier, and a byte per wire
+pub record HasGates (m g : ℕ) (list wires : List ℕ) : Type 0 where
+  pub least : 1 ≤ m
+  pub greatest : m ≤ maxWidth
+  pub bytePerWire : length wires ≡ 2 * m + g
+  pub good : every g (isGate m list) ≡ true
+
+-- output wires that are there, and a byte per wire
+pub record HasOutputs (m : ℕ) (list wires : List ℕ) : Type 0 where
+  pub greatest : m ≤ maxWidth
+  pub bytePerWire : length wires ≡ 2 * m + gateCount list
+  pub present : every m (isOutput m list) ≡ true

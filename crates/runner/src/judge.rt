@@ -1,0 +1,163 @@
+// What running judges before it writes: widths, lengths, the list's words, high bits, every gate and every output wire.
+// Each part is judged only where those before it give no fault. Sizes are worked out only for a width that has passed: of any
+// other they may be more than a usize holds.
+ghost use mathlib.Core.Path.{_≡_};
+ghost use mathlib.Core.List.{[], _∷_};
+ghost use Prim.Native.Nat.{_<_, _≤_};
+ghost use Rattle.gf2.specs.Sums.{every};
+ghost use Rattle.gf2.specs.Operands.{maxWidth};
+ghost use Rattle.judging.specs.Causes.{faultOf};
+ghost use Rattle.netlist.specs.Gates.{wordLimit};
+ghost use Rattle.netlist.specs.Running.{gateCount};
+ghost use Rattle.netlist.specs.Judgements.{isGate, isOutput};
+ghost use Rattle.runner.specs.Causes.{badGates};
+ghost use Rattle.runner.specs.Inner.{widthCauses, lengthCauses, carriedCauses, wordCauses, listCauses};
+use crate::words;
+use judging::Fault;
+use judging::is_none;
+use judging::judge_high;
+use judging::judge_length;
+use judging::judge_width;
+
+// The width given, and those carried.
+fn judge_widths(width: usize, a: usize, b: usize) -> Fault
+    ensures { λ r. ⌜ r ≡ faultOf (widthCauses width a b) ⌝ }
+{
+    let given = judge_width(width);
+    if !is_none(given) {
+        return given;
+    }
+    let left = judge_width(a);
+    if !is_none(left) {
+        return left;
+    }
+    judge_width(b)
+}
+
+// Carried widths as the one given, and the length of a result.
+fn judge_lengths(width: usize, a: usize, b: usize, result: usize) -> Fault
+    ensures { λ r. ⌜ r ≡ faultOf (lengthCauses width a b result) ⌝ }
+{
+    let left = judge_length(a, width);
+    if !is_none(left) {
+        return left;
+    }
+    let right = judge_length(b, width);
+    if !is_none(right) {
+        return right;
+    }
+    judge_length(result, limbs::bytes_for(width))
+}
+
+pub(crate) fn judge_carried(width: usize, a: usize, b: usize, result: usize) -> Fault
+    ensures { λ r. ⌜ r ≡ faultOf (carriedCauses width a b result) ⌝ }
+{
+    let widths = judge_widths(width, a, b);
+    if !is_none(widths) {
+        return widths;
+    }
+    judge_lengths(width, a, b, result)
+}
+
+fn judge_words(width: usize, list: &[u32], wires: usize) -> Fault
+    requires { ⌜ width ≤ maxWidth ⌝ }
+    ensures { λ r. ⌜ r ≡ faultOf (wordCauses width (now (list .entry)) wires) ⌝ }
+{
+    if list.len() < 2 {
+        return Fault::Length;
+    }
+    let g = words::word(list, 1);
+    let first = judge_length(words::word(list, 0), width);
+    if !is_none(first) {
+        return first;
+    }
+    let all = judge_length(list.len(), 2 + 3 * g + width);
+    if !is_none(all) {
+        return all;
+    }
+    judge_length(wires, 2 * width + g)
+}
+
+fn is_gate(width: usize, list: &[u32], k: usize) -> bool
+    requires { ⌜ (width ≤ maxWidth) × (k < wordLimit) ⌝ }
+    ensures { λ r. ⌜ r ≡ isGate width (now (list .entry)) k ⌝ }
+{
+    let own = 2 * width + k;
+    let at = 2 + 3 * k;
+    if 1 < words::word(list, at) {
+        return false;
+    }
+    if own <= words::word(list, at + 1) {
+        return false;
+    }
+    words::word(list, at + 2) < own
+}
+
+fn are_gates(width: usize, list: &[u32], g: usize) -> bool
+    requires { ⌜ (width ≤ maxWidth) × (g < wordLimit) ⌝ }
+    ensures { λ r. ⌜ r ≡ every g (isGate width (now (list .entry))) ⌝ }
+{
+    let mut k = 0;
+    while k < g {
+        if !is_gate(width, list, k) {
+            return false;
+        }
+        k += 1;
+    }
+    true
+}
+
+fn are_outputs(width: usize, list: &[u32], g: usize) -> bool
+    requires { ⌜ (width ≤ maxWidth) × (g < wordLimit) × (g ≡ gateCount (now list)) ⌝ }
+    ensures { λ r. ⌜ r ≡ every width (isOutput width (now (list .entry))) ⌝ }
+{
+    let mut r = 0;
+    while r < width {
+        if 2 * width + g <= words::word(list, 2 + 3 * g + r) {
+            return false;
+        }
+        r += 1;
+    }
+    true
+}
+
+fn judge_gates(width: usize, list: &[u32]) -> Fault
+    requires { ⌜ width ≤ maxWidth ⌝ }
+    ensures { λ r. ⌜ r ≡ faultOf (badGates width (now (list .entry)) ∷ []) ⌝ }
+{
+    let g = words::word(list, 1);
+    if !are_gates(width, list, g) {
+        return Fault::BadGate;
+    }
+    if are_outputs(width, list, g) {
+        Fault::None
+    } else {
+        Fault::BadGate
+    }
+}
+
+// All that is left where the sizes of operands and result have passed.
+pub(crate) fn judge_list(
+    width: usize,
+    list: &[u32],
+    x: [u8; limbs::BYTES],
+    y: [u8; limbs::BYTES],
+    wires: usize,
+) -> Fault
+    requires { ⌜ width ≤ maxWidth ⌝ }
+    ensures { λ r. ⌜ r ≡ faultOf (listCauses width (now (list .entry)) x y wires) ⌝ }
+{
+    let words = judge_words(width, list, wires);
+    if !is_none(words) {
+        return words;
+    }
+    let left = judge_high(x, width);
+    if !is_none(left) {
+        return left;
+    }
+    let right = judge_high(y, width);
+    if !is_none(right) {
+        return right;
+    }
+    judge_gates(width, list)
+}
