@@ -17,8 +17,8 @@ use Rattle.operand.proofs.FaultFree.{carry, width-none, length-none}
 use Rattle.table.proofs.Searches.{none-true}
 use Rattle.netlist.specs.Gates.{Netlist}
 use Rattle.netlist.specs.Running.{gateCount, readList, inputs, run, valueOn, wires, result}
-use Rattle.netlist.specs.Judgements.{widthsFault, wordsFault, lengthsFault, bitsFault, gatesFault, runFault}
-use Rattle.netlist.specs.Calls.{runResult, runWires}
+use Rattle.runner.specs.Judgements.{wordsFault, gatesFault, runFault}
+use Rattle.runner.specs.Calls.{runResult, runWires}
 use Rattle.nb.specs.Judgements.{runBytesFault}
 use Rattle.nb.specs.Inner.{twoSizes, carriedAs}
 use Rattle.gf2.proofs.Carrying.{HasBytes, same-coord}

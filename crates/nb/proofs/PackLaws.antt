@@ -25,7 +25,8 @@ use Rattle.operand.proofs.FaultLaws.{none-is, number-most, when-keeps, or-keeps
 use Rattle.table.specs.Judgements.{rowsFault, shapeFault, rowZeroFault, rowPairFault, tripleFault, rowSumFault, symmetryFault, checkFault}
 use Rattle.table.proofs.Searches.{none-true}
 use Rattle.netlist.specs.Running.{gateCount}
-use Rattle.netlist.specs.Judgements.{wordsFault, isGate, isOutput, gatesFault}
+use Rattle.netlist.specs.Judgements.{isGate, isOutput}
+use Rattle.runner.specs.Judgements.{wordsFault, gatesFault}
 use Rattle.gaussian.specs.Types.{typeOf}
 use Rattle.gaussian.specs.Calls.{typeFault}
 use Rattle.nb.specs.Packing.{packed, packedFault, packedAnswer, valueLimit, Small, Packs, Unpacks}

@@ -12,7 +12,7 @@ use Rattle.operand.specs.Causes.{constantCauses, turnBytesCauses, sumBytesCause
 use Rattle.operand.specs.Judgements.{widthFault, lengthFault, highFault}
 use Rattle.table.specs.Judgements.{rowsFault, rowZeroFault, rowPairFault}
 use Rattle.netlist.specs.Running.{gateCount}
-use Rattle.netlist.specs.Judgements.{wordsFault, gatesFault}
+use Rattle.runner.specs.Judgements.{wordsFault, gatesFault}
 
 -- zero and one: 1 and 2
 abbrev pub constantBytesFault : ℕ → List ℕ → Fault

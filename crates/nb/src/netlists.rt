@@ -77,7 +77,7 @@ pub extern "C" fn nb_run(
     if !judging::is_none(sizes) {
         return packing::answer(sizes, 0, 0);
     }
-    let fault = netlist::run(
+    let fault = runner::run(
         m,
         list,
         bytes::carry(m, a),

@@ -12,7 +12,7 @@ use Rattle.operand.specs.Judgements.{operandFault, pairFault}
 use Rattle.operand.specs.Calls.{answer, traceAnswer}
 use Rattle.table.proofs.Searches.{none-true}
 use Rattle.product.specs.Judgements.{productFault, reducedFault, zeroFault, inverseFault}
-use Rattle.netlist.specs.Judgements.{widthsFault, lengthsFault, bitsFault, runFault}
+use Rattle.runner.specs.Judgements.{runFault}
 use Rattle.judging.specs.Causes.{Cause, faultOf}
 use Rattle.operand.specs.Causes.{turnCauses, solveCauses}
 use Rattle.judging.specs.FaultTable.{turnTooFar, isZero, traceIsOne, ruleCauses}

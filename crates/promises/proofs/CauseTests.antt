@@ -15,7 +15,8 @@ use Rattle.operand.specs.Faults.{when}
 use Rattle.operand.specs.Judgements.{widthFault, lengthFault, highFault}
 use Rattle.table.specs.Judgements.{rowsFault, shapeFault, rowZeroFault, rowPairFault, tripleFault, rowSumFault, symmetryFault, checkFault}
 use Rattle.netlist.specs.Running.{gateCount}
-use Rattle.netlist.specs.Judgements.{wordsFault, gatesFault, outputFault}
+use Rattle.netlist.specs.Judgements.{outputFault}
+use Rattle.runner.specs.Judgements.{wordsFault, gatesFault}
 use Rattle.nb.specs.Judgements.{zeroBytesFault}
 use Rattle.gaussian.specs.Types.{typeOf}
 use Rattle.gaussian.specs.Calls.{typeFault}

@@ -20,9 +20,10 @@ use Rattle.table.specs.Judgements.{rowsFault, rowZeroFault, rowPairFault, shape
 use Rattle.table.proofs.Searches.{same-correct, none-true}
 use Rattle.netlist.specs.Gates.{Netlist, words}
 use Rattle.netlist.specs.Running.{gateCount}
-use Rattle.netlist.specs.Judgements.{widthsFault, wordsFault, lengthsFault, bitsFault, gatesFault, runFault, outputFault}
+use Rattle.netlist.specs.Judgements.{outputFault}
+use Rattle.runner.specs.Judgements.{wordsFault, gatesFault, runFault}
 use Rattle.netlist.specs.Calls.{listFault}
-use Rattle.netlist.specs.Statements.{Runs}
+use Rattle.runner.specs.Statements.{Runs}
 use Rattle.nb.specs.Judgements.{productBytesFault, reducedBytesFault, zeroBytesFault, inverseBytesFault, runBytesFault}
 
 -- each of several faults is none

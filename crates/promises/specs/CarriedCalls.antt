@@ -16,8 +16,8 @@ use Rattle.judging.specs.declared.fault.Fault.the-variants.{None}
 use Rattle.operand.specs.Calls.{noOperand, zeroCall, oneCall, turnCall, squareCall, sumCall, traceCall, solveCall}
 use Rattle.product.specs.Calls.{productCall, reducedCall, inverseCall}
 use Rattle.netlist.specs.Running.{gateCount, readList, wires as wiresOf, result as resultOf}
-use Rattle.netlist.specs.Judgements.{runFault}
-use Rattle.netlist.specs.Calls.{runResult, runWires}
+use Rattle.runner.specs.Judgements.{runFault}
+use Rattle.runner.specs.Calls.{runResult, runWires}
 use Rattle.judging.specs.Causes.{Cause, Exact}
 use Rattle.judging.specs.FaultTable.{badWidth, badLength, highBit, highBitInRow, turnTooFar, isZero, traceIsOne, notTable, ruleCauses}
 use Rattle.promises.specs.Causes.{fewWords, badGates}

@@ -17,7 +17,7 @@ use Rattle.operand.proofs.CallLaws.{high-same}
 use Rattle.netlist.specs.Running.{gateCount}
 use Rattle.netlist.specs.Judgements.{isGate, isOutput}
 use Rattle.runner.specs.Causes.{badGates}
-use Rattle.runner.specs.Inner.{wordCauses, listCauses}
+use Rattle.runner.specs.Inner.{wordCauses, bitCauses, listCauses}
 
 module _ (m : ℕ) (list : List ℕ) where
   pub gates-bad : every (gateCount list) (isGate m list) ≡ false → BadGate ≡ faultOf (badGates m list ∷ [])
@@ -50,8 +50,9 @@ same-before [] ds es e = e
 same-before (c ∷ cs) ds es e = same-head c c (cs ++ ds) (cs ++ es) refl refl (λ q. same-before cs ds es e)
 
 -- bits may be judged on the carried bytes
-pub list-carried : {m : ℕ} {a b : List ℕ} → HasBytes m a → HasBytes m b → (list : List ℕ) (wires : ℕ) →
-    faultOf (listCauses m list (carriedBy a) (carriedBy b) wires) ≡ faultOf (listCauses m list a b wires)
-list-carried {m} {a} {b} h k list wires =
-    same-before (wordCauses m list wires) (highBit m (carriedBy a) ∷ highBit m (carriedBy b) ∷ badGates m list ∷ []) (highBit m a ∷ highBit m b ∷ badGates m list ∷ [])
+pub list-carried : {m : ℕ} {a b x y : List ℕ} → HasBytes m a → HasBytes m b → x ≡ carriedBy a → y ≡ carriedBy b → (list : List ℕ) (wires : ℕ) →
+    faultOf (listCauses m list x y wires) ≡ faultOf (listCauses m list a b wires)
+list-carried {m} {a} {b} h k ex ey list wires =
+    ap₂ (λ x y. faultOf (listCauses m list x y wires)) ex ey
+    ∙ same-before (wordCauses m list wires) (bitCauses m list (carriedBy a) (carriedBy b)) (bitCauses m list a b)
     (high-same h (highBit m (carriedBy b) ∷ badGates m list ∷ []) (highBit m b ∷ badGates m list ∷ []) (λ q. high-same k (badGates m list ∷ []) (badGates m list ∷ []) (λ r. refl)))

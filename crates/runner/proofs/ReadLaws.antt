@@ -9,13 +9,15 @@ use lib.Seq.{getD-append-add, ext-getD}
 use borrow.Author.Tests.{lt-ltb, le-ltb, le-leb}
 use Rattle.gf2.specs.Sums.{every}
 use Rattle.gf2.specs.Coordinates.{tabulate}
-use Rattle.gf2.specs.Operands.{maxWidth, bytesFor, carriedBytes, IsOperand}
+use Rattle.gf2.specs.Operands.{bytesFor, carriedBytes, IsOperand}
 use Rattle.gf2.proofs.Sums.{every-of}
 use Rattle.gf2.proofs.Coordinates.{length-tabulate, getD-tabulate}
 use Rattle.operand.specs.declared.Operand.{Operand}
 use Rattle.judging.specs.declared.fault.Fault.the-variants.{None}
 use Rattle.judging.specs.Causes.{faultOf}
-use Rattle.judging.proofs.CauseLaws.{none-given}
+use Rattle.judging.specs.FaultTable.{badWidth, notW}
+use Rattle.judging.proofs.CauseLaws.{Fine, none-given}
+use Rattle.judging.proofs.Searches.{fine-append}
 use Rattle.judging.proofs.Passed.{IsWidth, width-passes, length-passes, operand-passes}
 use Rattle.netlist.specs.Gates.{Gate, AND, XOR, Netlist, gateWords, words}
 use Rattle.netlist.specs.Lists.{each}
@@ -24,7 +26,8 @@ use Rattle.netlist.specs.Judgements.{isGate, isOutput}
 use Rattle.netlist.proofs.FoldLaws.{Earlier, below-at}
 use Rattle.netlist.proofs.ListLaws.{Sound}
 use Rattle.netlist.proofs.WordLaws.{length-words, size-words}
-use Rattle.runner.specs.Causes.{runCauses}
+use Rattle.runner.specs.Causes.{runCauses, runBytesCauses}
+use Rattle.runner.specs.Inner.{lengthCauses, carriedCauses, bitCauses, listCauses}
 use Rattle.runner.specs.Statements.{Runs}
 use Rattle.runner.proofs.JudgeLaws.{gates-pass}
 
@@ -126,50 +129,32 @@ module _ (m : ℕ) (list : Netlist) where
     unfolding isOutput
     output-good r l = rw (words-output r, words-count) (lt-ltb _ (2 * m + g) (below-at _ (list .outputs) r (sound .present) (omega (arith, sound .size))))
 
-    good : (a b : Operand) → IsWidth m → a .width ≡ m → b .width ≡ m → IsOperand carriedBytes m (a .bytes) → IsOperand carriedBytes m (b .bytes) → faultOf (runCauses m W a b (bytesFor m) (2 * m + g)) ≡ None
-    good a b w wa wb oa ob = none-given (runCauses m W a b (bytesFor m) (2 * m + g)) (
-      width-passes m w,
-      (
-        rw wa (width-passes m w),
-        (
-          rw wb (width-passes m w),
-          (
-            length-passes (a .width) m wa,
-            (
-              length-passes (b .width) m wb,
-              (
-                length-passes (bytesFor m) (bytesFor m) refl,
-                (
-                  le-ltb (length W) 2 (omega (arith, size-words m list (sound .size))),
-                  (
-                    length-passes (getD W 0 0) m (unfold words in refl),
-                    (
-                      length-passes (length W) (2 + 3 * gateCount W + m) (size-words m list (sound .size) ∙ ap (λ k. 2 + 3 * k + m) (sym words-count)),
-                      (
-                        length-passes (2 * m + g) (2 * m + gateCount W) (ap (λ k. 2 * m + k) (sym words-count)),
-                        (
-                          operand-passes m (a .bytes) oa,
-                          (
-                            operand-passes m (b .bytes) ob,
-                            (
-                              gates-pass m W (ap (λ k. every k (isGate m W)) words-count ∙ every-of g (isGate m W) gate-good) (every-of m (isOutput m W) output-good),
-                              tt,
-                            ),
-                          ),
-                        ),
-                      ),
-                    ),
-                  ),
-                ),
-              ),
-            ),
-          ),
-        ),
-      ),
-    )
+    -- what is judged after the sizes of operands and result
+    list-good : (a b : List ℕ) {n size : ℕ} → IsOperand n m a → IsOperand n m b → size ≡ 2 * m + g → Fine (listCauses m W a b size)
+    list-good a b {size = size} oa ob e =
+        let gates = gates-pass m W (ap (λ k. every k (isGate m W)) words-count ∙ every-of g (isGate m W) gate-good) (every-of m (isOutput m W) output-good) in
+        let bits : Fine (bitCauses m W a b) = (operand-passes m a oa, (operand-passes m b ob, (gates, tt))) in
+        let all = length-passes (length W) (2 + 3 * gateCount W + m) (size-words m list (sound .size) ∙ ap (λ k. 2 + 3 * k + m) (sym words-count)) in
+        let lent = length-passes size (2 * m + gateCount W) (e ∙ ap (λ k. 2 * m + k) (sym words-count)) in
+        (le-ltb (length W) 2 (omega (arith, size-words m list (sound .size))), (length-passes (getD W 0 0) m (unfold words in refl), (all, (lent, bits))))
+
+    module _ (w : IsWidth m) where
+      carried-good : (a b : Operand) → a .width ≡ m → b .width ≡ m → IsOperand carriedBytes m (a .bytes) → IsOperand carriedBytes m (b .bytes) → faultOf (runCauses m W a b (bytesFor m) (2 * m + g)) ≡ None
+      carried-good a b wa wb oa ob =
+          let lengths : Fine (lengthCauses m (a .width) (b .width) (bytesFor m)) = (length-passes (a .width) m wa, (length-passes (b .width) m wb, (length-passes (bytesFor m) (bytesFor m) refl, tt))) in
+          none-given (runCauses m W a b (bytesFor m) (2 * m + g))
+          (fine-append (carriedCauses m a b (bytesFor m)) (listCauses m W (a .bytes) (b .bytes) (2 * m + g))
+          (width-passes m w, (rw wa (width-passes m w), (rw wb (width-passes m w), lengths))) (list-good (a .bytes) (b .bytes) oa ob refl))
+
+      bytes-good : (a b old lent : List ℕ) → IsOperand (bytesFor m) m a → IsOperand (bytesFor m) m b → length old ≡ bytesFor m → length lent ≡ 2 * m + g → faultOf (runBytesCauses m W a b old lent) ≡ None
+      bytes-good a b old lent oa ob room size =
+          let lengths : Fine (notW m a ∷ notW m b ∷ notW m old ∷ []) = (length-passes (length a) (bytesFor m) (oa .size), (length-passes (length b) (bytesFor m) (ob .size), (length-passes (length old) (bytesFor m) room, tt))) in
+          none-given (runBytesCauses m W a b old lent)
+          (fine-append (badWidth m ∷ notW m a ∷ notW m b ∷ notW m old ∷ []) (listCauses m W a b (length lent)) (width-passes m w, lengths) (list-good a b oa ob size))
 
     pub words-run : 2 ≤ m → Runs m list
     words-run two = record {
       readBack = read-back;
-      noFault = λ a b great. good a b (record { least = two; greatest = great });
+      noFault = λ great. carried-good (record { least = two; greatest = great });
+      noBytesFault = λ great. bytes-good (record { least = two; greatest = great });
     }

@@ -1,4 +1,5 @@
--- Laws of the runner: tests of every gate and output, the value of a gate on bits, and the loop that fills the wires of the gates.
+-- Laws of the runner: tests of every gate and output, the value of a gate on bits, the loop that fills the wires of the gates, and the
+-- buffers after a call.
 use mathlib.Core.Path.{_≡_, refl, sym, ap, ap₂, _∙_}
 use mathlib.Core.Bool.{true, false}
 use mathlib.Core.List.{List, [], _∷_, _++_, append-assoc}
@@ -16,16 +17,19 @@ use borrow.Author.Tests.{ltb-true, lt-ltb, le-ltb, le-leb, lt-leb}
 use Rattle.gf2.specs.Sums.{every}
 use Rattle.gf2.specs.Coordinates.{coord, value, tabulate}
 use Rattle.gf2.proofs.Sums.{every-at}
-use Rattle.gf2.specs.Operands.{carriedBy, fromCoords}
+use Rattle.gf2.specs.Operands.{bytesFor, choose, carriedBy, fromCoords}
 use Rattle.gf2.proofs.Coordinates.{value-lt, length-tabulate, getD-tabulate}
 use Rattle.gf2.proofs.Operands.{from-ext}
 use Rattle.gf2.proofs.Carrying.{HasBytes, same-coord}
 use Rattle.gf2.proofs.Parity.{and-both}
-use Rattle.netlist.specs.Gates.{Gate, Netlist}
+use Rattle.judging.specs.declared.fault.Fault.{Fault}
+use Rattle.judging.specs.Faults.{isNone}
+use Rattle.netlist.specs.Gates.{Gate}
 use Rattle.netlist.specs.Lists.{each}
 use Rattle.netlist.specs.Running.{applied, gateValue, valueOn, run, inputs, wires, result, gateOf, kindAt, leftAt, rightAt, gateCount, outputAt, gatesTo, readList}
 use Rattle.netlist.specs.Judgements.{isGate, isOutput}
-use Rattle.runner.specs.Inner.{AreBits, onOutput}
+use Rattle.runner.specs.Calls.{runBytesResult, runBytesWires}
+use Rattle.runner.specs.Inner.{AreBits, gateAt, onOutput}
 use Rattle.netlist.proofs.SumLaws.{sum-next}
 use Rattle.netlist.proofs.FoldLaws.{Bits, run-length, run-bits, length-single}
 use Rattle.netlist.proofs.NetlistLaws.{length-inputs, inputs-bits}
@@ -57,10 +61,10 @@ module _ (m : ℕ) (list : List ℕ) where
   output-there e r l = ltb-true _ _ (every-at m (isOutput m list) e r l)
 
   -- the wires of a gate that has passed
-  pub gate-wires : (g : ℕ) → every g (isGate m list) ≡ true → (k : ℕ) → k < g → (leftAt list k < 2 * m + k) × (rightAt list k < 2 * m + k)
+  pub gate-wires : (k : ℕ) → isGate m list k ≡ true → (leftAt list k < 2 * m + k) × (rightAt list k < 2 * m + k)
   unfolding isGate
-  gate-wires g e k l =
-      let x = and-both (ltb (leftAt list k) (2 * m + k)) _ (and-both (leb (kindAt list k) 1) _ (every-at g (isGate m list) e k l) .1) in
+  gate-wires k e =
+      let x = and-both (ltb (leftAt list k) (2 * m + k)) _ (and-both (leb (kindAt list k) 1) _ e .1) in
       (ltb-true _ _ (x .0), ltb-true _ _ (x .1))
 
 -- the value of a gate on bits
@@ -120,15 +124,15 @@ module _ (m : ℕ) (list w : List ℕ) where
     unfolding filledTo
     filled-read k l h = List·getD-append (ranTo k) _ 0 l (rw (length-ran k) h)
 
-    pub filled-bit : (k l : ℕ) → l < 2 * m + k → valueOn (filledTo k) l < 2
-    filled-bit k l h = rw (filled-read k l h) (unfold ranTo in run-bits (gatesTo list k) (take (2 * m) w) bits-start l)
+    pub filled-bits : (k : ℕ) → AreBits (2 * m + k) (filledTo k)
+    filled-bits k = record { bit = λ l h. rw (filled-read k l h) (unfold ranTo in run-bits (gatesTo list k) (take (2 * m) w) bits-start l) }
 
     -- one gate more
-    pub filled-more : (k : ℕ) → 2 * m + k < length w → leftAt list k < 2 * m + k → rightAt list k < 2 * m + k → (x : ℕ) →
-        x ≡ applied (kindAt list k) (valueOn (filledTo k) (leftAt list k)) (valueOn (filledTo k) (rightAt list k)) → set (filledTo k) (2 * m + k) x ≡ filledTo (k + 1)
+    pub filled-more : (k : ℕ) → 2 * m + k < length w → isGate m list k ≡ true → (x : ℕ) → x ≡ gateAt list k (filledTo k) → set (filledTo k) (2 * m + k) x ≡ filledTo (k + 1)
     unfolding filledTo ranTo
-    filled-more k h hl hr x e =
-        ap (set (filledTo k) (2 * m + k)) (e ∙ ap₂ (applied (kindAt list k)) (filled-read k (leftAt list k) hl) (filled-read k (rightAt list k) hr) ∙ applied-gate (valueOn (ranTo k)) (kindAt list k) (leftAt list k) (rightAt list k))
+    filled-more k h good x e =
+        let l = gate-wires m list k good in
+        ap (set (filledTo k) (2 * m + k)) (e ∙ ap₂ (applied (kindAt list k)) (filled-read k (leftAt list k) (l .0)) (filled-read k (rightAt list k) (l .1)) ∙ applied-gate (valueOn (ranTo k)) (kindAt list k) (leftAt list k) (rightAt list k))
         ∙ place ∙ ap₂ _++_ (sym next) (ap (λ z. drop z w) there)
       where
         y : ℕ
@@ -183,17 +187,36 @@ module _ (m : ℕ) (a b w : List ℕ) (fits : 2 * m ≤ length w) where
   wires-filled list w′ out g e h k = h ∙ ap₂ (λ n z. run (gatesTo list n) z) k (ap (take (2 * m)) e ∙ take-inputs)
 
 -- the result of words that are run
-pub result-read : (n m : ℕ) (list a b : List ℕ) →
+result-read : (n m : ℕ) (list a b : List ℕ) →
     fromCoords n m (onOutput (wires m (readList list m) a b) list) ≡ result n m (readList list m) a b
 unfolding result
 result-read n m list a b = from-ext n m _ _ (λ r l. ap (λ w. valueOn (wires m (readList list m) a b) w % 2) (sym (unfold readList in getD-tabulate m (outputAt list) r l)))
 
--- running looks at coordinates alone
-module _ {m : ℕ} {a b : List ℕ} (h : HasBytes m a) (k : HasBytes m b) (list : Netlist) where
-  pub wires-carried : wires m list (carriedBy a) (carriedBy b) ≡ wires m list a b
-  unfolding wires inputs
-  wires-carried = ap₂ (λ f g. run (list .gates) (tabulate m f ++ tabulate m g)) (same-coord h) (same-coord k)
+-- the buffers after a call: with a fault, and without
+module _ (f : Fault) (m : ℕ) (list a b old : List ℕ) where
+  module _ (some : isNone f ≡ false) where
+    pub kept-result : old ≡ runBytesResult f m list a b old
+    kept-result = rw some
 
-  pub result-carried : (n : ℕ) → result n m list (carriedBy a) (carriedBy b) ≡ result n m list a b
+    pub kept-wires : old ≡ runBytesWires f m list a b old
+    kept-wires = rw some
+
+  module _ {w : List ℕ} (none : isNone f ≡ true) (e : w ≡ wires m (readList list m) a b) where
+    pub ran-wires : w ≡ runBytesWires f m list a b old
+    ran-wires = rw none e
+
+    pub ran-result : {z : List ℕ} → z ≡ fromCoords (bytesFor m) m (onOutput w list) → z ≡ runBytesResult f m list a b old
+    ran-result h = rw none (h ∙ ap (λ v. fromCoords (bytesFor m) m (onOutput v list)) e ∙ result-read (bytesFor m) m list a b)
+
+-- running looks at coordinates alone: operands of W bytes may be carried
+module _ {m : ℕ} {a b x y : List ℕ} (h : HasBytes m a) (k : HasBytes m b) (ex : x ≡ carriedBy a) (ey : y ≡ carriedBy b) (f : Fault) (list old : List ℕ) where
+  wires-carried : wires m (readList list m) x y ≡ wires m (readList list m) a b
+  unfolding wires inputs
+  wires-carried = ap₂ (λ f g. run (readList list m .gates) (tabulate m f ++ tabulate m g)) (ap coord ex ∙ same-coord h) (ap coord ey ∙ same-coord k)
+
+  pub bytes-wires : {z : List ℕ} → z ≡ runBytesWires f m list x y old → z ≡ runBytesWires f m list a b old
+  bytes-wires e = e ∙ ap (λ w. choose (isNone f) w old) wires-carried
+
+  pub bytes-result : {z : List ℕ} → z ≡ runBytesResult f m list x y old → z ≡ runBytesResult f m list a b old
   unfolding result
-  result-carried n = ap (λ w. fromCoords n m (λ r. valueOn w (getD (list .outputs) r 0))) wires-carried
+  bytes-result e = e ∙ ap (λ w. choose (isNone f) (fromCoords (bytesFor m) m (λ r. valueOn w (getD (readList list m .outputs) r 0))) old) wires-carried

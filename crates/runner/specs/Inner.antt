@@ -1,14 +1,16 @@
 -- What only inner functions cite: the parts of the causes, and what the filling of wires and result is given.
 use mathlib.Core.Path.{_≡_}
 use mathlib.Core.Bool.{true}
-use mathlib.Core.List.{List, [], _∷_}
-use Prim.Native.Nat.{ℕ, _+_, _*_, _<_, _≤_}
-use lib.ListN.{length}
+use mathlib.Core.List.{List, [], _∷_, _++_}
+use Prim.Native.Nat.{ℕ, _+_, _-_, _*_, _<_, _≤_}
+use lib.ListN.{length, getD}
 use Rattle.gf2.specs.Sums.{every}
 use Rattle.gf2.specs.Operands.{maxWidth, bytesFor}
 use Rattle.judging.specs.Causes.{Cause}
 use Rattle.judging.specs.FaultTable.{badWidth, badLength, highBit}
-use Rattle.netlist.specs.Running.{valueOn, gateCount, outputAt}
+use Rattle.operand.specs.declared.Operand.{Operand}
+use Rattle.netlist.specs.Gates.{wordLimit}
+use Rattle.netlist.specs.Running.{applied, valueOn, kindAt, leftAt, rightAt, gateCount, outputAt}
 use Rattle.netlist.specs.Judgements.{isGate, isOutput}
 use Rattle.runner.specs.Causes.{fewWords, otherWidth, badWords, badWires, badGates}
 
@@ -19,9 +21,8 @@ widthCauses m a b = badWidth m ∷ badWidth a ∷ badWidth b ∷ []
 abbrev pub lengthCauses : ℕ → ℕ → ℕ → ℕ → List Cause
 lengthCauses m a b result = badLength a m ∷ badLength b m ∷ badLength result (bytesFor m) ∷ []
 
-abbrev pub carriedCauses : ℕ → ℕ → ℕ → ℕ → List Cause
-carriedCauses m a b result =
-    badWidth m ∷ badWidth a ∷ badWidth b ∷ badLength a m ∷ badLength b m ∷ badLength result (bytesFor m) ∷ []
+abbrev pub carriedCauses : ℕ → Operand → Operand → ℕ → List Cause
+carriedCauses m a b result = widthCauses m (a .width) (b .width) ++ lengthCauses m (a .width) (b .width) result
 
 -- the words of a list, and the length of the buffer for its wires
 abbrev pub wordCauses : ℕ → List ℕ → ℕ → List Cause
@@ -33,15 +34,7 @@ bitCauses m list a b = highBit m a ∷ highBit m b ∷ badGates m list ∷ []
 
 -- all that is judged after the sizes of operands and result
 abbrev pub listCauses : ℕ → List ℕ → List ℕ → List ℕ → ℕ → List Cause
-listCauses m list a b wires =
-    fewWords list
-    ∷ otherWidth m list
-    ∷ badWords m list
-    ∷ badWires m list wires
-    ∷ highBit m a
-    ∷ highBit m b
-    ∷ badGates m list
-    ∷ []
+listCauses m list a b wires = wordCauses m list wires ++ bitCauses m list a b
 
 -- the value of the output wire for r
 abbrev pub onOutput : List ℕ → List ℕ → ℕ → ℕ
@@ -50,6 +43,19 @@ onOutput wires list = λ r. valueOn wires (outputAt list r)
 -- the first n values are "0 or 1"
 pub record AreBits (n : ℕ) (values : List ℕ) : Type 0 where
   pub bit : (k : ℕ) → k < n → valueOn values k < 2
+
+-- the value of gate k, from those of the wires
+abbrev pub gateAt : List ℕ → ℕ → List ℕ → ℕ
+gateAt list k values = applied (kindAt list k) (valueOn values (leftAt list k)) (valueOn values (rightAt list k))
+
+-- gate k is good, the wires before its own are filled, and the last of them is at hand
+pub record IsNext (m : ℕ) (list : List ℕ) (k : ℕ) (values : List ℕ) (last : ℕ) : Type 0 where
+  pub greatest : m ≤ maxWidth
+  pub few : k < wordLimit
+  pub good : isGate m list k ≡ true
+  pub room : 2 * m + k ≤ length values
+  pub bits : AreBits (2 * m + k) values
+  pub atHand : last ≡ getD values (2 * m + k - 1) 0
 
 -- g gates whose wires are earlier, and a byte per wire
 pub record HasGates (m g : ℕ) (list wires : List ℕ) : Type 0 where

@@ -13,13 +13,17 @@ use Rattle.operand.specs.declared.Operand.{Operand}
 use Rattle.netlist.specs.Gates.{Netlist, words}
 use Rattle.netlist.specs.Lists.{plain, reduced, common}
 use Rattle.netlist.specs.Running.{readList}
-use Rattle.runner.specs.Causes.{runCauses}
+use Rattle.runner.specs.Causes.{runCauses, runBytesCauses}
 
 pub record Runs (m : ℕ) (list : Netlist) : Type 0 where
   pub readBack : readList (words m list) m ≡ list
-  pub noFault : (a b : Operand) → m ≤ maxWidth → a .width ≡ m → b .width ≡ m →
+  -- on operands of this width, carried and of W bytes, with buffers of the lengths laid down
+  pub noFault : m ≤ maxWidth → (a b : Operand) → a .width ≡ m → b .width ≡ m →
       IsOperand carriedBytes m (a .bytes) → IsOperand carriedBytes m (b .bytes) →
       faultOf (runCauses m (words m list) a b (bytesFor m) (2 * m + length (list .gates))) ≡ None
+  pub noBytesFault : m ≤ maxWidth → (a b old lent : List ℕ) → IsOperand (bytesFor m) m a → IsOperand (bytesFor m) m b →
+      length old ≡ bytesFor m → length lent ≡ 2 * m + length (list .gates) →
+      faultOf (runBytesCauses m (words m list) a b old lent) ≡ None
 
 pub record ListsRun (m : ℕ) (table : List ℕ) : Type 0 where
   pub ofPlain : Runs m (plain m table)

@@ -18,6 +18,7 @@ use judging::is_none;
 use judging::judge_high;
 use judging::judge_length;
 use judging::judge_width;
+use operand::Operand;
 
 // The width given, and those carried.
 fn judge_widths(width: usize, a: usize, b: usize) -> Fault
@@ -49,14 +50,16 @@ fn judge_lengths(width: usize, a: usize, b: usize, result: usize) -> Fault
     judge_length(result, limbs::bytes_for(width))
 }
 
-pub(crate) fn judge_carried(width: usize, a: usize, b: usize, result: usize) -> Fault
+pub(crate) fn judge_carried(width: usize, a: Operand, b: Operand, result: usize) -> Fault
     ensures { λ r. ⌜ r ≡ faultOf (carriedCauses width a b result) ⌝ }
 {
-    let widths = judge_widths(width, a, b);
+    let m = a.width as usize;
+    let n = b.width as usize;
+    let widths = judge_widths(width, m, n);
     if !is_none(widths) {
         return widths;
     }
-    judge_lengths(width, a, b, result)
+    judge_lengths(width, m, n, result)
 }
 
 fn judge_words(width: usize, list: &[u32], wires: usize) -> Fault

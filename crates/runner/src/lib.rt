@@ -51,14 +51,12 @@ pub fn run(
         × (now (result .exit) ≡ runResult f width (now (list .entry)) a b (now (result .entry)))
         × (now (wires .exit) ≡ runWires f width (now (list .entry)) a b (now (wires .entry))) ⌝ }
 {
-    let x = a.bytes;
-    let y = b.bytes;
-    let m = a.width as usize;
-    let n = b.width as usize;
-    let sizes = judge::judge_carried(width, m, n, result.len());
+    let sizes = judge::judge_carried(width, a, b, result.len());
     if !is_none(sizes) {
         return sizes;
     }
+    let x = a.bytes;
+    let y = b.bytes;
     run_sized(width, list, x, y, result, wires)
 }
 

@@ -7,7 +7,7 @@ ghost use Rattle.gf2.specs.Coordinates.{coord, tabulate};
 ghost use Rattle.gf2.specs.Operands.{maxWidth};
 ghost use Rattle.netlist.specs.Gates.{wordLimit};
 ghost use Rattle.netlist.specs.Running.{applied, run as runGates, wires as wiresOf, gatesTo, gateCount, readList};
-ghost use Rattle.runner.specs.Inner.{AreBits, HasGates};
+ghost use Rattle.runner.specs.Inner.{AreBits, HasGates, IsNext, gateAt};
 use crate::words;
 
 // The coordinates of an operand, on the wires from `at` on.
@@ -37,7 +37,19 @@ fn on_wire(wires: &[u8], wire: usize, own: usize, last: u8) -> u8
     if wire + 1 == own { last } else { wires[wire] }
 }
 
-// The wires of the gates, each from two that are filled already. The last wire is kept: a sum's next gate reads it at once.
+// The value of gate k, from two wires before its own.
+fn gate_at(width: usize, list: &[u32], k: usize, wires: &[u8], last: u8) -> u8
+    requires { ⌜ IsNext width (now list) k (now wires) last ⌝ }
+    ensures { λ r. ⌜ r ≡ gateAt (now (list .entry)) k (now (wires .entry)) ⌝ }
+{
+    let own = 2 * width + k;
+    let at = 2 + 3 * k;
+    let x = on_wire(wires, words::word(list, at + 1), own, last);
+    let y = on_wire(wires, words::word(list, at + 2), own, last);
+    gate_value(words::word(list, at), x, y)
+}
+
+// The wires of the gates. The last wire is kept: a sum's next gate reads it at once.
 fn fill_gates(width: usize, list: &[u32], g: usize, wires: &mut [u8])
     requires { ⌜ HasGates width g (now list) (now wires) × (g < wordLimit) × AreBits (2 * width) (now wires) ⌝ }
     ensures { λ _. ⌜ now (wires .exit) ≡ runGates (gatesTo (now (list .entry)) g) (take (2 * width) (now (wires .entry))) ⌝ }
@@ -45,15 +57,8 @@ fn fill_gates(width: usize, list: &[u32], g: usize, wires: &mut [u8])
     let mut last = wires[2 * width - 1];
     let mut k = 0;
     while k < g {
-        let own = 2 * width + k;
-        let at = 2 + 3 * k;
-        let kind = words::word(list, at);
-        let left = words::word(list, at + 1);
-        let right = words::word(list, at + 2);
-        let x = on_wire(wires, left, own, last);
-        let y = on_wire(wires, right, own, last);
-        let next = gate_value(kind, x, y);
-        wires[own] = next;
+        let next = gate_at(width, list, k, wires, last);
+        wires[2 * width + k] = next;
         last = next;
         k += 1;
     }

@@ -1,20 +1,15 @@
 -- `runner::run_bytes` meets its contract.
-use mathlib.Core.Path.{_≡_, sym, ap, ap₂, _∙_}
+use mathlib.Core.Path.{sym, _∙_}
 use mathlib.Core.List.{[], _∷_}
 use native.Mathlib.Omega.{arith}
 use lib.ListN.{length}
 use borrow.Author.Tests.{not-true, not-false}
-use Rattle.gf2.specs.Operands.{bytesFor, choose}
-use Rattle.judging.specs.Faults.{isNone}
-use Rattle.judging.specs.Causes.{faultOf}
 use Rattle.judging.specs.FaultTable.{badWidth, notW}
 use Rattle.judging.proofs.CauseLaws.{judged, ends, follows}
 use Rattle.operand.proofs.CallLaws.{SizedPair, sized-pair}
-use Rattle.netlist.specs.Running.{readList}
-use Rattle.runner.specs.Calls.{runBytesResult, runBytesWires}
 use Rattle.runner.specs.Inner.{listCauses}
 use Rattle.runner.proofs.JudgeLaws.{list-carried}
-use Rattle.runner.proofs.RunLaws.{wires-carried, result-carried}
+use Rattle.runner.proofs.RunLaws.{kept-result, kept-wires, bytes-wires, bytes-result}
 use borrow.Author.Needs.{needs}
 use Rattle.runner.proofs.run_bytes.Statement.{statement}
 use Rattle.runner.proofs.run_bytes.Tie as tie
@@ -26,8 +21,8 @@ returns c =
     let q = not-true _ (c .if1 .taken) in
     let k = sym (c .before .is-none .ensures) ∙ q in (
       ends (badWidth (a .width) ∷ notW (a .width) (a .a .now) ∷ notW (a .width) (a .b .now) ∷ notW (a .width) (a .result .now) ∷ []) (listCauses (a .width) (a .list .now) (a .a .now) (a .b .now) (length (a .wires .now))) (s .judge-pair-sizes .ensures) (c .before .is-none .ensures) q,
-      rw k,
-      rw k,
+      kept-result _ (a .width) (a .list .now) (a .a .now) (a .b .now) (a .result .now) k,
+      kept-wires _ (a .width) (a .list .now) (a .a .now) (a .b .now) (a .wires .now) k,
     )
 
 -- the lengths have passed
@@ -56,9 +51,9 @@ returns-2 c =
     let left = k .before .carried .ensures in
     let right = k .carried2 .ensures in (
       follows (badWidth m ∷ notW m (a .a .now) ∷ notW m (a .b .now) ∷ notW m (a .result .now) ∷ []) (listCauses m l (a .a .now) (a .b .now) n) (s .judge-pair-sizes .ensures) (e .before .is-none .ensures) (not-false _ (e .if1 .left))
-          (r .run-sized .ensures .0 ∙ ap₂ (λ x y. faultOf (listCauses m l x y n)) left right ∙ list-carried (z .left) (z .right) l n),
-      r .run-sized .ensures .1 ∙ ap₂ (λ x y. runBytesResult f m l x y (a .result .now)) left right ∙ ap (λ w. choose (isNone f) w (a .result .now)) (result-carried (z .left) (z .right) (readList l m) (bytesFor m)),
-      r .run-sized .ensures .2 ∙ ap₂ (λ x y. runBytesWires f m l x y (a .wires .now)) left right ∙ ap (λ w. choose (isNone f) w (a .wires .now)) (wires-carried (z .left) (z .right) (readList l m)),
+          (r .run-sized .ensures .0 ∙ list-carried (z .left) (z .right) left right l n),
+      bytes-result (z .left) (z .right) left right f l (a .result .now) (r .run-sized .ensures .1),
+      bytes-wires (z .left) (z .right) left right f l (a .wires .now) (r .run-sized .ensures .2),
     )
 
 pub run-bytes-spec : {M : Type 1} → statement M

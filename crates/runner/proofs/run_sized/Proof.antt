@@ -1,13 +1,11 @@
 -- `runner::run_sized` meets its contract.
-use mathlib.Core.Path.{sym, ap, _∙_}
+use mathlib.Core.Path.{sym, _∙_}
 use mathlib.Core.List.{[]}
-use native.Mathlib.Omega.{arith}
 use lib.ListN.{length}
-use Rattle.gf2.specs.Operands.{bytesFor, fromCoords}
 use Rattle.judging.proofs.CauseLaws.{judged}
-use Rattle.runner.specs.Inner.{listCauses, onOutput}
+use Rattle.runner.specs.Inner.{listCauses}
 use Rattle.runner.proofs.JudgeLaws.{FineList, list-fine}
-use Rattle.runner.proofs.RunLaws.{result-read}
+use Rattle.runner.proofs.RunLaws.{kept-result, kept-wires, ran-wires, ran-result}
 use borrow.Author.Needs.{needs}
 use Rattle.runner.proofs.run_sized.Statement.{statement}
 use Rattle.runner.proofs.run_sized.Tie as tie
@@ -38,16 +36,17 @@ returns c =
     let w = c .before .before .before .before .before .before in
     let t = w .before .before .before .before .before in
     let a = t .before .before .before .before .before .before .args in
-    let m = a .width in
-    let l = a .list .now in
-    let k = sym (t .before .is-none .ensures) ∙ t .if1 .taken in (
+    let f = t .before .before .judge-list .result in
+    let n = sym (t .before .is-none .ensures) ∙ t .if1 .taken in (
       t .before .before .judge-list .ensures,
-      rw k (c .before .before .fill-result .ensures ∙ ap (λ z. fromCoords (bytesFor m) m (onOutput z l)) (w .before .fill-wires .ensures) ∙ result-read (bytesFor m) m l (a .t3) (a .t4)),
-      rw k (w .before .fill-wires .ensures),
+      ran-result f (a .width) (a .list .now) (a .t3) (a .t4) (a .result .now) n (w .before .fill-wires .ensures) (c .before .before .fill-result .ensures),
+      ran-wires f (a .width) (a .list .now) (a .t3) (a .t4) (a .wires .now) n (w .before .fill-wires .ensures),
     )
 
 returns-2 : tie.Need-returns-2
-returns-2 c = let k = sym (c .before .is-none .ensures) ∙ c .if1 .left in (c .before .before .judge-list .ensures, rw k, rw k)
+returns-2 c =
+    let s = sym (c .before .is-none .ensures) ∙ c .if1 .left in
+    (c .before .before .judge-list .ensures, kept-result _ _ _ _ _ _ s, kept-wires _ _ _ _ _ _ s)
 
 pub run-sized-spec : {M : Type 1} → statement M
 run-sized-spec =

@@ -15,4 +15,4 @@ returns-2 c =
     follows (widthCauses _ _ _) (lengthCauses _ _ _ _) (s .before .judge-widths .ensures) (s .is-none .ensures) (not-false _ (c .before .if1 .left)) (c .judge-lengths .ensures)
 
 pub judge-carried-spec : {M : Type 1} → statement M
-judge-carried-spec = tie.close (tie.spec (λ c κs. search needs) (λ c κs. search needs) returns (λ c κs. search needs) returns-2)
+judge-carried-spec = tie.close (tie.spec (λ c. search needs) (λ c. search needs) (λ c κs. search needs) (λ c κs. search needs) returns (λ c κs. search needs) returns-2)

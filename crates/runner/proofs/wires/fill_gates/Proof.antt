@@ -1,12 +1,14 @@
 -- `runner::wires::fill_gates` meets its contract. The invariant: the wires of the first k gates are filled, and the last one is at hand.
-use mathlib.Core.Path.{_≡_, refl, sym, ap, ap₂, _∙_}
+use mathlib.Core.Path.{_≡_, refl, sym, ap, _∙_}
 use mathlib.Core.List.{append-nil, _++_}
-use Prim.Native.Nat.{ℕ, _+_, _-_, _*_, _≤_, _<_}
+use Prim.Native.Nat.{_+_, _-_, _*_, _≤_}
 use native.Mathlib.Omega.{arith}
 use lib.ListN.{length, length-set, getD, set, drop-of-length-le}
 use lib.Seq.{getD-set-same}
-use Rattle.netlist.specs.Running.{applied}
-use Rattle.runner.proofs.RunLaws.{ranTo, filledTo, gate-wires, filled-start, filled-bit, filled-more}
+use Rattle.gf2.proofs.Sums.{every-at}
+use Rattle.netlist.specs.Judgements.{isGate}
+use Rattle.runner.specs.Inner.{gateAt}
+use Rattle.runner.proofs.RunLaws.{ranTo, filledTo, filled-start, filled-bits, filled-more}
 use borrow.Author.Needs.{needs}
 use Rattle.runner.proofs.wires.fill_gates.Statement.{statement}
 use Rattle.runner.proofs.wires.fill_gates.Tie as tie
@@ -18,68 +20,49 @@ abbrev μ-loop : tie.MeasureT-loop
 μ-loop width list g wires₀ last₀ k₀ wires last k = g - k
 
 slice-read-last : tie.Need-slice-read-last Inv-loop μ-loop
-slice-read-last c = omega (arith, c .before .before .before .pre .0 .bytePerWire, c .before .before .before .pre .0 .least)
+slice-read-last c = let p = c .before .before .before .pre .0 in omega (arith, p .bytePerWire, p .least)
 
 loop-holds : tie.Need-loop-holds Inv-loop μ-loop
 loop-holds c =
     let s = c .before .before .before in
-    let e : 2 * s .args .width - 1 ≡ 2 * s .args .width + 0 - 1 = omega arith in
-    (omega arith, filled-start (s .args .width) (s .args .list .now) (s .args .wires .now) (omega (arith, s .pre .0 .bytePerWire)) (s .pre .2), refl, ap (λ n. getD (s .args .wires .now) n 0) e)
+    let m = s .args .width in
+    let e : 2 * m - 1 ≡ 2 * m + 0 - 1 = omega arith in
+    (omega arith, filled-start m (s .args .list .now) (s .args .wires .now) (omega (arith, s .pre .0 .bytePerWire)) (s .pre .2), refl, ap (λ n. getD (s .args .wires .now) n 0) e)
 
-on-wire-requires : tie.Need-on-wire-requires Inv-loop μ-loop
-on-wire-requires c κs =
-    let t = c .before .before .before .before .before in
+gate-at-requires : tie.Need-gate-at-requires Inv-loop μ-loop
+gate-at-requires c κs =
+    let t = c .before .before in
     let s = t .before .before .before .before in
     let w = t .loop in
-    let x = gate-wires (s .args .width) (s .args .list .now) (s .args .g) (s .pre .0 .good) (w .k) (omega arith) in
-    (omega (arith, x .0, c .before .before .word2 .ensures .0), omega (arith, w .inv .2, s .pre .0 .bytePerWire), w .inv .3)
-
-on-wire-requires-2 : tie.Need-on-wire-requires-2 Inv-loop μ-loop
-on-wire-requires-2 c κs =
-    let u = c .before .before in
-    let t = u .before .before .before .before .before in
-    let s = t .before .before .before .before in
-    let w = t .loop in
-    let x = gate-wires (s .args .width) (s .args .list .now) (s .args .g) (s .pre .0 .good) (w .k) (omega arith) in
-    (omega (arith, x .1, c .before .before .before .word3 .ensures .0), omega (arith, w .inv .2, s .pre .0 .bytePerWire), w .inv .3)
-
-gate-value-requires : tie.Need-gate-value-requires Inv-loop μ-loop
-gate-value-requires c κs =
-    let u = c .before .before .before in
-    let t = u .before .before .before .before .before in
-    let s = t .before .before .before .before in
-    let w = t .loop in
-    let x = gate-wires (s .args .width) (s .args .list .now) (s .args .g) (s .pre .0 .good) (w .k) (omega arith) in
-    let small : (l : ℕ) → l < 2 * s .args .width + w .k → getD (w .wires) l 0 < 2 = λ l h.
-    rw (w .inv .1) (filled-bit (s .args .width) (s .args .list .now) (s .args .wires .now) (omega (arith, s .pre .0 .bytePerWire)) (s .pre .2) (w .k) l h) in (
-      rw (c .before .before .on-wire .ensures) (small _ (omega (arith, x .0, c .before .before .before .before .before .word2 .ensures .0))),
-      rw (c .on-wire2 .ensures) (small _ (omega (arith, x .1, c .before .before .before .before .word3 .ensures .0))),
-    )
+    let m = s .args .width in
+    let l = s .args .list .now in
+    record {
+      greatest = s .pre .0 .greatest;
+      few = omega (arith, s .pre .1);
+      good = every-at (s .args .g) (isGate m l) (s .pre .0 .good) (w .k) (omega arith);
+      room = omega (arith, w .inv .2, s .pre .0 .bytePerWire);
+      bits = rw (w .inv .1) (filled-bits m l (s .args .wires .now) (omega (arith, s .pre .0 .bytePerWire)) (s .pre .2) (w .k));
+      atHand = w .inv .3;
+    }
 
 slice-write-wires : tie.Need-slice-write-wires Inv-loop μ-loop
 slice-write-wires c =
-    let u = c .before .before .before .before in
-    let t = u .before .before .before .before .before in
+    let t = c .before .before .before in
     omega (arith, t .loop .inv .2, t .before .before .before .before .pre .0 .bytePerWire)
 
 loop-again : tie.Need-loop-again Inv-loop μ-loop
 loop-again c =
-    let u = c .before .before .before .before in
-    let t = u .before .before .before .before .before in
+    let t = c .before .before .before in
     let s = t .before .before .before .before in
     let w = t .loop in
-    let x = gate-wires (s .args .width) (s .args .list .now) (s .args .g) (s .pre .0 .good) (w .k) (omega arith) in
-    let kind = u .before .before .before .word in
-    let left = u .before .before .word2 in
-    let right = u .before .word3 in
-    let n : 2 * s .args .width + (w .k + 1) - 1 ≡ 2 * s .args .width + w .k = omega arith in
-    let list = s .args .list .now in (
+    let m = s .args .width in
+    let l = s .args .list .now in
+    let size = s .pre .0 .bytePerWire in
+    let n : 2 * m + (w .k + 1) - 1 ≡ 2 * m + w .k = omega arith in (
       omega arith,
-      rw (w .inv .1) (filled-more (s .args .width) list (s .args .wires .now) (omega (arith, s .pre .0 .bytePerWire)) (s .pre .2) (w .k) (omega (arith, s .pre .0 .bytePerWire)) (x .0) (x .1) _
-          (c .gate-value .ensures ∙ ap₂ (applied (kind .result)) (c .before .before .before .on-wire .ensures) (c .before .on-wire2 .ensures)
-          ∙ ap (λ v. applied (kind .result) (getD v (left .result) 0) (getD v (right .result) 0)) (w .inv .1) ∙ rw (kind .ensures .0, left .ensures .0, right .ensures .0))),
+      rw (w .inv .1) (filled-more m l (s .args .wires .now) (omega (arith, size)) (s .pre .2) (w .k) (omega (arith, size)) (every-at (s .args .g) (isGate m l) (s .pre .0 .good) (w .k) (omega arith)) _ (c .gate-at .ensures ∙ ap (gateAt l (w .k)) (w .inv .1))),
       simp length-set (w .inv .2),
-      sym (ap (λ i. getD (set (w .wires) (2 * s .args .width + w .k) (c .gate-value .result)) i 0) n ∙ getD-set-same (w .wires) (2 * s .args .width + w .k) (c .gate-value .result) 0 (omega (arith, w .inv .2, s .pre .0 .bytePerWire))),
+      sym (ap (λ i. getD (set (w .wires) (2 * m + w .k) (c .gate-at .result)) i 0) n ∙ getD-set-same (w .wires) (2 * m + w .k) (c .gate-at .result) 0 (omega (arith, w .inv .2, size))),
     )
 
 same-length : tie.Need-same-length Inv-loop μ-loop
@@ -105,18 +88,9 @@ fill-gates-spec =
     (λ c. search needs)
     slice-read-last
     loop-holds
+    gate-at-requires
     (λ c. search needs)
     (λ c. search needs)
-    (λ c. search needs)
-    (λ c. search needs)
-    (λ c κs. search needs)
-    (λ c. search needs)
-    (λ c κs. search needs)
-    (λ c. search needs)
-    (λ c κs. search needs)
-    on-wire-requires
-    on-wire-requires-2
-    gate-value-requires
     slice-write-wires
     (λ c. search needs)
     (λ c. search needs)

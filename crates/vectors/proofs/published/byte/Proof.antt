@@ -5,7 +5,7 @@ use Prim.Native.Nat.{ℕ, _+_, _-_, _*_, _≤_}
 use native.Mathlib.Omega.{arith}
 use Rattle.gf2.specs.Sums.{sum}
 use Rattle.gf2.specs.Coordinates.{value}
-use Rattle.netlist.proofs.RunLaws.{byte-more}
+use Rattle.runner.proofs.RunLaws.{byte-more}
 use Rattle.vectors.specs.Published.{digitBit}
 use borrow.Author.Needs.{needs}
 use Rattle.vectors.proofs.published.byte.Statement.{statement}
