@@ -10,12 +10,11 @@ use Rattle.gf2.specs.Tables.{IsTable, onesIn}
 use Rattle.gf2.specs.Check.{Symmetric}
 use Rattle.judging.specs.declared.fault.Fault.{Fault}
 use Rattle.judging.specs.Faults.{isNone}
-use Rattle.operand.proofs.FaultLaws.{none-is}
+use Rattle.judging.specs.Causes.{Cause, faultOf}
+use Rattle.judging.specs.FaultTable.{symmetryCauses}
+use Rattle.judging.proofs.CauseLaws.{Fine, none-is, none-given}
 use Rattle.table.specs.Rows.{Shaped}
-use Rattle.table.specs.declared.OnesAnswer.{OnesAnswer}
 use Rattle.table.specs.Judgements.{symmetryFault}
-use Rattle.table.specs.Calls.{onesCall}
-use Rattle.table.proofs.Shapes.{shape-none}
 use Rattle.table.proofs.Theorems.{symmetry}
 use Rattle.netlist.specs.declared.CountsAnswer.{CountsAnswer}
 use Rattle.netlist.specs.declared.Numbers.{Numbers}
@@ -32,16 +31,16 @@ use Rattle.netlist.proofs.ListLaws.{Gates, ones-positive, shared-ones, 
 
 -- a table that has passed
 pub table-fine : (m : ℕ) (table : List ℕ) → isNone (symmetryFault m table) ≡ true → Shaped m table × Symmetric m table
-table-fine m table e = symmetry m table .0 (none-is _ e)
+table-fine m table e = symmetry m table .0 (none-is (symmetryCauses m table) e)
 
 -- answers
 pub answer-fault : {f : Fault} (a x : ℕ) {c : CountsAnswer} → c ≡ answer f a x → c .fault ≡ f
 unfolding answer
 answer-fault a x e = ap (λ (c : CountsAnswer). c .fault) e
 
-pub answer-counted : (f : Fault) (a x : ℕ) → isNone f ≡ true → answer f a x ≡ countedAs a x
-unfolding answer
-answer-counted f a x e = rw e (ap (λ g. record { fault = g; ands = record { 0 = a }; xors = record { 0 = x } }) (none-is f e))
+pub answer-counted : (cs : List Cause) (a x : ℕ) → Fine cs → answer (faultOf cs) a x ≡ countedAs a x
+unfolding answer isNone
+answer-counted cs a x e = rw (none-given cs e)
 
 -- the second where there is one
 pub if-some : {A : Type 0} (q : ℕ) (x y : A) → (q ≡ 0 → ⊥) → y ≡ ifNone q x y
@@ -98,13 +97,6 @@ module _ (m : ℕ) (table : List ℕ) (two : 2 ≤ m) (is : IsTable m table) (s 
   shared-few Plain = omega arith
   shared-few Reduced = omega arith
   shared-few Common = shared-ones m table two is s
-
--- the number of ones that the crate table gives
-pub ones-given : (m : ℕ) (table : List ℕ) (r : OnesAnswer) → Shaped m table → r ≡ onesCall m table → (r .ones ≡ onesIn m table) × (r .ones ≤ m * m)
-ones-given m table r s e = (same, rw same (ones-most m table))
-  where
-    same : r .ones ≡ onesIn m table
-    same = ap (λ (r : OnesAnswer). r .ones) e ∙ (unfold onesCall isNone in rw (shape-none s))
 
 -- what is told of the numbers counted
 pub countable : {m : ℕ} {table : List ℕ} {ones : ℕ} (method : Method) → Shaped m table → Symmetric m table → ones ≡ onesIn m table → Countable m ones (sharedBy method m table)

@@ -27,6 +27,8 @@ use Rattle.netlist.proofs.SumLaws.{num, sum-next, sum-mono, count-one}
 use Rattle.netlist.proofs.NetlistLaws.{wires-bits}
 use Rattle.netlist.proofs.ListLaws.{Gates, Gives, coord-product, ones-at, ones-of, plain-gives, plain-gates, reduced-gives, reduced-gates, common-gives, common-gates}
 use Rattle.netlist.proofs.SizeLaws.{plain-sized, reduced-sized, common-sized}
+use Rattle.judging.specs.FaultTable.{symmetryCauses}
+use Rattle.judging.proofs.CauseLaws.{none-fine}
 use Rattle.netlist.proofs.CallLaws.{answer-counted}
 
 module _ (m : ℕ) (table : List ℕ) where
@@ -70,7 +72,7 @@ theoremCounts m table none =
     }
   where
     counts : (list : Netlist) {ands xors : ℕ} → Counted list ands xors → countsCall m table list ≡ countedAs ands xors
-    counts list h = answer-counted _ _ _ (ap isNone none ∙ (unfold isNone in refl)) ∙ ap₂ countedAs (h .andCount) (h .xorCount)
+    counts list h = answer-counted (symmetryCauses m table) _ _ (none-fine (symmetryCauses m table) .0 none) ∙ ap₂ countedAs (h .andCount) (h .xorCount)
 
 module _ (m : ℕ) (table : List ℕ) (two : 2 ≤ m) (is : IsTable m table) (k : Accepted m table) where
   full-row : (d : ℕ) → d < m → allOnes m (row m table d) ≡ true → row m table d ≡ ones (bytesFor m) m

@@ -5,13 +5,13 @@ use lib.ListN.{length, drop}
 use Rattle.gf2.specs.Operands.{choose}
 use Rattle.judging.specs.declared.fault.Fault.{Fault}
 use Rattle.judging.specs.declared.fault.Fault.the-variants.{None}
-use Rattle.operand.specs.Faults.{firstOf}
 use Rattle.judging.specs.Faults.{isNone}
+use Rattle.judging.specs.Causes.{Cause, faultOf}
+use Rattle.judging.specs.FaultTable.{tooShort, symmetryCauses}
 use Rattle.table.specs.Judgements.{symmetryFault}
 use Rattle.netlist.specs.declared.CountsAnswer.{CountsAnswer}
 use Rattle.netlist.specs.Gates.{Netlist, words, andGates, xorGates}
 use Rattle.netlist.specs.Lists.{plain, reduced, common}
-use Rattle.netlist.specs.Judgements.{outputFault}
 
 -- a fault and no counts, or no fault and both counts
 unfoldable pub answer : Fault → ℕ → ℕ → CountsAnswer
@@ -40,9 +40,11 @@ abbrev pub countsCommonCall : ℕ → List ℕ → CountsAnswer
 countsCommonCall m table = countsCall m table (common m table)
 
 -- "4 and 5 also for the .. gate lists"; 11 where the list is longer than the buffer
-unfoldable pub listFault : ℕ → List ℕ → Netlist → List ℕ → Fault
-listFault m table list old =
-    firstOf (symmetryFault m table ∷ outputFault (length old) (length (words m list)) ∷ [])
+abbrev pub listCauses : ℕ → List ℕ → Netlist → List ℕ → List Cause
+listCauses m table list old = symmetryCauses m table ++ (tooShort (length old) (length (words m list)) ∷ [])
+
+abbrev pub listFault : ℕ → List ℕ → Netlist → List ℕ → Fault
+listFault m table list old = faultOf (listCauses m table list old)
 
 -- "AND gates and XOR gates are counted apart and both counts returned"
 abbrev pub listCall : ℕ → List ℕ → Netlist → List ℕ → CountsAnswer

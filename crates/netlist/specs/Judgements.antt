@@ -1,12 +1,9 @@
--- What is judged of the gates of a list that is run, and of a buffer for a list that is written, in the words of document 01's table.
+-- What is judged of the gates of a list that is run, in the words of document 01's table.
 use mathlib.Core.Logic.{_⊎_}
 use mathlib.Core.Bool.{Bool, _&&_}
 use mathlib.Core.List.{List}
 use Prim.Native.Nat.{ℕ, _+_, _*_, _<_, _≤_}
 use lib.Dec.{leb, ltb}
-use Rattle.judging.specs.declared.fault.Fault.{Fault}
-use Rattle.judging.specs.declared.fault.Fault.the-variants.{OutputShort}
-use Rattle.operand.specs.Faults.{when}
 use Rattle.netlist.specs.Running.{kindAt, leftAt, rightAt, gateCount, outputAt}
 
 -- "gate wire not earlier" than the gate's own
@@ -30,7 +27,3 @@ isGate m list k = leb (kindAt list k) 1 && (ltb (leftAt list k) (2 * m + k) && l
 -- an output wire that is there
 unfoldable pub isOutput : ℕ → List ℕ → ℕ → Bool
 isOutput m list r = ltb (outputAt list r) (2 * m + gateCount list)
-
--- 11: "lent output shorter than needed"
-unfoldable pub outputFault : ℕ → ℕ → Fault
-outputFault given needed = when (ltb given needed) OutputShort

@@ -3,7 +3,7 @@
 -- Lists: the plain, the reduced and the common list of a table.
 -- Running: the values of a list's wires, and its result; words read as a list.
 -- Counts: the numbers of gates, without the lists.
--- Judgements: what is judged of the gates of a list, and of a buffer for a written one.
+-- Judgements: what is judged of the gates of a list.
 -- Calls: what each call answers, for every input.
 -- Methods: the lists by their method, all numbers of a list in one answer.
 -- Statements: what is proved of the lists; the proofs are proofs/Theorems.antt.

@@ -4,7 +4,7 @@ use mathlib.Core.Path.{_≡_, refl, sym, ap, _∙_}
 use mathlib.Core.Bool.{Bool, true, false, not}
 use mathlib.Core.List.{List, [], _∷_}
 use Prim.Native.Nat.{ℕ, zero, suc, _+_, _-_, _*_, _/_, _%_, _^_, _<_, _≤_}
-use native.Mathlib.Nat.{mod-eq-of-lt, mod-mod, add-zero}
+use native.Mathlib.Nat.{mod-mod, add-zero}
 use native.Mathlib.Decide.{decLt}
 use native.Mathlib.Omega.{arith}
 use lib.ListN.{length, replicate, getD-replicate}
@@ -14,10 +14,9 @@ use Rattle.gf2.specs.Sums.{sum, every}
 use Rattle.gf2.specs.Coordinates.{coord, value, tabulate, pack}
 use Rattle.gf2.specs.Operands.{maxWidth, bytesFor, carriedBytes, choose, IsOperand, isClear, below, fromCoords, zeroes, ones, added}
 use Rattle.gf2.specs.Quadratic.{trace, rootCoord, root}
-use Rattle.gf2.proofs.Parity.{bool-ext}
 use Rattle.gf2.proofs.Sums.{sum-split, every-at}
-use Rattle.gf2.proofs.Coordinates.{coord-lt, coord-past, coord-pack, pack-ext, pack-byte, length-pack}
-use Rattle.gf2.proofs.Operands.{coord-from, from-ext, from-eq, from-operand, clear-at, clear-of, below-in, below-out}
+use Rattle.gf2.proofs.Coordinates.{coord-past, coord-pack, pack-ext, pack-byte, length-pack}
+use Rattle.gf2.proofs.Operands.{coord-from, from-ext, from-eq, from-operand, clear-at, below-in, below-out}
 use Rattle.gf2.proofs.Carrying.{HasBytes, same-coord, clear-carried, coord-repacked}
 use Rattle.judging.specs.declared.fault.Fault.{Fault}
 use Rattle.judging.specs.Faults.{isNone}

@@ -18,10 +18,10 @@ use Rattle.operand.specs.declared.Operand.{Operand}
 use Rattle.judging.specs.declared.fault.Fault.the-variants.{None, TraceOne}
 use Rattle.judging.specs.Faults.{isNone}
 use Rattle.judging.specs.Causes.{faultOf}
-use Rattle.judging.specs.FaultTable.{badWidth, highBit, traceIsOne}
+use Rattle.judging.specs.FaultTable.{traceIsOne}
 use Rattle.judging.proofs.CauseLaws.{none-true, head-holds, goes-on, fine, none-given}
 use Rattle.judging.proofs.Passed.{IsWidth, is-width, as-laid-down, is-clear, width-passes, length-passes, operand-passes}
-use Rattle.operand.specs.Causes.{operandCauses, solveCauses, bytesCauses, roomCauses}
+use Rattle.operand.specs.Causes.{operandCauses, bytesCauses, roomCauses}
 use Rattle.operand.specs.Calls.{answer, solveCall, readCall, writeCall}
 use Rattle.operand.specs.Statements.{quadratic, QuadraticLaws, IsCarried, CallLaws}
 use Rattle.operand.proofs.FaultFree.{carry, done, operand-none}

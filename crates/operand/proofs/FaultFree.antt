@@ -1,6 +1,6 @@
 -- What the calls answer for operands that have no fault: for callers that know so.
 use mathlib.Core.Path.{_≡_, refl}
-use mathlib.Core.List.{List, [], _∷_}
+use mathlib.Core.List.{List}
 use Prim.Native.Nat.{ℕ, _<_}
 use Rattle.gf2.specs.Operands.{carriedBytes, IsOperand, turned, squared, added}
 use Rattle.judging.specs.declared.fault.Fault.the-variants.{None}
@@ -10,7 +10,6 @@ use Rattle.judging.proofs.CauseLaws.{none-given}
 use Rattle.judging.proofs.Passed.{IsWidth, width-passes, length-passes, operand-passes, turn-passes}
 use Rattle.operand.specs.declared.Operand.{Operand}
 use Rattle.operand.specs.declared.OperandAnswer.{OperandAnswer}
-use Rattle.judging.specs.FaultTable.{badWidth, badLength, highBit}
 use Rattle.operand.specs.Causes.{operandCauses, pairCauses, turnCauses}
 use Rattle.operand.specs.Calls.{answer, turnCall, squareCall, sumCall}
 

@@ -14,7 +14,7 @@ use judging::is_none;
 use judging::judge_high;
 use judging::judge_width;
 
-pub fn judge_operand(a: Operand) -> Fault
+pub(crate) fn judge_operand(a: Operand) -> Fault
     ensures { λ r. ⌜ r ≡ faultOf (operandCauses a) ⌝ }
 {
     let m = a.width as usize;
@@ -42,7 +42,7 @@ pub(crate) fn judge_bits(
     judge_high(y, n)
 }
 
-pub fn judge_pair(a: Operand, b: Operand) -> Fault
+pub(crate) fn judge_pair(a: Operand, b: Operand) -> Fault
     ensures { λ r. ⌜ r ≡ faultOf (pairCauses a b) ⌝ }
 {
     let m = a.width as usize;

@@ -24,8 +24,6 @@ pub use bytes::sum_into;
 pub use bytes::trace_of;
 pub use bytes::turn_into;
 pub use bytes::zero_into;
-pub use judge::judge_operand;
-pub use judge::judge_pair;
 
 // Coordinate i is bit i % 8 of byte i / 8, and bits at the width and above are 0.
 pub struct Operand {

@@ -3,7 +3,7 @@
 -- rows-none, rows-more, rows-all: the sum of all rows, row after row.
 use mathlib.Core.Path.{_≡_, refl, sym, ap, _∙_}
 use mathlib.Core.Bool.{_&&_}
-use mathlib.Core.List.{List}
+use mathlib.Core.List.{List, [], _∷_}
 use Prim.Native.Nat.{ℕ, zero, suc, _+_, _-_, _*_, _%_, _<_, _≤_}
 use native.Mathlib.Nat.{mod-lt, mod-eq-of-lt}
 use native.Mathlib.Numerals.{add-one}
@@ -23,7 +23,10 @@ use Rattle.gf2.proofs.OperandVectors.{bytes-fit, vec, bytes, vec-bytes, from-ve
 use Rattle.gf2.proofs.TableVectors.{rows, row-vec, product-bytes, symmetric}
 use Rattle.judging.specs.Faults.{isNone}
 use Rattle.operand.specs.Calls.{answer, zeroCall}
-use Rattle.operand.proofs.FaultFree.{done, width-none}
+use Rattle.judging.specs.FaultTable.{badWidth}
+use Rattle.judging.proofs.CauseLaws.{none-given}
+use Rattle.judging.proofs.Passed.{width-passes}
+use Rattle.operand.proofs.FaultFree.{done}
 use Rattle.judging.proofs.Passed.{IsWidth}
 use Rattle.gf2.proofs.Carrying.{coord-carried, carried-from}
 use Rattle.table.specs.Rows.{Shaped, carriedRow, rowsAt, leftProduct, rightProduct}
@@ -39,7 +42,7 @@ minus-at m k j h = rw (mod-eq-of-lt h)
 
 pub zero-done : {m : ℕ} → IsWidth m → zeroCall m ≡ done m (zeroes carriedBytes m)
 unfolding answer isNone
-zero-done {m} w = rw (width-none m w)
+zero-done {m} w = rw (none-given (badWidth m ∷ []) (width-passes m w, tt))
 
 pub at-operand : (m : ℕ) (t x : List ℕ) → IsOperand carriedBytes m (rowsAt m t x)
 unfolding rowsAt

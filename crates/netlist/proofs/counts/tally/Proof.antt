@@ -1,11 +1,13 @@
 -- `netlist::counts::tally` meets its contract.
-use mathlib.Core.Path.{_≡_, ap, ap₂, _∙_}
+use mathlib.Core.Path.{ap, ap₂, _∙_}
 use Prim.Native.Nat.{_*_}
 use native.Mathlib.Omega.{arith}
 use borrow.Author.Tests.{not-true, not-false}
 use Rattle.gf2.specs.Check.{Symmetric}
 use Rattle.judging.specs.Faults.{isNone}
-use Rattle.operand.proofs.FaultLaws.{judged}
+use mathlib.Core.List.{[]}
+use Rattle.judging.specs.FaultTable.{symmetryCauses}
+use Rattle.judging.proofs.CauseLaws.{judged}
 use Rattle.table.specs.Rows.{Shaped}
 use Rattle.netlist.specs.Methods.{xorsBy, gatesBy, listBy, sharedBy}
 use Rattle.netlist.proofs.TableLaws.{width-square, ones-counted}
@@ -18,11 +20,13 @@ returns : tie.Need-returns
 returns c =
     let a = c .before .before .before .before .args in
     let j = c .before .before .judge-symmetry in
-    rw (← j .ensures) (tally-refused (j .result) (listBy (a .method) (a .width) (a .table .now)) (sharedBy (a .method) (a .width) (a .table .now)) (ap isNone (j .ensures) ∙ judged (j .ensures) (c .before .is-none .ensures) (not-true _ (c .if1 .taken))))
+    rw (← j .ensures) (tally-refused (j .result) (listBy (a .method) (a .width) (a .table .now)) (sharedBy (a .method) (a .width) (a .table .now)) (ap isNone (j .ensures) ∙ judged (symmetryCauses (a .width) (a .table .now)) [] (j .ensures) (c .before .is-none .ensures) (not-true _ (c .if1 .taken))))
 
 -- the table that was given no fault
 passed : (c : tie.Else1) → let a = c .before .before .before .before .args in Shaped (a .width) (a .table .now) × Symmetric (a .width) (a .table .now)
-passed c = table-fine _ _ (judged (c .before .before .judge-symmetry .ensures) (c .before .is-none .ensures) (not-false _ (c .if1 .left)))
+passed c =
+    let a = c .before .before .before .before .args in
+    table-fine _ _ (judged (symmetryCauses (a .width) (a .table .now)) [] (c .before .before .judge-symmetry .ensures) (c .before .is-none .ensures) (not-false _ (c .if1 .left)))
 
 shared-by-requires : tie.Need-shared-by-requires
 shared-by-requires c κs = passed (c .before) .0
@@ -48,7 +52,7 @@ returns-2 c =
     let a = e .before .before .before .before .args in
     let f = passed e in
     let j = e .before .before .judge-symmetry in
-    let n = judged (j .ensures) (e .before .is-none .ensures) (not-false _ (e .if1 .left)) in
+    let n = judged (symmetryCauses (a .width) (a .table .now)) [] (j .ensures) (e .before .is-none .ensures) (not-false _ (e .if1 .left)) in
     let o = ones-counted (f .0) (c .before .before .before .ones-of .ensures) in
     let q = c .before .before .shared-by .ensures in
     let h = gates-by (a .width) (a .table .now) (f .0 .least) (f .0 .isTable) (f .1) (a .method) in

@@ -1,9 +1,7 @@
 -- `operand::Operand::one` meets its contract.
 use mathlib.Core.Path.{sym, ap, _∙_}
 use mathlib.Core.List.{[], _∷_}
-use borrow.Author.Tests.{not-true, not-false}
 use Rattle.judging.specs.Faults.{isNone}
-use Rattle.judging.specs.Causes.{faultOf}
 use Rattle.judging.specs.FaultTable.{badWidth}
 use Rattle.judging.proofs.CauseLaws.{fine}
 use Rattle.judging.proofs.Passed.{is-width}

@@ -1,14 +1,12 @@
 -- `operand::Operand::read` meets its contract.
-use mathlib.Core.Bool.{true}
-use mathlib.Core.Path.{_≡_, _∙_, ap}
+use mathlib.Core.Path.{_∙_, ap}
 use mathlib.Core.List.{[], _∷_}
 use borrow.Author.Tests.{not-true, not-false}
 use Rattle.gf2.proofs.Carrying.{HasBytes}
-use Rattle.judging.specs.Faults.{isNone}
 use Rattle.judging.specs.Causes.{faultOf}
 use Rattle.judging.specs.FaultTable.{badWidth, badLength, highBit}
 use Rattle.judging.proofs.CauseLaws.{fine, judged, ends, ends-some, follows}
-use Rattle.judging.proofs.Passed.{IsWidth, is-width, as-laid-down}
+use Rattle.judging.proofs.Passed.{is-width, as-laid-down}
 use Rattle.operand.proofs.CallLaws.{answer-same, refusal, high-same}
 use borrow.Author.Needs.{needs}
 use Rattle.operand.proofs.Operand.read.Statement.{statement}

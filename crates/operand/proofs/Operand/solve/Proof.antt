@@ -1,17 +1,13 @@
 -- `operand::Operand::solve` meets its contract.
-use mathlib.Core.Bool.{true}
 use lib.ListN.{length}
 use Rattle.gf2.specs.Coordinates.{coord}
 use Rattle.gf2.specs.Operands.{carriedBytes, fromCoords}
-use mathlib.Core.Path.{_≡_, _∙_, sym, ap}
+use mathlib.Core.Path.{_≡_, _∙_, ap}
 use mathlib.Core.List.{[], _∷_}
 use borrow.Author.Tests.{not-true, not-false}
-use Rattle.operand.specs.Causes.{solveCauses}
-use Rattle.judging.specs.Faults.{isNone}
-use Rattle.judging.specs.Causes.{faultOf}
 use Rattle.judging.specs.FaultTable.{badWidth, highBit, traceIsOne}
 use Rattle.judging.proofs.CauseLaws.{fine, judged, ends, ends-some, follows}
-use Rattle.judging.proofs.Passed.{IsWidth, is-width, is-clear}
+use Rattle.judging.proofs.Passed.{IsWidth, is-width}
 use Rattle.operand.proofs.CallLaws.{answer-same, refusal, trace-after, root-bytes}
 use borrow.Author.Needs.{needs}
 use Rattle.operand.proofs.Operand.solve.Statement.{statement}

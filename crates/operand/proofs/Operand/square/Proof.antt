@@ -1,6 +1,5 @@
 -- `operand::Operand::square` meets its contract.
 use mathlib.Core.Path.{_∙_}
-use mathlib.Core.List.{[], _∷_}
 use Rattle.gf2.specs.Operands.{squared}
 use Rattle.operand.proofs.CallLaws.{answer-same, square-fault}
 use borrow.Author.Needs.{needs}

@@ -4,12 +4,8 @@ use lib.ListN.{length}
 use Rattle.gf2.specs.Coordinates.{coord, pack}
 use Rattle.gf2.specs.Operands.{carriedBytes}
 use mathlib.Core.Path.{_≡_, sym, ap, _∙_}
-use mathlib.Core.List.{[], _∷_}
-use borrow.Author.Tests.{not-true, not-false}
 use Rattle.operand.specs.Causes.{pairCauses}
 use Rattle.judging.specs.Faults.{isNone}
-use Rattle.judging.specs.Causes.{faultOf}
-use Rattle.judging.specs.FaultTable.{badWidth}
 use Rattle.judging.proofs.CauseLaws.{fine}
 use Rattle.judging.proofs.Passed.{is-width, as-laid-down, is-clear}
 use Rattle.operand.proofs.CallLaws.{answer-same, sum-bytes}

@@ -2,14 +2,9 @@
 use Prim.Native.Nat.{_*_}
 use native.Mathlib.Omega.{arith}
 use Rattle.gf2.specs.Operands.{carriedBytes}
-use mathlib.Core.Path.{sym, _∙_}
-use mathlib.Core.List.{[], _∷_}
-use borrow.Author.Tests.{not-true, not-false}
+use mathlib.Core.List.{[]}
 use Rattle.operand.specs.Causes.{operandCauses}
 use Rattle.operand.specs.Calls.{traceAnswer}
-use Rattle.judging.specs.Faults.{isNone}
-use Rattle.judging.specs.Causes.{faultOf}
-use Rattle.judging.specs.FaultTable.{badWidth}
 use Rattle.judging.proofs.CauseLaws.{fine, judged}
 use Rattle.judging.proofs.Passed.{is-width, is-clear}
 use Rattle.operand.proofs.CallLaws.{trace-bytes}

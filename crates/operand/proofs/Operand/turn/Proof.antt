@@ -1,11 +1,9 @@
 -- `operand::Operand::turn` meets its contract.
-use mathlib.Core.Bool.{true}
 use mathlib.Core.Path.{_≡_, _∙_}
 use mathlib.Core.List.{[], _∷_}
 use borrow.Author.Tests.{not-true, not-false}
 use Rattle.judging.specs.declared.fault.Fault.{Fault}
 use Rattle.operand.specs.Causes.{turnCauses}
-use Rattle.judging.specs.Faults.{isNone}
 use Rattle.judging.specs.Causes.{faultOf}
 use Rattle.judging.specs.FaultTable.{badWidth, highBit, turnTooFar}
 use Rattle.judging.proofs.CauseLaws.{fine, judged, ends, ends-some, follows}

@@ -1,9 +1,6 @@
 -- `operand::Operand::write` meets its contract.
-use mathlib.Core.Path.{_≡_, _∙_}
 use mathlib.Core.List.{[], _∷_}
 use borrow.Author.Tests.{not-true, not-false}
-use Rattle.judging.specs.Faults.{isNone}
-use Rattle.judging.specs.Causes.{faultOf}
 use Rattle.judging.specs.FaultTable.{badWidth, badLength, highBit}
 use Rattle.judging.proofs.CauseLaws.{judged, ends, ends-some, follows}
 use Rattle.operand.proofs.CallLaws.{kept, filled}

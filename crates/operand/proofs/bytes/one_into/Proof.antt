@@ -1,14 +1,11 @@
 -- `operand::bytes::one_into` meets its contract.
 use Rattle.gf2.specs.Coordinates.{coord, pack}
-use mathlib.Core.Path.{_∙_, ap, sym}
+use mathlib.Core.Path.{_∙_, ap}
 use mathlib.Core.List.{[]}
 use lib.ListN.{length}
 use Rattle.gf2.specs.Operands.{bytesFor, ones}
-use borrow.Author.Tests.{not-true, not-false}
 use Rattle.operand.specs.Causes.{constantCauses}
-use Rattle.judging.specs.Faults.{isNone}
 use Rattle.judging.specs.Causes.{faultOf}
-use Rattle.judging.specs.FaultTable.{badWidth}
 use Rattle.judging.proofs.CauseLaws.{fine, judged}
 use Rattle.judging.proofs.Passed.{is-width, as-laid-down}
 use Rattle.operand.proofs.CallLaws.{kept, filled, one-out}

@@ -4,18 +4,16 @@ use Rattle.gf2.specs.Coordinates.{coord, pack}
 use Rattle.gf2.specs.Quadratic.{root, rootCoord}
 use Rattle.gf2.proofs.Coordinates.{length-pack}
 use Rattle.gf2.proofs.Carrying.{root-carried, root-is, has-bytes, written-carried}
-use mathlib.Core.Path.{_≡_, refl, _∙_, ap}
+use mathlib.Core.Path.{_≡_, _∙_, ap}
 use mathlib.Core.List.{List, [], _∷_}
 use lib.ListN.{length}
-use Prim.Native.Nat.{ℕ, _+_, _*_}
+use Prim.Native.Nat.{ℕ, _*_}
 use borrow.Author.Tests.{not-true, not-false}
 use Rattle.judging.specs.declared.fault.Fault.{Fault}
 use Rattle.operand.specs.Causes.{solveBytesCauses}
-use Rattle.judging.specs.Faults.{isNone}
 use Rattle.judging.specs.Causes.{faultOf}
 use Rattle.judging.specs.FaultTable.{badWidth, badLength, highBit, traceIsOne}
 use Rattle.judging.proofs.CauseLaws.{judged, ends, ends-some, follows}
-use Rattle.judging.proofs.Passed.{is-clear}
 use Rattle.operand.proofs.CallLaws.{kept, filled, Sized, sized, high-same, trace-after, trace-carried, root-bytes}
 use borrow.Author.Needs.{needs}
 use Rattle.operand.proofs.bytes.solve_into.Statement.{statement}

@@ -6,11 +6,10 @@ use Rattle.gf2.proofs.Carrying.{added-carried, added-is, has-bytes, written-car
 use mathlib.Core.Path.{_≡_, refl, sym, _∙_, ap, ap₂}
 use mathlib.Core.List.{List, [], _∷_}
 use lib.ListN.{length}
-use Prim.Native.Nat.{ℕ, _+_, _*_}
+use Prim.Native.Nat.{ℕ, _+_}
 use borrow.Author.Tests.{not-true, not-false}
 use Rattle.judging.specs.declared.fault.Fault.{Fault}
 use Rattle.operand.specs.Causes.{sumBytesCauses}
-use Rattle.judging.specs.Faults.{isNone}
 use Rattle.judging.specs.Causes.{faultOf}
 use Rattle.judging.specs.FaultTable.{badWidth, badLength, highBit}
 use Rattle.judging.proofs.CauseLaws.{fine, judged, ends, ends-some, follows}

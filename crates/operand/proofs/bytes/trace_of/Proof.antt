@@ -3,14 +3,13 @@ use native.Mathlib.Omega.{arith}
 use Rattle.gf2.specs.Operands.{carriedBytes, carriedBy}
 use Rattle.gf2.specs.Quadratic.{trace}
 use Rattle.gf2.proofs.Carrying.{HasBytes}
-use mathlib.Core.Path.{_≡_, refl, sym, _∙_, ap}
+use mathlib.Core.Path.{_≡_, refl, _∙_, ap}
 use mathlib.Core.List.{List, [], _∷_}
-use Prim.Native.Nat.{ℕ, _+_, _*_}
+use Prim.Native.Nat.{ℕ, _*_}
 use borrow.Author.Tests.{not-true, not-false}
 use Rattle.judging.specs.declared.fault.Fault.{Fault}
 use Rattle.operand.specs.Causes.{bytesCauses}
 use Rattle.operand.specs.Calls.{traceAnswer}
-use Rattle.judging.specs.Faults.{isNone}
 use Rattle.judging.specs.Causes.{faultOf}
 use Rattle.judging.specs.FaultTable.{badWidth, badLength, notW, highBit}
 use Rattle.judging.proofs.CauseLaws.{fine, judged, ends, ends-some, follows}

@@ -1,7 +1,7 @@
 -- `operand::bytes::turn_into` meets its contract.
 use Rattle.gf2.specs.Operands.{carriedBy, turned}
 use Rattle.gf2.specs.Coordinates.{coord, pack}
-use Rattle.gf2.proofs.Carrying.{turned-carried, turned-is, has-bytes, written-carried, clear-carried}
+use Rattle.gf2.proofs.Carrying.{turned-carried, turned-is, has-bytes, written-carried}
 use mathlib.Core.Path.{_≡_, refl, _∙_, ap}
 use mathlib.Core.List.{List, [], _∷_}
 use lib.ListN.{length}
@@ -9,7 +9,6 @@ use Prim.Native.Nat.{ℕ}
 use borrow.Author.Tests.{not-true, not-false}
 use Rattle.judging.specs.declared.fault.Fault.{Fault}
 use Rattle.operand.specs.Causes.{turnBytesCauses}
-use Rattle.judging.specs.Faults.{isNone}
 use Rattle.judging.specs.Causes.{faultOf}
 use Rattle.judging.specs.FaultTable.{badWidth, badLength, highBit, turnTooFar}
 use Rattle.judging.proofs.CauseLaws.{fine, judged, ends, ends-some, follows}

@@ -1,15 +1,12 @@
 -- `operand::bytes::zero_into` meets its contract.
-use mathlib.Core.Path.{_∙_, ap, sym}
+use mathlib.Core.Path.{_∙_}
 use mathlib.Core.List.{[]}
 use lib.ListN.{length}
 use Rattle.gf2.specs.Operands.{bytesFor, zeroes}
-use borrow.Author.Tests.{not-true, not-false}
 use Rattle.operand.specs.Causes.{constantCauses}
-use Rattle.judging.specs.Faults.{isNone}
 use Rattle.judging.specs.Causes.{faultOf}
-use Rattle.judging.specs.FaultTable.{badWidth}
 use Rattle.judging.proofs.CauseLaws.{fine, judged}
-use Rattle.judging.proofs.Passed.{is-width, as-laid-down}
+use Rattle.judging.proofs.Passed.{as-laid-down}
 use Rattle.operand.proofs.CallLaws.{kept, filled, zero-out}
 use borrow.Author.Needs.{needs}
 use Rattle.operand.proofs.bytes.zero_into.Statement.{statement}
