@@ -4,7 +4,7 @@
 use std::path::{Path, PathBuf};
 use std::{env, fs};
 
-const CRATES: [&str; 11] = [
+const CRATES: [&str; 12] = [
     "limbs",
     "judging",
     "operand",
@@ -13,6 +13,7 @@ const CRATES: [&str; 11] = [
     "product",
     "gaussian",
     "card",
+    "card_writer",
     "netlist",
     "list_writer",
     "nb",
