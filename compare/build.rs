@@ -13,6 +13,7 @@ const CRATES: [&str; 12] = [
     "product",
     "gaussian",
     "card",
+    "card_writer",
     "netlist",
     "runner",
     "list_writer",

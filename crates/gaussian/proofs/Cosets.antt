@@ -9,12 +9,11 @@ use native.Mathlib.Decide.{ℕ-discrete, decLt}
 use native.Mathlib.Omega.{arith}
 use borrow.Author.Tests.{eq-eqb, ne-eqb}
 use lib.Pow.{pow-add}
-use native.Mathlib.Numerals.{add-one}
 use Rattle.gaussian.specs.Types.{Prime, IsOrder, IsType}
 use Rattle.gaussian.specs.Table.{some, inK, inCoset}
 use Rattle.gaussian.proofs.Modulo.{mul-mod-right, mul-cong, pow-mul, mul-pow, pow-cong, mul-one-mod, pow-one, order-divides, order-exists}
 use Rattle.gaussian.proofs.Soundness.{hit-refutes}
-use Rattle.gaussian.proofs.Fermat.{fermat}
+use Rattle.gaussian.proofs.Two.{two-whole}
 
 -- the powers of g below its order are distinct
 distinct : (g m p : ℕ) → 1 < p → IsOrder m g p → (i j : ℕ) → i < j → j < m → g ^ i % p ≢ g ^ j % p
@@ -77,9 +76,6 @@ module _ (m t : ℕ) (hm : 1 < m) (ty : IsType m t) where
   hp : Prime p
   hp = ty .0
 
-  size : p ≡ suc (t * m)
-  size = add-one (t * m)
-
   m-pos : 0 < m
   m-pos = le-of-lt hm
 
@@ -89,11 +85,10 @@ module _ (m t : ℕ) (hm : 1 < m) (ty : IsType m t) where
   p-pos : 0 < p
   p-pos = le-of-lt (hp .0)
 
-  fermat-p : (x : ℕ) → 0 < x → x < p → x ^ (t * m) % p ≡ 1
-  fermat-p x h h′ = subst (λ (n : ℕ). x ^ (t * m) % n ≡ 1) (sym size) (fermat x (t * m) (subst Prime size hp) h (subst (λ (n : ℕ). x < n) size h′))
-
-  two-whole : 2 ^ (t * m) % p ≡ 1
-  two-whole = fermat-p 2 (suc-le-suc zero-le) (omega (arith, size, at-least))
+  two-all : 2 ^ (t * m) % p ≡ 1
+  two-all =
+      let even : t * m ≡ 2 * (t * m / 2) = omega (arith, hp .1 2 (omega arith) (omega (arith, at-least))) in
+      rw (← even) at (two-whole (t * m / 2) p (omega arith) hp)
 
   abbrev pub g : ℕ
   g = 2 ^ t
@@ -102,7 +97,7 @@ module _ (m t : ℕ) (hm : 1 < m) (ty : IsType m t) where
   g-pow j = sym (pow-mul 2 t j)
 
   g-whole : g ^ m % p ≡ 1
-  g-whole = ap (λ (x : ℕ). x % p) (g-pow m) ∙ two-whole
+  g-whole = ap (λ (x : ℕ). x % p) (g-pow m) ∙ two-all
 
   -- the order of 2 ^ t is m
   g-order : IsOrder m g p
@@ -167,14 +162,14 @@ module _ (m t : ℕ) (hm : 1 < m) (ty : IsType m t) where
         ∙ mul-cong (x ^ t) (2 ^ (t * s)) ((2 ^ r) ^ t) (2 ^ (t * r)) p (power ∙ ap (λ (z : ℕ). z % p) (g-pow s)) (ap (λ (z : ℕ). z % p) (sym (pow-mul 2 r t) ∙ ap (λ (z : ℕ). 2 ^ z) (mul-comm r t)))
         ∙ ap (λ (z : ℕ). z % p) (sym (pow-add 2 (t * s) (t * r)))
         ∙ ap (λ (z : ℕ). 2 ^ z % p) (sym (mul-add t s r) ∙ ap (λ (z : ℕ). t * z) sum ∙ mul-comm t (t * m))
-        ∙ pow-one 2 p (t * m) t (hp .0) two-whole
+        ∙ pow-one 2 p (t * m) t (hp .0) two-all
 
     turned : 2 ^ s * u % p ≡ x
     unfolding u
     turned =
         sym (mul-mod-right (2 ^ s) (x * 2 ^ r) p)
         ∙ ap (λ (z : ℕ). z % p) (mul-left-comm (2 ^ s) x (2 ^ r) ∙ ap (λ (z : ℕ). x * z) (sym (pow-add 2 s r) ∙ ap (λ (z : ℕ). 2 ^ z) sum))
-        ∙ mul-one-mod x (2 ^ (t * m)) p two-whole
+        ∙ mul-one-mod x (2 ^ (t * m)) p two-all
         ∙ mod-eq-of-lt hx
 
     pub coset-in : inCoset p t s x ≡ true

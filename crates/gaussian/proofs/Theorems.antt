@@ -16,7 +16,7 @@ use Rattle.gaussian.specs.Statements.{Listed, TypeList, DrawnTable, Draw
 use Rattle.gaussian.proofs.Entries.{both, both-left, every, at}
 use Rattle.gaussian.proofs.TypeTests.{entry, isType, noneBelow}
 use Rattle.gaussian.proofs.Soundness.{least}
-use Rattle.gaussian.proofs.Eight.{eight}
+use Rattle.gaussian.proofs.Two.{eight}
 use Rattle.gaussian.proofs.RowLaws.{row-of, rows-table}
 
 passes : T (every entry 0 types)

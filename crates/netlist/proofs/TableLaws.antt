@@ -16,12 +16,11 @@ use Rattle.gf2.specs.Tables.{row, onesIn}
 use Rattle.gf2.proofs.Sums.{sum-ext, sum-clear, every-at, every-of}
 use Rattle.gf2.proofs.Parity.{bool-ext}
 use Rattle.gf2.proofs.Coordinates.{coord-lt}
-use Rattle.judging.proofs.Passed.{size-small}
 use Rattle.limbs.specs.Limbs.{carriedLimbs, limbCoord, rowLimbs}
 use Rattle.limbs.proofs.LimbCoords.{limb-pack}
-use Rattle.limbs.proofs.LimbRows.{sum-bits, ones-fit, row-limbs}
+use Rattle.limbs.proofs.LimbRows.{sum-bits, row-limbs}
 use Rattle.table.specs.Rows.{Shaped}
-use Rattle.table.proofs.TableOnes.{table-ones}
+use Rattle.table.proofs.TableOnes.{ones-small}
 use Rattle.netlist.specs.Lists.{allOnes}
 use Rattle.netlist.specs.Counts.{Countable}
 use Rattle.netlist.proofs.SumLaws.{sum-next, sum-one}
@@ -73,6 +72,4 @@ full-count {m} {table} d s l {x} {n} ex en = bool-ext _ _
 
 -- the ones of all bytes are those of all rows
 pub ones-counted : {m : ℕ} {table : List ℕ} → Shaped m table → {n : ℕ} → n ≡ sum (8 * length table) (coord table) % 2 ^ 64 → n ≡ onesIn m table
-ones-counted {m} {table} s e =
-    let k : 8 * length table ≡ length table * 8 = omega arith in
-    e ∙ ones-fit table (omega (arith, s .isTable .size, size-small m (s .greatest))) ∙ ap (λ n. sum n (coord table)) k ∙ table-ones m table (s .isTable)
+ones-counted {m} {table} s e = e ∙ ones-small m table (s .greatest) (s .isTable)

@@ -15,7 +15,6 @@ use Rattle.gf2.proofs.Sums.{sum-none}
 use Rattle.gf2.proofs.Operands.{coord-from, from-eq, from-ext, from-coord, from-operand}
 use Rattle.gf2.proofs.OperandVectors.{bytes-fit}
 use Rattle.gf2.proofs.Theorems.{theoremA, theoremE}
-use Rattle.judging.specs.Faults.{isNone}
 use Rattle.table.proofs.Theorems.{symmetry}
 use Rattle.netlist.specs.Gates.{Netlist}
 use Rattle.netlist.specs.Lists.{plain, reduced, common, allOnes, fullRows}

@@ -1,8 +1,10 @@
--- Where 8 divides p - 1 and p is prime, 2 to (p - 1) / 2 leaves 1 modulo p (2 is a square). So a width that 8 divides has no type.
+-- Powers of 2 modulo a prime p: 2 to p - 1 leaves 1 where p is odd (Fermat), and 2 to (p - 1) / 2 where 8 divides p - 1 (2 is a
+-- square), so that a width that 8 divides has no type. Both by the product 2 · 4 ⋯ 2k, which is 2^k · k!: modulo p its later factors
+-- are the odd numbers, in the second case but for their signs, so that it is k! too.
 use mathlib.Core.Path.{_≡_, refl, sym, ap, ap₂, _∙_, subst}
 use mathlib.Core.Logic.{_⊎_, inl, inr}
 use Prim.Native.Nat.{ℕ, zero, suc, _+_, _-_, _*_, _/_, _%_, _^_, _≤_, _<_, _∣_, zero-le, suc-le-suc}
-use native.Mathlib.Nat.{zero-add, one-mul, mul-one, mul-comm, mul-assoc, mul-add, add-mul, mul-left-comm, mul-mul-mul-comm, le-refl, le-trans, le-of-lt, not-suc-le-zero, mod-lt, mod-eq-of-lt, mod-add-div', add-mul-mod-self-right, dvd-add-iff-right, dvd-mul-left-of-dvd, dvd-mul-right, eq-zero-or-pos, pow-suc, mul-div-cancel', dvd-mul-left}
+use native.Mathlib.Nat.{add-zero, add-suc, add-mod-left, zero-add, one-mul, mul-one, mul-comm, mul-assoc, mul-add, add-mul, mul-left-comm, mul-mul-mul-comm, le-refl, le-trans, le-of-lt, not-suc-le-zero, mod-lt, mod-eq-of-lt, mod-add-div', add-mul-mod-self-right, dvd-add-iff-right, dvd-mul-left-of-dvd, dvd-mul-right, eq-zero-or-pos, pow-suc, mul-div-cancel', dvd-mul-left}
 use native.Mathlib.Decide.{ℕ-discrete}
 use native.Mathlib.Omega.{arith}
 use lib.Pow.{pow-pos}
@@ -32,13 +34,17 @@ euclid′ p b (suc f) a hp h h₁ h₂ d = pick (ℕ-discrete a 1) (λ l pos q. 
         positive (inl z) = absurd (hp .1 a (omega arith) h₂ z)
         positive (inr z) = z
 
-pub euclid : (p a b : ℕ) → Prime p → 0 < a → a < p → p ∣ a * b → p ∣ b
+euclid : (p a b : ℕ) → Prime p → 0 < a → a < p → p ∣ a * b → p ∣ b
 euclid p a b hp h h′ d = euclid′ p b a a hp (le-refl a) h h′ d
 
--- the product 2 · 4 ⋯ 2k, the product 1 · 3 ⋯ (2k - 1), the product of k factors n, n - 2, ⋯ and the factorial
+-- the product 2 · 4 ⋯ 2k, its factors after the first c, the product 1 · 3 ⋯ (2k - 1), that of k factors n, n - 2, ⋯ and the factorial
 evens : ℕ → ℕ
 evens zero = 1
 evens (suc k) = evens k * (2 * suc k)
+
+later : ℕ → ℕ → ℕ
+later c zero = 1
+later c (suc k) = later c k * (2 * (c + suc k))
 
 odds : ℕ → ℕ
 odds zero = 1
@@ -72,6 +78,18 @@ factorial-halves (suc k) = ap factorial shape ∙ ap (λ (x : ℕ). x * suc (2 *
         mul-assoc (evens k * odds k) (suc (2 * k)) (suc (suc (2 * k)))
         ∙ ap (λ (x : ℕ). evens k * odds k * x) (mul-comm (suc (2 * k)) (suc (suc (2 * k))) ∙ ap₂ _*_ (sym shape) (omega arith))
         ∙ sym (mul-mul-mul-comm (evens k) (2 * suc k) (odds k) (2 * k + 1))
+
+evens-later : (c k : ℕ) → evens (c + k) ≡ evens c * later c k
+unfolding evens later
+evens-later c zero = ap evens (add-zero c) ∙ sym (mul-one (evens c))
+evens-later c (suc k) = ap evens (add-suc c k) ∙ ap₂ _*_ (evens-later c k) (omega arith) ∙ mul-assoc (evens c) (later c k) (2 * (c + suc k))
+
+later-odds : (h p : ℕ) → p ≡ 2 * h + 1 → (k : ℕ) → later h k % p ≡ odds k % p
+unfolding later odds
+later-odds h p e zero = refl
+later-odds h p e (suc k) =
+    let shape : 2 * (h + suc k) ≡ p + (2 * k + 1) = omega arith in
+    mul-cong (later h k) (odds k) (2 * (h + suc k)) (2 * k + 1) p (later-odds h p e k) (ap (λ (x : ℕ). x % p) shape ∙ add-mod-left p (2 * k + 1))
 
 -- 2 · 4 ⋯ 2n = (2 · 4 ⋯ 2c) · (the last k factors), where k + c = n
 evens-split : (n k c : ℕ) → k + c ≡ n → evens n ≡ evens c * downs (2 * n) k
@@ -113,7 +131,7 @@ downs-odds n p e (suc j) h =
     shape = omega arith
 
 -- what may be added with the remainder unchanged is divided
-pub same-remainder : (p a x : ℕ) → (a + x) % p ≡ a % p → p ∣ x
+same-remainder : (p a x : ℕ) → (a + x) % p ≡ a % p → p ∣ x
 same-remainder p a x e = dvd-add-iff-right p (dvd-mul-left p (a / p)) .1 (subst (λ (y : ℕ). p ∣ y) (sym both) (dvd-mul-left p ((a + x) / p)))
   where
     both : a / p * p + x ≡ (a + x) / p * p
@@ -124,38 +142,36 @@ unfolding factorial
 cancel p c zero hp h d = subst (λ (x : ℕ). p ∣ x) (one-mul c) d
 cancel p c (suc k) hp h d = euclid p (suc k) c hp (suc-le-suc zero-le) h (cancel p (suc k * c) k hp (le-of-lt h) (subst (λ (x : ℕ). p ∣ x) (mul-assoc (factorial k) (suc k) c) d))
 
-two-half : (n p : ℕ) → p ≡ 8 * n + 1 → Prime p → 2 ^ (4 * n) % p ≡ 1
-two-half n p e hp = ap (λ (x : ℕ). x % p) (sym one-more) ∙ last
+-- where 2^k leaves a factorial as it was, it leaves 1
+leaves-one : (p k n : ℕ) → Prime p → n < p → 2 ^ k * factorial n % p ≡ factorial n % p → 2 ^ k % p ≡ 1
+leaves-one p k n hp h e = ap (λ (x : ℕ). x % p) (more ∙ ap (λ (x : ℕ). 1 + x) whole) ∙ add-mul-mod-self-right 1 (c / p) p ∙ mod-eq-of-lt (hp .0)
   where
     f : ℕ
-    f = factorial (4 * n)
+    f = factorial n
 
     c : ℕ
-    c = 2 ^ (4 * n) - 1
+    c = 2 ^ k - 1
 
-    one-more : 1 + c ≡ 2 ^ (4 * n)
-    one-more = omega (arith, pow-pos (4 * n))
+    more : 2 ^ k ≡ 1 + c
+    more = omega (arith, pow-pos k)
 
-    same : 2 * (2 * n) ≡ 4 * n
-    same = omega arith
+    sum : f + f * c ≡ 2 ^ k * f
+    sum = omega (arith, mul-add f 1 c, mul-one f) ∙ mul-comm f (1 + c) ∙ ap (λ (x : ℕ). x * f) (sym more)
 
-    product : 2 ^ (4 * n) * f % p ≡ f % p
-    product =
-        ap (λ (x : ℕ). x % p) (sym (evens-factorial (4 * n)) ∙ evens-split (4 * n) (2 * n) (2 * n) (omega arith))
-        ∙ mul-cong (evens (2 * n)) (evens (2 * n)) (downs (2 * (4 * n)) (2 * n)) (odds (2 * n)) p refl (downs-odds (2 * (4 * n)) p (omega arith) n (omega arith))
-        ∙ ap (λ (x : ℕ). x % p) (sym (factorial-halves (2 * n)) ∙ ap factorial same)
+    whole : c ≡ c / p * p
+    whole = sym (mul-div-cancel' p (cancel p c n hp h (same-remainder p f (f * c) (ap (λ (x : ℕ). x % p) sum ∙ e)))) ∙ mul-comm p (c / p)
 
-    sum : f + f * c ≡ 2 ^ (4 * n) * f
-    sum = omega (arith, mul-add f 1 c, mul-one f) ∙ mul-comm f (1 + c) ∙ ap (λ (x : ℕ). x * f) one-more
+pub two-whole : (h p : ℕ) → p ≡ 2 * h + 1 → Prime p → 2 ^ (2 * h) % p ≡ 1
+two-whole h p e hp = leaves-one p (2 * h) (2 * h) hp (omega arith)
+    (ap (λ (x : ℕ). x % p) (sym (evens-factorial (2 * h)) ∙ ap evens (omega arith) ∙ evens-later h h)
+    ∙ mul-cong (evens h) (evens h) (later h h) (odds h) p refl (later-odds h p e h)
+    ∙ ap (λ (x : ℕ). x % p) (sym (factorial-halves h)))
 
-    divides : p ∣ c
-    divides = cancel p c (4 * n) hp (omega arith) (same-remainder p f (f * c) (ap (λ (x : ℕ). x % p) sum ∙ product))
-
-    last : (1 + c) % p ≡ 1
-    last =
-        ap (λ (x : ℕ). (1 + x) % p) (sym (mul-div-cancel' p divides) ∙ mul-comm p (c / p))
-        ∙ add-mul-mod-self-right 1 (c / p) p
-        ∙ mod-eq-of-lt (hp .0)
+two-half : (n p : ℕ) → p ≡ 8 * n + 1 → Prime p → 2 ^ (4 * n) % p ≡ 1
+two-half n p e hp = leaves-one p (4 * n) (4 * n) hp (omega arith)
+    (ap (λ (x : ℕ). x % p) (sym (evens-factorial (4 * n)) ∙ evens-split (4 * n) (2 * n) (2 * n) (omega arith))
+    ∙ mul-cong (evens (2 * n)) (evens (2 * n)) (downs (2 * (4 * n)) (2 * n)) (odds (2 * n)) p refl (downs-odds (2 * (4 * n)) p (omega arith) n (omega arith))
+    ∙ ap (λ (x : ℕ). x % p) (sym (factorial-halves (2 * n)) ∙ ap factorial (omega arith)))
 
 -- a width that 8 divides has no type
 pub eight : (m : ℕ) → 0 < m → m % 8 ≡ 0 → (t : ℕ) → ¬ IsType m t
