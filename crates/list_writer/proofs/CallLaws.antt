@@ -25,8 +25,8 @@ use Rattle.netlist.specs.Calls.{answer, refusedWith, countedAs, countsCall, lis
 use Rattle.netlist.specs.Statements.{Sized}
 use Rattle.netlist.specs.Methods.{listBy, sharedBy, tallied, tallyCall}
 use Rattle.netlist.proofs.CallLaws.{table-fine, sized-by, answer-counted, tally-answer}
-use Rattle.list_writer.specs.Folds.{listed, Told}
-use Rattle.list_writer.proofs.PutLaws.{few-words}
+use Rattle.list_writer.specs.Inner.{listed, Told}
+use Rattle.list_writer.proofs.ListLaws.{few-words}
 
 -- what is told by the numbers
 module _ (method : Method) (m : ℕ) (table : List ℕ) {t : Numbers} (e : t ≡ tallyCall method m table) where

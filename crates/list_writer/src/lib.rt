@@ -1,8 +1,5 @@
 // Writing the gate lists of a table.
-mod columns;
 mod lists;
-mod store;
-mod terms;
 
 pub use lists::list_common;
 pub use lists::list_plain;

@@ -2,7 +2,7 @@
 use mathlib.Core.Path.{ap, _∙_}
 use native.Mathlib.Omega.{arith}
 use lib.ListN.{set}
-use Rattle.list_writer.proofs.PutLaws.{outputs-length, list-done}
+use Rattle.list_writer.proofs.ListLaws.{outputs-length, list-done}
 use Rattle.list_writer.proofs.CallLaws.{told-few}
 use borrow.Author.Needs.{needs}
 use Rattle.list_writer.proofs.lists.put_list.Statement.{statement}

@@ -1,0 +1,166 @@
+-- Laws of gates that are stored one after another: those of pairs, and the folds of several coordinates; and where a part is stored.
+use mathlib.Core.Path.{_≡_, refl, sym, ap, ap₂, _∙_, subst}
+use mathlib.Core.Bool.{Bool, true, false, true≢false}
+use mathlib.Core.List.{List, [], _∷_, _++_}
+use Prim.Native.Nat.{ℕ, zero, suc, _+_, _-_, _*_, _/_, _<_, _≤_}
+use native.Mathlib.Nat.{suc-mul, zero-add}
+use native.Mathlib.Numerals.{add-one}
+use native.Mathlib.Omega.{arith}
+use lib.ListN.{length, set, length-append}
+use lib.Seq.{sets}
+use lib.Dec.{ltb}
+use borrow.Author.Tests.{lt-ltb, le-ltb, ltb-true, ltb-false}
+use Rattle.gf2.specs.Sums.{sum}
+use Rattle.gf2.specs.Operands.{maxWidth, choose}
+use Rattle.gf2.proofs.Sums.{sum-ext}
+use Rattle.netlist.specs.Gates.{Gate, AND, XOR, wordLimit, gateWords}
+use Rattle.netlist.specs.Lists.{each, only, fold, end, start, folds, ends}
+use Rattle.netlist.proofs.SumLaws.{sum-most}
+use Rattle.netlist.proofs.FoldLaws.{length-fold}
+use Rattle.netlist.proofs.NetlistLaws.{length-ends, start-folds}
+use Rattle.netlist.proofs.StoreLaws.{sets-snoc}
+use Rattle.list_parts.specs.declared.store.Fold.{Fold}
+use Rattle.list_parts.specs.Parts.{fits, Put, pairGate, rowGates, pairGates, pairsFrom, foldsFrom}
+use Rattle.list_parts.specs.Folds.{fresh, Pushed}
+use Rattle.list_parts.proofs.WriteLaws.{whole-pushed, whole-stored, words-more}
+use Rattle.list_parts.proofs.TermLaws.{each-ext}
+
+-- no gates, one gate, gates after gates
+pub put-none : (n : ℕ) (old : List ℕ) → Put n old [] n old
+unfolding gateWords
+put-none n old = record { next = omega arith; words = refl }
+
+pub put-and : {n : ℕ} {old out : List ℕ} {l r : ℕ} → out ≡ sets old (2 + 3 * n) (0 ∷ l ∷ r ∷ []) → Put n old (AND l r ∷ []) (n + 1) out
+unfolding gateWords
+put-and e = record { next = refl; words = e }
+
+pub put-xor : {n : ℕ} {old out : List ℕ} {l r : ℕ} → out ≡ sets old (2 + 3 * n) (1 ∷ l ∷ r ∷ []) → Put n old (XOR l r ∷ []) (n + 1) out
+unfolding gateWords
+put-xor e = record { next = refl; words = e }
+
+pub put-more : {n k q : ℕ} {old mid out : List ℕ} {a b : List Gate} → Put n old a k mid → Put k mid b q out → Put n old (a ++ b) q out
+put-more {n} {k} {q} {old} {mid} {out} {a} {b} x y = record {
+  next = omega (arith, x .next, y .next, length-append a b);
+  words = y .words ∙ ap₂ (λ z w. sets z (2 + 3 * w) (gateWords b)) (x .words) (x .next) ∙ words-more n a b old;
+}
+
+pub put-most : {n k : ℕ} {old out : List ℕ} {a : List Gate} (m : ℕ) → Put n old a k out → length a ≤ m → k ≤ n + m
+put-most m x h = omega (arith, x .next)
+
+-- the gates of pairs
+module _ (mixed : Bool) (m : ℕ) where
+  pub gates-none : (i : ℕ) → rowGates mixed m i 0 ≡ []
+  unfolding rowGates each
+  gates-none i = refl
+
+  pub gates-more : (i j : ℕ) → rowGates mixed m i (j + 1) ≡ rowGates mixed m i j ++ pairGate mixed m i j
+  unfolding rowGates each
+  gates-more i j = rw add-one
+
+  gate-most : (i j : ℕ) → length (pairGate mixed m i j) ≤ 1
+  gate-most i j = go mixed (ltb i j) refl
+    where
+      go : (b c : Bool) → ltb i j ≡ c → length (pairGate b m i j) ≤ 1
+      go false c e = unfold pairGate only in omega arith
+      go true true e = unfold pairGate only in rw e (omega arith)
+      go true false e = unfold pairGate only in rw e (omega arith)
+
+  pub gates-most : (i j : ℕ) → length (rowGates mixed m i j) ≤ j
+  gates-most i zero = rw (gates-none i) (omega arith)
+  gates-most i (suc j) = rw (sym (ap (rowGates mixed m i) (add-one j)) ∙ gates-more i j, length-append) (omega (arith, gates-most i j, gate-most i j))
+
+  pub pairs-none : pairGates mixed m 0 ≡ []
+  unfolding pairGates each
+  pairs-none = refl
+
+  pub pairs-more : (i : ℕ) → pairGates mixed m (i + 1) ≡ pairGates mixed m i ++ rowGates mixed m i m
+  unfolding pairGates each
+  pairs-more i = rw add-one
+
+  pub pairs-most : (i : ℕ) → length (pairGates mixed m i) ≤ i * m
+  pairs-most zero = rw pairs-none (omega arith)
+  pairs-most (suc i) = rw (sym (ap (pairGates mixed m) (add-one i)) ∙ pairs-more i, length-append) (omega (arith, pairs-most i, gates-most i m, suc-mul i m))
+
+-- a whole fold
+fold-put : {m k : ℕ} {terms out mid : List ℕ} {f : Fold} → Pushed m (fresh k) out terms f mid → Put k out (fold (2 * m + k) terms) (f .gates) mid × (f .running ≡ end (2 * m + k) terms)
+fold-put {m} {k} {terms} {out} p = (
+  record {
+    next = ap (λ (g : Fold). g .gates) (p .fold ∙ whole-pushed m k terms) ∙ ap (λ n. k + n) (sym (length-fold (2 * m + k) terms));
+    words = p .words ∙ whole-stored m k terms out;
+  },
+  ap (λ (g : Fold). g .running) (p .fold ∙ whole-pushed m k terms),
+)
+
+-- the folds of `terms` for the first coordinates, `count` of them, are stored from gate n on, and the wires of their sums
+pub record Folded (m count n : ℕ) (terms : ℕ → List ℕ) (old wires : List ℕ) (k : ℕ) (out new : List ℕ) : Type 0 where
+  pub put : Put n old (folds count (2 * m + n) terms) k out
+  pub sums : new ≡ sets wires 0 (ends count (2 * m + n) terms)
+
+-- coordinate after coordinate
+module _ {m n : ℕ} {terms : ℕ → List ℕ} {old wires : List ℕ} where
+  pub folds-none : Folded m 0 n terms old wires n old wires
+  unfolding folds ends each
+  folds-none = record { put = put-none n old; sums = refl }
+
+  -- each fold has a gate less than terms
+  pub folds-few : {r k : ℕ} {out sums : List ℕ} (c : ℕ) → Folded m r n terms old wires k out sums → ((i : ℕ) → length (terms i) ≤ c + 1) → k ≤ n + r * c
+  folds-few {r} c x h = omega (arith, x .put .next, start-folds (2 * m + n) terms r, first, sum-most r c (λ i. length (terms i) - 1) (λ i. omega (arith, h i)))
+    where
+      first : start (2 * m + n) terms r ≡ 2 * m + n + sum r (λ i. length (terms i) - 1)
+      first = unfold start in refl
+
+  pub folds-more : {r k : ℕ} {out mid sums new : List ℕ} {f : Fold} → Folded m r n terms old wires k out sums → Pushed m (fresh k) out (terms r) f mid →
+      new ≡ set sums r (f .running) → Folded m (r + 1) n terms old wires (f .gates) mid new
+  folds-more {r} {k} {sums = sums} x p e = record {
+    put = rw (gates-more r) (put-more (x .put) (rw at-r at (fold-put p .0)));
+    sums = e ∙ ap₂ (λ s w. set s r w) (x .sums) (fold-put p .1 ∙ ap (λ z. end z (terms r)) at-r) ∙ ap (λ z. set (sets wires 0 (ends r (2 * m + n) terms)) z (end (start (2 * m + n) terms r) (terms r))) (sym (zero-add r))
+        ∙ sets-snoc wires 0 r (ends r (2 * m + n) terms) _ (length-ends (2 * m + n) terms r) ∙ ap (sets wires 0) (sym (ends-more r));
+  }
+    where
+      at-r : 2 * m + k ≡ start (2 * m + n) terms r
+      at-r = omega (arith, x .put .next, start-folds (2 * m + n) terms r)
+
+      gates-more : (r : ℕ) → folds (r + 1) (2 * m + n) terms ≡ folds r (2 * m + n) terms ++ fold (start (2 * m + n) terms r) (terms r)
+      gates-more r = unfold folds each in ap (λ i. each i (λ r. fold (start (2 * m + n) terms r) (terms r))) (add-one r)
+
+      ends-more : (r : ℕ) → ends (r + 1) (2 * m + n) terms ≡ ends r (2 * m + n) terms ++ (end (start (2 * m + n) terms r) (terms r) ∷ [])
+      ends-more r = unfold ends each in ap (λ i. each i (λ r. end (start (2 * m + n) terms r) (terms r) ∷ [])) (add-one r)
+
+-- terms that are the same for the coordinates
+module _ (count n : ℕ) (T U : ℕ → List ℕ) (e : (r : ℕ) → r < count → T r ≡ U r) where
+  start-same : (r : ℕ) → r < count → start n T r ≡ start n U r
+  unfolding start
+  start-same r l = ap (λ k. n + k) (sum-ext r _ _ (λ k g. ap (λ z. length z - 1) (e k (omega arith))))
+
+  folds-same : folds count n T ≡ folds count n U
+  unfolding folds
+  folds-same = each-ext count (λ r l. ap₂ fold (start-same r l) (e r l))
+
+  ends-same : ends count n T ≡ ends count n U
+  unfolding ends
+  ends-same = each-ext count (λ r l. ap₂ (λ s z. end s z ∷ []) (start-same r l) (e r l))
+
+pub folded-same : {m n k c count : ℕ} {T U : ℕ → List ℕ} {old wires out new : List ℕ} → c ≡ count → ((r : ℕ) → r < count → T r ≡ U r) → Folded m count n T old wires k out new → Folded m c n U old wires k out new
+folded-same {m} {n} {k} {c} {count} {T} {U} {old} {wires} {out} q e x = record {
+  put = subst (λ z. Put n old z k out) (folds-same count (2 * m + n) T U e ∙ ap (λ z. folds z (2 * m + n) U) (sym q)) (x .put);
+  sums = x .sums ∙ ap (sets wires 0) (ends-same count (2 * m + n) T U e ∙ ap (λ z. ends z (2 * m + n) U) (sym q));
+}
+
+-- where a part is stored
+pub fits-known : (m n : ℕ) → fits m n ≡ true → (2 ≤ m) × (m ≤ maxWidth) × (n < wordLimit / 2)
+fits-known m n e = go (ltb m 2) (ltb maxWidth m) refl refl e
+  where
+    go : (a b : Bool) → ltb m 2 ≡ a → ltb maxWidth m ≡ b → choose a false (choose b false (ltb n (wordLimit / 2))) ≡ true → (2 ≤ m) × (m ≤ maxWidth) × (n < wordLimit / 2)
+    go false false p q e = (ltb-false m 2 p, ltb-false maxWidth m q, ltb-true n (wordLimit / 2) e)
+    go true b p q e = absurd (true≢false (sym e))
+    go false true p q e = absurd (true≢false (sym e))
+
+module _ {m n : ℕ} (two : 2 ≤ m) (most : m ≤ maxWidth) (few : n < wordLimit / 2) where
+  pub fits-true : fits m n ≡ true
+  fits-true = rw (le-ltb m 2, le-ltb maxWidth m, lt-ltb n (wordLimit / 2) few)
+
+  pub pairs-fit : (mixed : Bool) → pairsFrom mixed m n ≡ pairGates mixed m m
+  pairs-fit mixed = ap (λ b. choose b (pairGates mixed m m) []) fits-true
+
+  pub count-fits : {count : ℕ} → count ≤ m → foldsFrom m count n ≡ count
+  count-fits {count} l = ap₂ (λ b c. choose b (choose c 0 count) 0) fits-true (le-ltb m count l)

@@ -1,0 +1,18 @@
+-- `list_parts::parts::fits` meets its contract.
+use borrow.Author.Tests.{lt-ltb, le-ltb}
+use native.Mathlib.Omega.{arith}
+use Rattle.gf2.specs.Operands.{maxWidth}
+use Rattle.list_parts.proofs.parts.fits.Statement.{statement}
+use Rattle.list_parts.proofs.parts.fits.Tie as tie
+
+returns : tie.Need-returns
+returns c = rw (lt-ltb _ 2 (c .if1 .taken))
+
+returns-2 : tie.Need-returns-2
+returns-2 c = let m = c .before .before .args .width in rw (le-ltb m 2 (omega (arith, c .before .if1 .left)), lt-ltb maxWidth m (c .if2 .taken))
+
+returns-3 : tie.Need-returns-3
+returns-3 c = let m = c .before .before .args .width in rw (le-ltb m 2 (omega (arith, c .before .if1 .left)), le-ltb maxWidth m (omega (arith, c .if2 .left)))
+
+pub fits-spec : {M : Type 1} → statement M
+fits-spec = tie.close (tie.spec returns returns-2 returns-3)

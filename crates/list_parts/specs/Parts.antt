@@ -1,0 +1,82 @@
+-- What the public calls store: the gates that each pair gives by itself, and the folds of a table's pairs for the coordinates.
+use mathlib.Core.Path.{_≡_}
+use mathlib.Core.Bool.{Bool, true, false, not, _&&_}
+use mathlib.Core.List.{List, [], _++_}
+use Prim.Native.Nat.{ℕ, _+_, _*_, _/_}
+use lib.ListN.{length}
+use lib.Dec.{ltb, eqb}
+use lib.Seq.{sets}
+use Rattle.gf2.specs.Coordinates.{coord}
+use Rattle.gf2.specs.Operands.{maxWidth, choose, minus}
+use Rattle.gf2.specs.Tables.{row}
+use Rattle.netlist.specs.Gates.{Gate, AND, XOR, wordLimit, gateWords}
+use Rattle.netlist.specs.Lists.{each, only, pairs, gateWire, andWire, mixWire, allOnes, folds, ends}
+use Rattle.list_parts.specs.declared.columns.Rows.{Rows}
+use Rattle.list_parts.specs.declared.columns.Rows.the-variants.{All, Full, Others}
+use Rattle.list_parts.specs.declared.terms.Terms.{Terms}
+
+-- m is a width, and every wire of a part from gate n on is a word
+abbrev pub fits : ℕ → ℕ → Bool
+fits m n = choose (ltb m 2) false (choose (ltb maxWidth m) false (ltb n (wordLimit / 2)))
+
+-- the gates are stored as gate n and those after it, and k is the next
+pub record Put (n : ℕ) (old : List ℕ) (gates : List Gate) (k : ℕ) (out : List ℕ) : Type 0 where
+  pub next : k ≡ n + length gates
+  pub words : out ≡ sets old (2 + 3 * n) (gateWords gates)
+
+-- the gate that a pair gives by itself: its AND, or where they are mixed the XOR of two ANDs
+unfoldable pub pairGate : Bool → ℕ → ℕ → ℕ → List Gate
+pairGate false m i j = only true (AND i (m + j))
+pairGate true m i j = only (ltb i j) (XOR (andWire m i j) (andWire m j i))
+
+-- those of the first j pairs of i, and of all pairs of the first n
+unfoldable pub rowGates : Bool → ℕ → ℕ → ℕ → List Gate
+rowGates mixed m i j = each j (pairGate mixed m i)
+
+unfoldable pub pairGates : Bool → ℕ → ℕ → List Gate
+pairGates mixed m n = each n (λ i. rowGates mixed m i m)
+
+-- those of all pairs, from gate n on
+abbrev pub pairsFrom : Bool → ℕ → ℕ → List Gate
+pairsFrom mixed m n = choose (fits m n) (pairGates mixed m m) []
+
+-- the rows whose pairs are folded: all; "pairs whose product is all ones"; "the other pairs"
+abbrev pub keeps : Rows → ℕ → List ℕ → ℕ → Bool
+keeps All m table d = true
+keeps Full m table d = allOnes m (row m table d)
+keeps Others m table d = not (allOnes m (row m table d))
+
+-- coordinate s of row d, 0 if the row isn't kept
+abbrev pub keptBit : Rows → ℕ → List ℕ → ℕ → ℕ → ℕ
+keptBit rows m table d s = choose (keeps rows m table d) (coord (row m table d) s) 0
+
+-- all pairs, or where they are mixed "each i < j"
+abbrev pub inOrder : Bool → ℕ → ℕ → Bool
+inOrder false i j = true
+inOrder true i j = ltb i j
+
+abbrev pub pairWire : Bool → ℕ → ℕ → ℕ → ℕ
+pairWire false m i j = andWire m i j
+pairWire true m i j = mixWire m i j
+
+-- "fold a(r-1)·b(r-1), then .."
+unfoldable pub squareTerm : Bool → ℕ → ℕ → List ℕ
+squareTerm square m r = only square (andWire m (minus m r 1) (minus m r 1))
+
+-- what is folded for r: perhaps a square, "the pairs having coordinate r", perhaps a wire "on the right"
+unfoldable pub tableTerms : Terms → ℕ → List ℕ → ℕ → List ℕ
+tableTerms t m table r =
+    squareTerm (t .mixed) m r
+    ++ pairs m (λ i j. inOrder (t .mixed) i j && eqb (keptBit (t .rows) m table (minus m j i) (minus m r i)) 1) (pairWire (t .mixed) m)
+    ++ only (t .last) (t .wire)
+
+-- how many coordinates are folded, where `count` are asked for
+abbrev pub foldsFrom : ℕ → ℕ → ℕ → ℕ
+foldsFrom m count n = choose (fits m n) (choose (ltb m count) 0 count) 0
+
+-- their gates from gate n on, and the wires of their sums
+abbrev pub foldGates : Terms → ℕ → List ℕ → ℕ → ℕ → List Gate
+foldGates t m table count n = folds (foldsFrom m count n) (gateWire m n) (tableTerms t m table)
+
+abbrev pub foldWires : Terms → ℕ → List ℕ → ℕ → ℕ → List ℕ
+foldWires t m table count n = ends (foldsFrom m count n) (gateWire m n) (tableTerms t m table)
