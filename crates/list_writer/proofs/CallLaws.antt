@@ -1,28 +1,26 @@
 -- Laws of the calls that write: what the counted gates tell of a table, and the answers and buffers.
-use mathlib.Core.Path.{_≡_, refl, sym, ap, ap₂, _∙_, subst}
-use mathlib.Core.Bool.{Bool, true, false}
-use mathlib.Core.List.{List, _++_}
+use mathlib.Core.Path.{_≡_, refl, sym, ap, _∙_}
+use mathlib.Core.Bool.{true, false}
+use mathlib.Core.List.{List, [], _∷_, _++_}
 use Prim.Native.Nat.{ℕ, zero, suc, _+_, _*_, _<_, _≤_}
 use native.Mathlib.Omega.{arith}
 use lib.ListN.{length, drop}
-use lib.Dec.{ltb}
 use borrow.Author.Tests.{lt-ltb, le-ltb}
-use Rattle.gf2.specs.Operands.{maxWidth, choose}
+use Rattle.gf2.specs.Operands.{choose}
 use Rattle.judging.specs.declared.fault.Fault.{Fault}
-use Rattle.judging.specs.declared.fault.Fault.the-variants.{OutputShort}
-use Rattle.operand.specs.Faults.{when}
+use Rattle.judging.specs.declared.fault.Fault.the-variants.{None, OutputShort}
 use Rattle.judging.specs.Faults.{isNone}
-use Rattle.operand.proofs.FaultLaws.{two-first, two-second}
+use Rattle.judging.specs.Causes.{faultOf}
+use Rattle.judging.specs.FaultTable.{tooShort, symmetryCauses}
+use Rattle.judging.proofs.CauseLaws.{fine, head-holds, none-given, stops, goes-on}
 use Rattle.table.specs.Judgements.{symmetryFault}
 use Rattle.netlist.specs.declared.CountsAnswer.{CountsAnswer}
 use Rattle.netlist.specs.declared.Numbers.{Numbers}
 use Rattle.netlist.specs.declared.counts.Method.{Method}
-use Rattle.netlist.specs.declared.counts.Method.the-variants.{Plain, Reduced, Common}
+use Rattle.netlist.specs.declared.counts.Method.the-variants.{Common}
 use Rattle.netlist.specs.Gates.{Netlist, wordLimit, words, andGates, xorGates}
-use Rattle.netlist.specs.Lists.{plain, reduced, sharing, common, fullRows, ifNone}
-use Rattle.netlist.specs.Judgements.{outputFault}
-use Rattle.netlist.specs.Calls.{answer, refusedWith, countedAs, countsCall, listFault, listCall, listBuffer}
-use Rattle.netlist.specs.Statements.{Sized}
+use Rattle.netlist.specs.Lists.{plain, sharing, common, fullRows, ifNone}
+use Rattle.netlist.specs.Calls.{answer, refusedWith, countedAs, listFault, listCall, listBuffer}
 use Rattle.netlist.specs.Methods.{listBy, sharedBy, tallied, tallyCall}
 use Rattle.netlist.proofs.CallLaws.{table-fine, sized-by, answer-counted, tally-answer}
 use Rattle.list_writer.specs.Inner.{listed, Told}
@@ -48,7 +46,7 @@ module _ (method : Method) (m : ℕ) (table : List ℕ) {t : Numbers} (e : t ≡
         same = unfold tallied in (ap (λ (t : Numbers). t .full) e ∙ ap (λ b. choose b (sharedBy method m table) 0) n)
 
     pub counted : record { fault = t .fault; ands = t .ands; xors = t .xors } ≡ countedAs (andGates (listBy method m table .gates)) (xorGates (listBy method m table .gates))
-    counted = tally-answer (symmetryFault m table) (listBy method m table) (sharedBy method m table) e ∙ answer-counted (symmetryFault m table) _ _ n
+    counted = tally-answer (symmetryFault m table) (listBy method m table) (sharedBy method m table) e ∙ answer-counted (symmetryCauses m table) _ _ (fine (symmetryCauses m table) n)
 
 -- the words of a list that is told of
 module _ {method : Method} {m : ℕ} {table : List ℕ} {full : ℕ} (t : Told method m table full) {g : ℕ} (e : g ≡ length (listBy method m table .gates)) where
@@ -88,41 +86,35 @@ module _ (m : ℕ) (table : List ℕ) (list : Netlist) (old : List ℕ) where
   )
     where
       first : listFault m table list old ≡ symmetryFault m table
-      first = unfold listFault in two-first _ _ n
+      first = stops (symmetryCauses m table) (tooShort (length old) (length (words m list)) ∷ []) n
 
       none : refusedWith (symmetryFault m table) ≡ answer (symmetryFault m table) (andGates (list .gates)) (xorGates (list .gates))
       none = unfold answer in rw n
 
   module _ (n : isNone (symmetryFault m table) ≡ true) where
-    second : listFault m table list old ≡ when (ltb (length old) (length (words m list))) OutputShort
-    second = unfold listFault outputFault in two-second _ _ n
+    second : listFault m table list old ≡ faultOf (tooShort (length old) (length (words m list)) ∷ [])
+    second = goes-on (symmetryCauses m table) (tooShort (length old) (length (words m list)) ∷ []) n
 
     pub list-short : {r : CountsAnswer} → length old < length (words m list) → r ≡ refusedWith OutputShort → Answered r old
-    list-short l e = (
-      e ∙ sym (ap (λ f. answer f (andGates (list .gates)) (xorGates (list .gates))) fault ∙ none),
-      sym (ap (λ f. choose (isNone f) (words m list ++ drop (length (words m list)) old) old) fault ∙ buffer),
-    )
+    list-short l e = (e ∙ sym none, sym buffer)
       where
         fault : listFault m table list old ≡ OutputShort
-        fault = second ∙ ap (λ b. when b OutputShort) (lt-ltb (length old) (length (words m list)) l)
+        fault = second ∙ head-holds (tooShort (length old) (length (words m list))) [] (lt-ltb (length old) (length (words m list)) l)
 
-        none : answer OutputShort (andGates (list .gates)) (xorGates (list .gates)) ≡ refusedWith OutputShort
-        none = unfold answer isNone in refl
+        none : listCall m table list old ≡ refusedWith OutputShort
+        none = unfold answer isNone in rw fault
 
-        buffer : choose (isNone OutputShort) (words m list ++ drop (length (words m list)) old) old ≡ old
-        buffer = unfold isNone in refl
+        buffer : listBuffer m table list old ≡ old
+        buffer = unfold isNone in rw fault
 
     pub list-fits : {r : CountsAnswer} {out : List ℕ} → length (words m list) ≤ length old → r ≡ countedAs (andGates (list .gates)) (xorGates (list .gates)) → out ≡ listed m list old → Answered r out
-    list-fits l e h = (
-      e ∙ sym (ap (λ f. answer f (andGates (list .gates)) (xorGates (list .gates))) fault ∙ all),
-      h ∙ sym (ap (λ f. choose (isNone f) (words m list ++ drop (length (words m list)) old) old) fault ∙ buffer),
-    )
+    list-fits l e h = (e ∙ sym all, h ∙ sym buffer)
       where
-        fault : listFault m table list old ≡ when false OutputShort
-        fault = second ∙ ap (λ b. when b OutputShort) (le-ltb (length old) (length (words m list)) l)
+        fault : listFault m table list old ≡ None
+        fault = second ∙ none-given (tooShort (length old) (length (words m list)) ∷ []) (le-ltb (length old) (length (words m list)) l, tt)
 
-        all : answer (when false OutputShort) (andGates (list .gates)) (xorGates (list .gates)) ≡ countedAs (andGates (list .gates)) (xorGates (list .gates))
-        all = unfold answer isNone in refl
+        all : listCall m table list old ≡ countedAs (andGates (list .gates)) (xorGates (list .gates))
+        all = unfold answer isNone in rw fault
 
-        buffer : choose (isNone (when false OutputShort)) (words m list ++ drop (length (words m list)) old) old ≡ words m list ++ drop (length (words m list)) old
-        buffer = unfold isNone in refl
+        buffer : listBuffer m table list old ≡ words m list ++ drop (length (words m list)) old
+        buffer = unfold isNone in rw fault

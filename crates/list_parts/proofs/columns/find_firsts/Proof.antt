@@ -1,11 +1,10 @@
 -- `list_parts::columns::find_firsts` meets its contract. The invariant: the limbs from limb k on have theirs, and n is the first one of them.
 use mathlib.Core.Path.{_≡_, refl, _∙_}
-use Prim.Native.Nat.{_+_, _-_, _*_, _≤_}
+use Prim.Native.Nat.{_-_, _*_, _≤_}
 use native.Mathlib.Omega.{arith}
 use lib.ListN.{length, length-set}
 use Rattle.list_parts.specs.Columns.{isSet, Successor, Firsts}
 use Rattle.list_parts.proofs.ColumnLaws.{firsts-none, firsts-more, from-next}
-use borrow.Author.Needs.{needs}
 use Rattle.list_parts.proofs.columns.find_firsts.Statement.{statement}
 use Rattle.list_parts.proofs.columns.find_firsts.Tie as tie
 
