@@ -2,7 +2,7 @@
 -- A refusal has a number. A card without fault has a table, and the call answers as the statements say.
 use mathlib.Core.Path.{_≡_, refl, sym, ap, ap₂, _∙_}
 use mathlib.Core.List.{List, []}
-use mathlib.Core.Bool.{false, true≢false}
+use mathlib.Core.Bool.{true, false, true≢false}
 use Prim.Native.Nat.{ℕ, _*_, _≤_}
 use lib.ListN.{length, take}
 use lib.Seq.{take-at}
@@ -34,6 +34,14 @@ found room s e = go (readCard room s) refl e
     go (refused f) q e =
         absurd (true≢false (sym (none-true e) ∙ card-blank room s f q))
     go (got t rest) q e = (t, rest, q)
+
+-- and one without a number has no fault
+pub read-none : (s old : List ℕ) → isNone (readCall s old .fault) ≡ true → readCall s old .fault ≡ None
+read-none s old n = go (readCard (length old) s) refl n
+  where
+    go : (x : Read Table) → readCard (length old) s ≡ x → isNone (readAnswer x .fault) ≡ true → readAnswer x .fault ≡ None
+    go (refused f) q e = absurd (true≢false (sym e ∙ card-blank (length old) s f q))
+    go (got t rest) q e = refl
 
 front-of : (m : ℕ) (table old : List ℕ) → length table ≡ m * bytesFor m → take (m * bytesFor m) (inFront table old) ≡ table
 front-of m table old h = take-at table _ (m * bytesFor m) h

@@ -1,48 +1,51 @@
 -- The values that the calls return have room in their bits: ones, products made, traces, gates by kind, types, lengths of cards.
-use mathlib.Core.Path.{_≡_, sym, subst}
+use mathlib.Core.Path.{_≡_, refl, sym, subst}
 use mathlib.Core.Bool.{true}
-use mathlib.Core.List.{List}
-use Prim.Native.Nat.{ℕ, zero, suc, _-_, _/_, _%_, _^_, _<_, _≤_}
+use mathlib.Core.List.{List, [], _∷_}
+use Prim.Native.Nat.{ℕ, zero, suc, _-_, _*_, _/_, _%_, _^_, _<_, _≤_}
 use native.Mathlib.Omega.{arith}
 use lib.ListN.{length}
 use Rattle.gf2.specs.Sums.{sum}
-use Rattle.gf2.specs.Operands.{maxWidth}
+use Rattle.gf2.specs.Operands.{maxWidth, bytesFor}
 use Rattle.gf2.specs.Tables.{onesIn}
 use Rattle.gf2.specs.Quadratic.{trace}
 use Rattle.gf2.specs.Inverse.{log2, binaryOnes, productsMade}
 use Rattle.gf2.proofs.Chain.{products-made}
 use Rattle.judging.specs.declared.fault.Fault.{Fault}
-use Rattle.operand.specs.Faults.{firstOf}
 use Rattle.judging.specs.Faults.{isNone}
-use Rattle.operand.specs.Judgements.{widthFault, bytesFault}
+use Rattle.judging.specs.Causes.{Cause, faultOf}
+use Rattle.judging.specs.FaultTable.{badWidth, badLength, tooShort, shapeCauses, symmetryCauses}
+use Rattle.judging.proofs.CauseLaws.{fine, none-given, none-true}
+use Rattle.judging.proofs.Searches.{fine-parts}
+use Rattle.judging.proofs.Passed.{is-width}
 use Rattle.limbs.proofs.ByteLists.{Bytes}
-use Rattle.operand.proofs.FaultLaws.{or-both, width-fine, none-is}
+use Rattle.operand.specs.Causes.{bytesCauses}
 use Rattle.table.specs.declared.OnesAnswer.{OnesAnswer}
 use Rattle.table.specs.Judgements.{symmetryFault}
 use Rattle.table.specs.Calls.{onesCall}
+use Rattle.product.specs.Causes.{inverseBytesCauses}
 use Rattle.product.proofs.ChainSteps.{log2-le}
 use Rattle.netlist.specs.declared.CountsAnswer.{CountsAnswer}
 use Rattle.netlist.specs.Gates.{Netlist, words, andGates, xorGates}
 use Rattle.netlist.specs.Lists.{plain, reduced, common}
-use Rattle.netlist.specs.Judgements.{outputFault}
-use Rattle.netlist.specs.Calls.{answer, countsCall, countsPlainCall, countsReducedCall, countsCommonCall, listFault, listCall}
+use Rattle.netlist.specs.Calls.{answer, countsCall, countsPlainCall, countsReducedCall, countsCommonCall, listCauses, listFault, listCall}
 use Rattle.netlist.specs.Statements.{Sized, ListsHold}
 use Rattle.netlist.proofs.SizeLaws.{ones-most, counts-most}
 use Rattle.netlist.proofs.Theorems.{theoremLists}
 use Rattle.netlist.proofs.CallLaws.{table-fine}
 use Rattle.netlist.proofs.TableLaws.{width-times}
 use Rattle.gaussian.specs.declared.TypeAnswer.{TypeAnswer}
-use Rattle.gaussian.specs.Calls.{answer as typed, typeCall, drawFault, drawCall}
+use Rattle.gaussian.specs.Causes.{typeZero, typeCauses, drawCauses}
+use Rattle.gaussian.specs.Calls.{answer as typed, typeCall, drawCall}
 use Rattle.gaussian.proofs.TypeBound.{type-small}
 use Rattle.card.specs.declared.CardAnswer.{CardAnswer}
 use Rattle.card.specs.Cards.{card}
-use Rattle.card.specs.Calls.{writeFault, writeCall, readCall}
-use Rattle.card.proofs.Lengths.{card-most}
-use Rattle.card.proofs.Theorems.{card-laws}
-use Rattle.nb.specs.Packing.{valueLimit, Small, Packs}
-use Rattle.nb.specs.Judgements.{inverseBytesFault}
-use Rattle.nb.proofs.PackLaws.{small-or, small-none, small-first, small-width, small-length, small-output, small-type, small-shape, small-symmetry, small-bytes, small-inverse-call, shape-greatest}
-use Rattle.nb.proofs.CardFaults.{small-read}
+use Rattle.card.specs.Calls.{readCall}
+use Rattle.card.proofs.Theorems.{card-laws, read-none}
+use Rattle.card_writer.specs.Calls.{writeCauses, writeCall}
+use Rattle.card_writer.proofs.Lengths.{card-most}
+use Rattle.nb.specs.Packing.{valueLimit, isSmall, Packs}
+use Rattle.nb.proofs.PackLaws.{small-causes, small-both, small-shape, small-symmetry, small-read}
 
 sum-bits : (n : ℕ) (f : ℕ → ℕ) → sum n (λ j. f j % 2) ≤ n
 unfolding sum
@@ -55,18 +58,15 @@ made-small m t a h l =
     omega (arith, products-made m t a h, log2-le (m - 1), sum-bits (suc (log2 (m - 1))) (λ j. (m - 1) / 2 ^ j))
 
 -- the products of an inverse
-module _ (m : ℕ) (t a old : List ℕ) where
-  inverse-width : isNone (inverseBytesFault m t a old) ≡ true → isNone (widthFault m) ≡ true
-  unfolding inverseBytesFault firstOf
-  inverse-width n = or-both _ _ n .0
-
-  pub inverse-packs : Packs (inverseBytesFault m t a old) (productsMade m t a) 0
-  inverse-packs = (small-inverse-call m t a old, λ n. let w = width-fine m (inverse-width n) in (made-small m t a (w .0) (w .1), omega arith))
+pub inverse-packs : (m : ℕ) (t a old : List ℕ) → Packs (faultOf (inverseBytesCauses m t a old)) (productsMade m t a) 0
+unfolding isSmall
+inverse-packs m t a old =
+    (small-causes (inverseBytesCauses m t a old) refl, λ n. let w = is-width m (fine (inverseBytesCauses m t a old) n .0) in (made-small m t a (w .least) (w .greatest), omega arith))
 
 -- a trace is 0 or 1
-pub trace-packs : (m : ℕ) (a : List ℕ) → Packs (bytesFault m a) (trace m a) 0
-unfolding trace
-trace-packs m a = (small-bytes m a, λ n. (omega arith, omega arith))
+pub trace-packs : (m : ℕ) (a : List ℕ) → Packs (faultOf (bytesCauses m a)) (trace m a) 0
+unfolding trace isSmall
+trace-packs m a = (small-causes (bytesCauses m a) refl, λ n. (omega arith, omega arith))
 
 ones-small : (m : ℕ) (t : List ℕ) → m ≤ maxWidth → onesIn m t < valueLimit
 ones-small m t h = omega (arith, ones-most m t, width-times m m maxWidth h h)
@@ -74,24 +74,25 @@ ones-small m t h = omega (arith, ones-most m t, width-times m m maxWidth h h)
 module _ (m : ℕ) (t : List ℕ) {r : OnesAnswer} (e : r ≡ onesCall m t) where
   pub ones-packs : Packs (r .fault) (r .ones) 0
   unfolding onesCall
-  ones-packs = subst (λ (r : OnesAnswer). Packs (r .fault) (r .ones) 0) (sym e) (small-shape m t, λ n. (rw n (ones-small m t (shape-greatest m t n)), omega arith))
+  ones-packs = subst (λ (r : OnesAnswer). Packs (r .fault) (r .ones) 0) (sym e) (small-shape m t, λ n. (rw n (ones-small m t (is-width m (fine (shapeCauses m t) n .0) .greatest)), omega arith))
 
 -- both counts of an answer
 abbrev pub PacksCounts : CountsAnswer → Type 0
 PacksCounts r = Packs (r .fault) (r .ands .0) (r .xors .0)
 
-packs : {f : Fault} (a x : ℕ) {r : CountsAnswer} → r ≡ answer f a x → Small f → (isNone f ≡ true → (a < valueLimit) × (x < valueLimit)) → PacksCounts r
+packs : (f : Fault) (a x : ℕ) {r : CountsAnswer} → r ≡ answer f a x → isSmall f ≡ true → (isNone f ≡ true → (a < valueLimit) × (x < valueLimit)) → PacksCounts r
 unfolding answer
-packs {f} a x {r} e s h = subst PacksCounts (sym e) (s, λ n. rw n (h n))
+packs f a x {r} e s h = subst PacksCounts (sym e) (s, λ n. rw n (h n))
 
 module _ (m : ℕ) (t : List ℕ) (list : Netlist) (old : List ℕ) where
-  small-list : Small (listFault m t list old)
-  unfolding listFault outputFault
-  small-list = small-first _ (small-symmetry m t) (small-first _ (small-output (length old) (length (words m list))) small-none)
+  small-list : isSmall (listFault m t list old) ≡ true
+  unfolding isSmall
+  small-list =
+      let short = tooShort (length old) (length (words m list)) ∷ [] in
+      small-both (symmetryCauses m t) short (small-symmetry m t) (λ p. small-causes short refl)
 
   judged-list : isNone (listFault m t list old) ≡ true → isNone (symmetryFault m t) ≡ true
-  unfolding listFault firstOf
-  judged-list n = or-both _ _ n .0
+  judged-list n = none-true (none-given (symmetryCauses m t) (fine-parts (symmetryCauses m t) (tooShort (length old) (length (words m list)) ∷ []) (fine (listCauses m t list old) n) .0))
 
 module _ (m : ℕ) (t : List ℕ) where
   lists : isNone (symmetryFault m t) ≡ true → (m ≤ maxWidth) × ListsHold m t
@@ -104,10 +105,10 @@ module _ (m : ℕ) (t : List ℕ) where
         (omega (arith, both), omega (arith, both))
 
     counts-pack : {r : CountsAnswer} → r ≡ countsCall m t list → PacksCounts r
-    counts-pack e = packs _ _ e (small-symmetry m t) few
+    counts-pack e = packs (symmetryFault m t) _ _ e (small-symmetry m t) few
 
     list-packs : (old : List ℕ) {r : CountsAnswer} → r ≡ listCall m t list old → PacksCounts r
-    list-packs old e = packs _ _ e (small-list m t list old) (λ n. few (judged-list m t list old n))
+    list-packs old e = packs (listFault m t list old) _ _ e (small-list m t list old) (λ n. few (judged-list m t list old n))
 
   module _ {r : CountsAnswer} where
     pub plain-packs : r ≡ countsPlainCall m t → PacksCounts r
@@ -129,32 +130,34 @@ module _ (m : ℕ) (t : List ℕ) where
       pub common-list-packs : r ≡ listCall m t (common m t) old → PacksCounts r
       common-list-packs = list-packs (common m t) (λ h. h .ofCommon .sized) old
 
--- types
-type-packs : (f : Fault) (m : ℕ) → Small f → (isNone f ≡ true → isNone (widthFault m) ≡ true) → {r : TypeAnswer} → r ≡ typed f m →
+-- types, where the first cause is the width
+type-packs : (cs : List Cause) (m : ℕ) → isSmall (faultOf (badWidth m ∷ cs)) ≡ true → {r : TypeAnswer} → r ≡ typed (faultOf (badWidth m ∷ cs)) m →
     Packs (r .fault) (r .t) 0
 unfolding typed
-type-packs f m s h {r} e = subst (λ (r : TypeAnswer). Packs (r .fault) (r .t) 0) (sym e)
-    (s, λ n. let w = width-fine m (h n) in (rw n (omega (arith, type-small m (w .0) (w .1))), omega arith))
+type-packs cs m s {r} e = subst (λ (r : TypeAnswer). Packs (r .fault) (r .t) 0) (sym e)
+    (s, λ n. let w = is-width m (fine (badWidth m ∷ cs) n .0) in (rw n (omega (arith, type-small m (w .least) (w .greatest))), omega arith))
 
 module _ (m : ℕ) {r : TypeAnswer} where
   pub type-answer-packs : r ≡ typeCall m → Packs (r .fault) (r .t) 0
-  unfolding firstOf
-  type-answer-packs = type-packs _ m (small-or (small-width m) (λ e. small-or (small-type m) (λ e. small-none))) (λ n. or-both _ _ n .0)
+  unfolding isSmall
+  type-answer-packs = type-packs (typeZero m ∷ []) m (small-causes (typeCauses m) refl)
 
   pub draw-packs : (size : ℕ) → r ≡ drawCall m size → Packs (r .fault) (r .t) 0
-  unfolding drawFault firstOf
-  draw-packs size = type-packs _ m (small-or (small-width m) (λ e. small-or (small-length _ _) (λ e. small-or (small-type m) (λ e. small-none)))) (λ n. or-both _ _ n .0)
+  unfolding isSmall
+  draw-packs size = type-packs (badLength size (m * bytesFor m) ∷ typeZero m ∷ []) m (small-causes (drawCauses m size) refl)
 
 -- cards
 module _ (m : ℕ) (t old : List ℕ) {r : CardAnswer} where
   pub write-packs : r ≡ writeCall m t old → Packs (r .fault) (r .value) 0
-  unfolding writeFault firstOf
-  write-packs e = subst (λ (r : CardAnswer). Packs (r .fault) (r .value) 0) (sym e) (
-    small-or (small-shape m t) (λ e. small-or (small-output (length old) (length (card m t))) (λ e. small-none)),
-    λ n. (rw n (omega (arith, card-most m t (shape-greatest m t (or-both _ _ n .0)))), omega arith),
-  )
+  unfolding isSmall
+  write-packs e =
+      let short = tooShort (length old) (length (card m t)) ∷ [] in
+      subst (λ (r : CardAnswer). Packs (r .fault) (r .value) 0) (sym e) (
+        small-both (shapeCauses m t) short (small-shape m t) (λ p. small-causes short refl),
+        λ n. (rw n (omega (arith, card-most m t (is-width m (fine (writeCauses m t (length old)) n .0) .greatest))), omega arith),
+      )
 
 module _ (s old : List ℕ) (small : Bytes s) {r : CardAnswer} where
   pub read-packs : r ≡ readCall s old → Packs (r .fault) (r .value) 0
   read-packs e = subst (λ (r : CardAnswer). Packs (r .fault) (r .value) 0) (sym e)
-      (small-read s old, λ n. (omega (arith, card-laws .cards s old small (none-is _ n) .greatest), omega arith))
+      (small-read s old, λ n. (omega (arith, card-laws .cards s old small (read-none s old n) .greatest), omega arith))

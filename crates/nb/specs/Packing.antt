@@ -1,7 +1,8 @@
 -- How an answer is packed into one number of 64 bits, and what comes back out of it.
 use mathlib.Core.Path.{_≡_}
-use mathlib.Core.Bool.{true}
+use mathlib.Core.Bool.{Bool, true, _&&_}
 use Prim.Native.Nat.{ℕ, _+_, _*_, _/_, _%_, _^_, _<_}
+use lib.Dec.{ltb}
 use Rattle.gf2.specs.Operands.{choose}
 use Rattle.judging.specs.declared.fault.Fault.{Fault}
 use Rattle.judging.specs.Faults.{numberOf, isNone}
@@ -22,14 +23,13 @@ packedAnswer f first second = choose (isNone f) (packed 0 first second) (packedF
 abbrev pub valueLimit : ℕ
 valueLimit = 2 ^ 28
 
--- what document 01 returns beside a fault has room
-pub record Small (f : Fault) : Type 0 where
-  pub first : numberOf f .1 < valueLimit
-  pub second : numberOf f .2 < valueLimit
+-- a fault's number has room in its 8 bits, and what document 01 returns beside it in 28 each
+unfoldable pub isSmall : Fault → Bool
+isSmall f = ltb (numberOf f .0) (2 ^ 8) && (ltb (numberOf f .1) valueLimit && ltb (numberOf f .2) valueLimit)
 
 -- a fault that has room, or none and two values that have
 abbrev pub Packs : Fault → ℕ → ℕ → Type 0
-Packs f first second = Small f × (isNone f ≡ true → (first < valueLimit) × (second < valueLimit))
+Packs f first second = (isSmall f ≡ true) × (isNone f ≡ true → (first < valueLimit) × (second < valueLimit))
 
 -- what comes back out of an answer: its low 8 bits are the number n, the 28 above them the first value x, the rest the second value y
 pub record Unpacks (answer n x y : ℕ) : Type 0 where

@@ -17,7 +17,8 @@ pub extern "C" fn nb_type(width: u64) -> u64
 
 #[no_mangle]
 pub extern "C" fn nb_draw(width: u64, table: &mut [u8]) -> u64
-    ensures { λ r. ⌜ (r ≡ typeAnswer (drawCall width (length (now (table .entry))))) × (now (table .exit) ≡ drawnInto width (now (table .entry))) ⌝ }
+    ensures { λ r. ⌜ (r ≡ typeAnswer (drawCall width (length (now (table .entry)))))
+        × (now (table .exit) ≡ drawnInto width (now (table .entry))) ⌝ }
 {
     let drawn = gaussian::draw(width as usize, table);
     let fault = drawn.fault;

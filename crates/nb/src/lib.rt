@@ -1,5 +1,4 @@
 // The C interface: every call of document 01 on byte slices, each answer one number of 64 bits.
-mod bytes;
 mod cards;
 mod drawing;
 mod netlists;

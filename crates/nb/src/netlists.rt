@@ -3,8 +3,8 @@ ghost use mathlib.Core.Path.{_≡_};
 ghost use Rattle.netlist.specs.Lists.{plain, reduced, common};
 ghost use Rattle.netlist.specs.Calls.{countsPlainCall, countsReducedCall, countsCommonCall, listCall, listBuffer};
 ghost use Rattle.nb.specs.Packing.{Packs};
-ghost use Rattle.nb.specs.Calls.{countsAnswer, runAnswer, runResult, runWires};
-use crate::bytes;
+ghost use Rattle.runner.specs.Causes.{runBytesCauses};
+ghost use Rattle.nb.specs.Calls.{faultAnswer, countsAnswer, ranResult, ranWires};
 use crate::packing;
 use netlist::CountsAnswer;
 
@@ -42,21 +42,24 @@ pub extern "C" fn nb_counts_common(width: u64, table: &[u8]) -> u64
 
 #[no_mangle]
 pub extern "C" fn nb_list_plain(width: u64, table: &[u8], out: &mut [u32]) -> u64
-    ensures { λ r. ⌜ (r ≡ countsAnswer (listCall width (now (table .entry)) (plain width (now (table .entry))) (now (out .entry)))) × (now (out .exit) ≡ listBuffer width (now (table .entry)) (plain width (now (table .entry))) (now (out .entry))) ⌝ }
+    ensures { λ r. ⌜ (r ≡ countsAnswer (listCall width (now (table .entry)) (plain width (now (table .entry))) (now (out .entry))))
+        × (now (out .exit) ≡ listBuffer width (now (table .entry)) (plain width (now (table .entry))) (now (out .entry))) ⌝ }
 {
     both(list_writer::list_plain(width as usize, table, out))
 }
 
 #[no_mangle]
 pub extern "C" fn nb_list_reduced(width: u64, table: &[u8], out: &mut [u32]) -> u64
-    ensures { λ r. ⌜ (r ≡ countsAnswer (listCall width (now (table .entry)) (reduced width (now (table .entry))) (now (out .entry)))) × (now (out .exit) ≡ listBuffer width (now (table .entry)) (reduced width (now (table .entry))) (now (out .entry))) ⌝ }
+    ensures { λ r. ⌜ (r ≡ countsAnswer (listCall width (now (table .entry)) (reduced width (now (table .entry))) (now (out .entry))))
+        × (now (out .exit) ≡ listBuffer width (now (table .entry)) (reduced width (now (table .entry))) (now (out .entry))) ⌝ }
 {
     both(list_writer::list_reduced(width as usize, table, out))
 }
 
 #[no_mangle]
 pub extern "C" fn nb_list_common(width: u64, table: &[u8], out: &mut [u32]) -> u64
-    ensures { λ r. ⌜ (r ≡ countsAnswer (listCall width (now (table .entry)) (common width (now (table .entry))) (now (out .entry)))) × (now (out .exit) ≡ listBuffer width (now (table .entry)) (common width (now (table .entry))) (now (out .entry))) ⌝ }
+    ensures { λ r. ⌜ (r ≡ countsAnswer (listCall width (now (table .entry)) (common width (now (table .entry))) (now (out .entry))))
+        × (now (out .exit) ≡ listBuffer width (now (table .entry)) (common width (now (table .entry))) (now (out .entry))) ⌝ }
 {
     both(list_writer::list_common(width as usize, table, out))
 }
@@ -70,20 +73,13 @@ pub extern "C" fn nb_run(
     result: &mut [u8],
     wires: &mut [u8],
 ) -> u64
-    ensures { λ r. ⌜ (r ≡ runAnswer width (now (list .entry)) (now (a .entry)) (now (b .entry)) (now (result .entry)) (now (wires .entry))) × (now (result .exit) ≡ runResult width (now (list .entry)) (now (a .entry)) (now (b .entry)) (now (result .entry)) (now (wires .entry))) × (now (wires .exit) ≡ runWires width (now (list .entry)) (now (a .entry)) (now (b .entry)) (now (result .entry)) (now (wires .entry))) ⌝ }
+    ensures { λ r. ⌜ (r ≡ faultAnswer (runBytesCauses width (now (list .entry)) (now (a .entry)) (now (b .entry)) (now (result .entry)) (now (wires .entry))))
+        × (now (result .exit) ≡ ranResult width (now (list .entry)) (now (a .entry)) (now (b .entry)) (now (result .entry)) (now (wires .entry)))
+        × (now (wires .exit) ≡ ranWires width (now (list .entry)) (now (a .entry)) (now (b .entry)) (now (result .entry)) (now (wires .entry))) ⌝ }
 {
-    let m = width as usize;
-    let sizes = bytes::judge_two(m, a.len(), b.len(), result.len());
-    if !judging::is_none(sizes) {
-        return packing::answer(sizes, 0, 0);
-    }
-    let fault = runner::run(
-        m,
-        list,
-        bytes::carry(m, a),
-        bytes::carry(m, b),
-        result,
-        wires,
-    );
-    packing::answer(fault, 0, 0)
+    packing::answer(
+        runner::run_bytes(width as usize, list, a, b, result, wires),
+        0,
+        0,
+    )
 }

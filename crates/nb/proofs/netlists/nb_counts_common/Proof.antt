@@ -7,7 +7,7 @@ use Rattle.nb.proofs.netlists.nb_counts_common.Statement.{statement}
 use Rattle.nb.proofs.netlists.nb_counts_common.Tie as tie
 
 both-requires : tie.Need-both-requires
-both-requires c κs = common-packs _ _ (c .counts-common .ensures)
+both-requires c κs = let a = c .before .before .args in common-packs (a .width) (a .table .now) (c .counts-common .ensures)
 
 returns : tie.Need-returns
 returns c = c .both .ensures ∙ ap countsAnswer (c .before .counts-common .ensures)

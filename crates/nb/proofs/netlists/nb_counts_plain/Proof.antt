@@ -7,7 +7,7 @@ use Rattle.nb.proofs.netlists.nb_counts_plain.Statement.{statement}
 use Rattle.nb.proofs.netlists.nb_counts_plain.Tie as tie
 
 both-requires : tie.Need-both-requires
-both-requires c κs = plain-packs _ _ (c .counts-plain .ensures)
+both-requires c κs = let a = c .before .before .args in plain-packs (a .width) (a .table .now) (c .counts-plain .ensures)
 
 returns : tie.Need-returns
 returns c = c .both .ensures ∙ ap countsAnswer (c .before .counts-plain .ensures)

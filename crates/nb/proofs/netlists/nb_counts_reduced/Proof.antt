@@ -7,7 +7,7 @@ use Rattle.nb.proofs.netlists.nb_counts_reduced.Statement.{statement}
 use Rattle.nb.proofs.netlists.nb_counts_reduced.Tie as tie
 
 both-requires : tie.Need-both-requires
-both-requires c κs = reduced-packs _ _ (c .counts-reduced .ensures)
+both-requires c κs = let a = c .before .before .args in reduced-packs (a .width) (a .table .now) (c .counts-reduced .ensures)
 
 returns : tie.Need-returns
 returns c = c .both .ensures ∙ ap countsAnswer (c .before .counts-reduced .ensures)

@@ -7,7 +7,10 @@ use Rattle.nb.proofs.netlists.nb_list_common.Statement.{statement}
 use Rattle.nb.proofs.netlists.nb_list_common.Tie as tie
 
 both-requires : tie.Need-both-requires
-both-requires c κs = common-list-packs _ _ _ (c .before .before .list-common .ensures .0)
+both-requires c κs =
+    let s = c .before .before in
+    let a = s .before .before .before .before .args in
+    common-list-packs (a .width) (a .table .now) (a .out .now) (s .list-common .ensures .0)
 
 returns : tie.Need-returns
 returns c = (c .both .ensures ∙ ap countsAnswer (c .before .before .before .list-common .ensures .0), c .before .before .before .list-common .ensures .1)

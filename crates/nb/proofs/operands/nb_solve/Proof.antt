@@ -1,7 +1,8 @@
 -- `nb::operands::nb_solve` meets its contract.
-use mathlib.Core.Path.{ap, _∙_}
-use Rattle.nb.specs.Packing.{packedAnswer}
-use Rattle.nb.proofs.PackLaws.{packs, small-solve-call}
+use mathlib.Core.Path.{refl, ap, _∙_}
+use Rattle.operand.specs.Causes.{solveBytesCauses}
+use Rattle.nb.specs.Packing.{packedAnswer, isSmall}
+use Rattle.nb.proofs.PackLaws.{packs, small-causes}
 use borrow.Author.Needs.{needs}
 use Rattle.nb.proofs.operands.nb_solve.Statement.{statement}
 use Rattle.nb.proofs.operands.nb_solve.Tie as tie
@@ -10,7 +11,7 @@ answer-requires : tie.Need-answer-requires
 answer-requires c κs =
     let s = c .before .before in
     let a = s .before .before .before .before .args in
-    packs (s .solve-into .ensures .0) (small-solve-call (a .width) (a .c .now) (a .result .now))
+    packs (s .solve-into .ensures .0) (unfold isSmall in small-causes (solveBytesCauses (a .width) (a .c .now) (a .result .now)) refl)
 
 returns : tie.Need-returns
 returns c =

@@ -1,7 +1,8 @@
 -- `nb::operands::nb_sum` meets its contract.
-use mathlib.Core.Path.{ap, _∙_}
-use Rattle.nb.specs.Packing.{packedAnswer}
-use Rattle.nb.proofs.PackLaws.{packs, small-sum-call}
+use mathlib.Core.Path.{refl, ap, _∙_}
+use Rattle.operand.specs.Causes.{sumBytesCauses}
+use Rattle.nb.specs.Packing.{packedAnswer, isSmall}
+use Rattle.nb.proofs.PackLaws.{packs, small-causes}
 use borrow.Author.Needs.{needs}
 use Rattle.nb.proofs.operands.nb_sum.Statement.{statement}
 use Rattle.nb.proofs.operands.nb_sum.Tie as tie
@@ -10,7 +11,7 @@ answer-requires : tie.Need-answer-requires
 answer-requires c κs =
     let s = c .before .before in
     let a = s .before .before .before .before .before .args in
-    packs (s .sum-into .ensures .0) (small-sum-call (a .width) (a .a .now) (a .b .now) (a .result .now))
+    packs (s .sum-into .ensures .0) (unfold isSmall in small-causes (sumBytesCauses (a .width) (a .a .now) (a .b .now) (a .result .now)) refl)
 
 returns : tie.Need-returns
 returns c =

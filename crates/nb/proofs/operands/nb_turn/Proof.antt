@@ -1,7 +1,8 @@
 -- `nb::operands::nb_turn` meets its contract.
-use mathlib.Core.Path.{ap, _∙_}
-use Rattle.nb.specs.Packing.{packedAnswer}
-use Rattle.nb.proofs.PackLaws.{packs, small-turn-call}
+use mathlib.Core.Path.{refl, ap, _∙_}
+use Rattle.operand.specs.Causes.{turnBytesCauses}
+use Rattle.nb.specs.Packing.{packedAnswer, isSmall}
+use Rattle.nb.proofs.PackLaws.{packs, small-causes}
 use borrow.Author.Needs.{needs}
 use Rattle.nb.proofs.operands.nb_turn.Statement.{statement}
 use Rattle.nb.proofs.operands.nb_turn.Tie as tie
@@ -10,7 +11,7 @@ answer-requires : tie.Need-answer-requires
 answer-requires c κs =
     let s = c .before .before in
     let a = s .before .before .before .before .args in
-    packs (s .turn-into .ensures .0) (small-turn-call (a .width) (a .a .now) (a .k) (a .result .now))
+    packs (s .turn-into .ensures .0) (unfold isSmall in small-causes (turnBytesCauses (a .width) (a .a .now) (a .k) (a .result .now)) refl)
 
 returns : tie.Need-returns
 returns c =

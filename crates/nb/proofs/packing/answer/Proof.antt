@@ -3,7 +3,7 @@ use mathlib.Core.Path.{sym, ap, _∙_}
 use native.Mathlib.Omega.{arith}
 use Rattle.judging.specs.declared.fault.FaultNumber.{FaultNumber}
 use Rattle.nb.specs.Packing.{packed, packedFault, packedAnswer}
-use Rattle.operand.proofs.FaultLaws.{number-most}
+use Rattle.nb.proofs.PackLaws.{small-of}
 use borrow.Author.Needs.{needs}
 use Rattle.nb.proofs.packing.answer.Statement.{statement}
 use Rattle.nb.proofs.packing.answer.Tie as tie
@@ -18,7 +18,8 @@ returns c = rw (sym (c .before .before .is-none .ensures) ∙ c .before .if1 .ta
 pack-requires-2 : tie.Need-pack-requires-2
 pack-requires-2 c κs =
     let s = c .before .before .before in
-    rw (c .number .ensures) (omega (arith, number-most (s .args .fault)), omega (arith, s .pre .0 .first, s .pre .0 .second), omega (arith, s .pre .0 .first, s .pre .0 .second))
+    let room = small-of (s .args .fault) (s .pre .0) in
+    rw (c .number .ensures) (room .number, room .first, room .second)
 
 returns-2 : tie.Need-returns-2
 unfolding packedAnswer packedFault

@@ -7,7 +7,7 @@ use Rattle.nb.proofs.tables.nb_check.Statement.{statement}
 use Rattle.nb.proofs.tables.nb_check.Tie as tie
 
 answer-requires : tie.Need-answer-requires
-answer-requires c κs = packs (c .check .ensures) (small-check _ _)
+answer-requires c κs = let a = c .before .before .args in packs (c .check .ensures) (small-check (a .width) (a .table .now))
 
 returns : tie.Need-returns
 returns c = c .answer .ensures ∙ ap (λ f. packedAnswer f 0 0) (c .before .check .ensures)

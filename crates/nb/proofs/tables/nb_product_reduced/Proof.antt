@@ -1,51 +1,21 @@
 -- `nb::tables::nb_product_reduced` meets its contract.
-use Rattle.gf2.specs.Products.{reduced}
-use Rattle.nb.specs.Judgements.{reducedBytesFault}
-use Rattle.nb.proofs.PackLaws.{packs, small-reduced-call}
-use Rattle.nb.proofs.CallLaws.{refused, kept, refuses, Done, answered, reduced-begins, reduced-done}
+use mathlib.Core.Path.{ap, _∙_}
+use Rattle.nb.specs.Packing.{packedAnswer}
+use Rattle.nb.proofs.PackLaws.{packs, small-reduced}
 use borrow.Author.Needs.{needs}
 use Rattle.nb.proofs.tables.nb_product_reduced.Statement.{statement}
 use Rattle.nb.proofs.tables.nb_product_reduced.Tie as tie
 
--- the call where its lengths are not at fault
-call : (c : tie.After-slice-known2) → let a = c .before .before .before .before .before .before .before .before .before .before .before .before .before .before .args in
-    Done (reducedBytesFault (a .width) (a .table .now) (a .a .now) (a .b .now) (a .result .now)) (reduced (a .width) (a .table .now) (a .a .now) (a .b .now)) (a .result .now) (c .before .before .settle .result) (c .before .before .settle .last .1 .0)
-call c =
-    let s = c .before .before .before .before .before .before .before in
-    reduced-done _ _ _ _ (s .before .before .judge-two .ensures) (s .before .is-none .ensures) (s .if1 .left) (c .before .before .before .before .before .before .carry .ensures) (c .before .before .before .before .before .carry2 .ensures) (c .before .before .settle .ensures) _ (c .before .before .before .before .product-reduced .ensures)
-
 answer-requires : tie.Need-answer-requires
 answer-requires c κs =
-    let a = c .before .before .before .before .before .before .before .args in
-    packs (refused (reduced-begins (a .width) (a .a .now) (a .b .now) (a .result .now) (a .table .now)) (c .before .before .judge-two .ensures) (c .before .is-none .ensures) (c .if1 .taken)) (small-reduced-call _ _ _ _ _)
+    let s = c .before .before in
+    let a = s .before .before .before .before .before .before .args in
+    packs (s .reduced-into .ensures .0) (small-reduced (a .width) (a .table .now) (a .a .now) (a .b .now) (a .result .now))
 
 returns : tie.Need-returns
 returns c =
-    let a = c .before .before .before .before .before .before .before .before .args in
-    let s = c .before in
-    let call = reduced-begins (a .width) (a .a .now) (a .b .now) (a .result .now) (a .table .now) in (
-      refuses call (s .before .before .judge-two .ensures) (s .before .is-none .ensures) (s .if1 .taken) 0 0 (c .answer .ensures),
-      kept call (s .before .before .judge-two .ensures) (s .before .is-none .ensures) (s .if1 .taken) _ _,
-    )
-
-answer-requires-2 : tie.Need-answer-requires-2
-answer-requires-2 c κs = packs (call c .fault) (small-reduced-call _ _ _ _ _)
-
-returns-2 : tie.Need-returns-2
-returns-2 c = answered (call (c .before)) (c .answer2 .ensures)
+    let s = c .before .before .before .reduced-into .ensures in
+    (c .answer .ensures ∙ ap (λ f. packedAnswer f 0 0) (s .0), s .1)
 
 pub nb-product-reduced-spec : {M : Type 1} → statement M
-nb-product-reduced-spec =
-    tie.close
-    (tie.spec
-    (λ c κs. search needs)
-    (λ c κs. search needs)
-    answer-requires
-    returns
-    (λ c κs. search needs)
-    (λ c κs. search needs)
-    (λ c κs. search needs)
-    (λ c κs. search needs)
-    answer-requires-2
-    (λ c. search needs)
-    returns-2)
+nb-product-reduced-spec = tie.close (tie.spec (λ c κs. search needs) answer-requires (λ c. search needs) returns)
