@@ -18,7 +18,7 @@ use Rattle.limbs.specs.Limbs.{carriedLimbs}
 use Rattle.netlist.specs.Gates.{wordLimit}
 use Rattle.netlist.specs.Lists.{each, only, pairs, before, andWire}
 use Rattle.netlist.proofs.SumLaws.{num, sum-next, sum-zero, sum-most}
-use Rattle.netlist.proofs.FoldLaws.{length-each, length-only}
+use Rattle.netlist.proofs.FoldLaws.{length-each}
 use Rattle.netlist.proofs.ListLaws.{minus-lt}
 use Rattle.netlist.proofs.TableLaws.{width-square}
 use Rattle.list_parts.specs.declared.store.Fold.{Fold}

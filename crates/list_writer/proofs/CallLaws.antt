@@ -1,13 +1,13 @@
 -- Laws of the calls that write: what the counted gates tell of a table, and the answers and buffers.
-use mathlib.Core.Path.{_≡_, refl, sym, ap, ap₂, _∙_, subst}
-use mathlib.Core.Bool.{Bool, true, false}
+use mathlib.Core.Path.{_≡_, refl, sym, ap, _∙_}
+use mathlib.Core.Bool.{true, false}
 use mathlib.Core.List.{List, _++_}
 use Prim.Native.Nat.{ℕ, zero, suc, _+_, _*_, _<_, _≤_}
 use native.Mathlib.Omega.{arith}
 use lib.ListN.{length, drop}
 use lib.Dec.{ltb}
 use borrow.Author.Tests.{lt-ltb, le-ltb}
-use Rattle.gf2.specs.Operands.{maxWidth, choose}
+use Rattle.gf2.specs.Operands.{choose}
 use Rattle.judging.specs.declared.fault.Fault.{Fault}
 use Rattle.judging.specs.declared.fault.Fault.the-variants.{OutputShort}
 use Rattle.operand.specs.Faults.{when}
@@ -17,12 +17,11 @@ use Rattle.table.specs.Judgements.{symmetryFault}
 use Rattle.netlist.specs.declared.CountsAnswer.{CountsAnswer}
 use Rattle.netlist.specs.declared.Numbers.{Numbers}
 use Rattle.netlist.specs.declared.counts.Method.{Method}
-use Rattle.netlist.specs.declared.counts.Method.the-variants.{Plain, Reduced, Common}
+use Rattle.netlist.specs.declared.counts.Method.the-variants.{Common}
 use Rattle.netlist.specs.Gates.{Netlist, wordLimit, words, andGates, xorGates}
-use Rattle.netlist.specs.Lists.{plain, reduced, sharing, common, fullRows, ifNone}
+use Rattle.netlist.specs.Lists.{plain, sharing, common, fullRows, ifNone}
 use Rattle.netlist.specs.Judgements.{outputFault}
-use Rattle.netlist.specs.Calls.{answer, refusedWith, countedAs, countsCall, listFault, listCall, listBuffer}
-use Rattle.netlist.specs.Statements.{Sized}
+use Rattle.netlist.specs.Calls.{answer, refusedWith, countedAs, listFault, listCall, listBuffer}
 use Rattle.netlist.specs.Methods.{listBy, sharedBy, tallied, tallyCall}
 use Rattle.netlist.proofs.CallLaws.{table-fine, sized-by, answer-counted, tally-answer}
 use Rattle.list_writer.specs.Inner.{listed, Told}

@@ -31,9 +31,6 @@ loop-again c =
     let w = c .before .before .before .before .before .loop in
     (omega arith, rw (gates-more (a .mixed) (a .width) (a .i) (w .j)) (put-more (w .inv .1) (c .before .before .put-pair .ensures)), c .before .before .put-pair .kept .0 ∙ w .inv .2)
 
-same-length : tie.Need-same-length Inv-loop μ-loop
-same-length c = c .before .loop .inv .2
-
 returns : tie.Need-returns Inv-loop μ-loop
 returns c =
     let w = c .before .loop in
@@ -51,5 +48,5 @@ put-row-spec =
     (λ c. search needs)
     (λ c. search needs)
     loop-again
-    same-length
+    (λ c. search needs)
     returns)

@@ -32,9 +32,6 @@ loop-again c =
     let w = c .before .before .before .before .before .loop in
     (omega arith, rw (pairs-more (a .mixed) (a .width) (w .i)) (put-more (w .inv .1) (c .before .before .put-row .ensures)), c .before .before .put-row .kept .0 ∙ w .inv .2)
 
-same-length : tie.Need-same-length Inv-loop μ-loop
-same-length c = c .before .loop .inv .2
-
 returns : tie.Need-returns Inv-loop μ-loop
 returns c =
     let w = c .before .loop in
@@ -52,5 +49,5 @@ put-rows-spec =
     (λ c. search needs)
     (λ c. search needs)
     loop-again
-    same-length
+    (λ c. search needs)
     returns)

@@ -1,6 +1,5 @@
 -- `list_parts::terms::first_term` meets its contract.
 use mathlib.Core.Path.{refl, ap₂, _∙_}
-use native.Mathlib.Omega.{arith}
 use borrow.Author.Tests.{not-true, not-false}
 use Rattle.netlist.specs.Lists.{only, andWire}
 use Rattle.list_parts.specs.Folds.{fresh}

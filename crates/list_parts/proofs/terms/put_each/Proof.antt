@@ -38,12 +38,6 @@ loop-again c =
     let w = b .before .before .before .loop in
     (omega (arith, b .before .before .loop-test .taken), folds-more (w .inv .1) (b .fold-terms .ensures) (c .before .before .put .ensures), b .fold-terms .kept .0 ∙ w .inv .2, c .before .before .put .kept .0 ∙ w .inv .3)
 
-same-length : tie.Need-same-length Inv-loop μ-loop
-same-length c = c .before .loop .inv .2
-
-same-length-2 : tie.Need-same-length-2 Inv-loop μ-loop
-same-length-2 c = c .before .loop .inv .3
-
 returns : tie.Need-returns Inv-loop μ-loop
 returns c =
     let w = c .before .loop in
@@ -62,6 +56,6 @@ put-each-spec =
     (λ c. search needs)
     (λ c. search needs)
     loop-again
-    same-length
-    same-length-2
+    (λ c. search needs)
+    (λ c. search needs)
     returns)

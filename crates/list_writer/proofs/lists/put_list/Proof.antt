@@ -8,20 +8,8 @@ use borrow.Author.Needs.{needs}
 use Rattle.list_writer.proofs.lists.put_list.Statement.{statement}
 use Rattle.list_writer.proofs.lists.put_list.Tie as tie
 
-cast-put : tie.Need-cast-put
-cast-put c = let s = c .before .before .before in omega (arith, s .pre .0 .shaped .greatest)
-
 cast-put-2 : tie.Need-cast-put-2
 cast-put-2 c = let s = c .before .before .before .before .before .before .before in omega (arith, told-few (s .pre .0) (s .pre .1))
-
-put-gates-requires : tie.Need-put-gates-requires
-put-gates-requires c κs = (c .before .before .before .before .before .before .before .before .before .before .before .before .pre .0, omega arith)
-
-mul-put-words : tie.Need-mul-put-words
-mul-put-words c = let s = c .before .before .before .before .before .before .before .before .before .before .before .before .before .before .before .before .before in omega (arith, told-few (s .pre .0) (s .pre .1))
-
-add-put-words : tie.Need-add-put-words
-add-put-words c = let s = c .before .before .before .before .before .before .before .before .before .before .before .before .before .before .before .before .before in omega (arith, told-few (s .pre .0) (s .pre .1))
 
 put-words-requires : tie.Need-put-words-requires
 put-words-requires c κs =
@@ -42,14 +30,14 @@ pub put-list-spec : {M : Type 1} → statement M
 put-list-spec =
     tie.close
     (tie.spec
-    cast-put
+    (λ c. search needs)
     (λ c κs. search needs)
     cast-put-2
     (λ c κs. search needs)
     (λ c. search needs)
-    put-gates-requires
-    mul-put-words
-    add-put-words
+    (λ c κs. search needs)
+    (λ c. search needs)
+    (λ c. search needs)
     (λ c. search needs)
     put-words-requires
     (λ c. search needs)
