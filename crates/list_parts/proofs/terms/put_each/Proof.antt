@@ -23,8 +23,9 @@ loop-holds c = (omega arith, folds-none, refl, refl)
 
 fold-terms-requires : tie.Need-fold-terms-requires Inv-loop μ-loop
 fold-terms-requires c κs =
-    let w = c .before .before .loop in
-    let s = c .before .before .before .before .before .before .before in
+    let b = c .before .before in
+    let w = b .loop in
+    let s = b .before .before .before .before .before in
     let a = s .args in
     let h = s .pre .0 .room .greatest in
     let l : w .r ≤ maxWidth = omega (arith, s .pre .1, w .inv .0) in

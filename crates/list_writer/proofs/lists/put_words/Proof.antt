@@ -21,10 +21,11 @@ loop-holds c = (omega arith, refl, refl)
 
 loop-again : tie.Need-loop-again Inv-loop μ-loop
 loop-again c =
-    let s = c .before .before .before .before .before .before .before .before .before in
+    let t = c .before .before .before .before .before in
+    let s = t .before .before .before .before in
     let a = s .args in
-    let w = c .before .before .before .before .before .before .loop in
-    let l = c .before .before .before .before .before .loop-test .taken in (
+    let w = t .before .loop in
+    let l = t .loop-test .taken in (
       omega arith,
       c .before .before .put .ensures ∙ ap (λ z. set z (a .at + w .k) (getD (a .words .now) (w .k) 0)) (w .inv .1)
           ∙ sets-snoc (a .out .now) (a .at) (w .k) (take (w .k) (a .words .now)) (getD (a .words .now) (w .k) 0) (length-take-le (w .k) (a .words .now) (omega (arith, s .pre .0)))
