@@ -4,7 +4,7 @@
 use std::path::{Path, PathBuf};
 use std::{env, fs};
 
-const CRATES: [&str; 11] = [
+const CRATES: [&str; 12] = [
     "limbs",
     "judging",
     "operand",
@@ -14,6 +14,7 @@ const CRATES: [&str; 11] = [
     "gaussian",
     "card",
     "netlist",
+    "list_parts",
     "list_writer",
     "nb",
 ];
