@@ -4,7 +4,7 @@
 use std::path::{Path, PathBuf};
 use std::{env, fs};
 
-const CRATES: [&str; 12] = [
+const CRATES: [&str; 14] = [
     "limbs",
     "judging",
     "operand",
@@ -16,6 +16,7 @@ const CRATES: [&str; 12] = [
     "card_writer",
     "netlist",
     "runner",
+    "list_parts",
     "list_writer",
     "nb",
 ];

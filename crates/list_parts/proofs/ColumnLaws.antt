@@ -127,9 +127,6 @@ module _ {rows : Rows} {m : ℕ} {table : List ℕ} {d : ℕ} {old : List ℕ} (
       below : (u : ℕ) → u < s + 1 → (u ≡ s → ⊥) → u < s
       below u h n = omega arith
 
-  pub row-inside : {s : ℕ} {columns : List ℕ} → s < m → RowTo m table d s old columns → s * carriedLimbs + d / 64 < length columns
-  row-inside l c = omega (arith, c .size, z .room .room, z .room .greatest)
-
   -- the next one of the row: there is none between
   module _ {x : List ℕ} (e : x ≡ rowLimbs m table d) where
     pub row-next : {s n : ℕ} {columns : List ℕ} → n ≡ nextOne x s → RowTo m table d s old columns → RowTo m table d n old columns × (n < m → 1 ≡ coord (row m table d) n)

@@ -147,20 +147,22 @@ folded-same {m} {n} {k} {c} {count} {T} {U} {old} {wires} {out} q e x = record {
 }
 
 -- where a part is stored
-pub fits-known : (m n : ℕ) → fits m n ≡ true → (2 ≤ m) × (m ≤ maxWidth) × (n < wordLimit / 2)
-fits-known m n e = go (ltb m 2) (ltb maxWidth m) refl refl e
+pub fits-known : (m count n : ℕ) → fits m count n ≡ true → (2 ≤ m) × (m ≤ maxWidth) × (count ≤ m) × (n < wordLimit / 2)
+fits-known m count n e = go (ltb m 2) (ltb maxWidth m) (ltb m count) refl refl refl e
   where
-    go : (a b : Bool) → ltb m 2 ≡ a → ltb maxWidth m ≡ b → choose a false (choose b false (ltb n (wordLimit / 2))) ≡ true → (2 ≤ m) × (m ≤ maxWidth) × (n < wordLimit / 2)
-    go false false p q e = (ltb-false m 2 p, ltb-false maxWidth m q, ltb-true n (wordLimit / 2) e)
-    go true b p q e = absurd (true≢false (sym e))
-    go false true p q e = absurd (true≢false (sym e))
+    go : (a b c : Bool) → ltb m 2 ≡ a → ltb maxWidth m ≡ b → ltb m count ≡ c → choose a false (choose b false (choose c false (ltb n (wordLimit / 2)))) ≡ true →
+        (2 ≤ m) × (m ≤ maxWidth) × (count ≤ m) × (n < wordLimit / 2)
+    go false false false p q r e = (ltb-false m 2 p, ltb-false maxWidth m q, ltb-false m count r, ltb-true n (wordLimit / 2) e)
+    go true b c p q r e = absurd (true≢false (sym e))
+    go false true c p q r e = absurd (true≢false (sym e))
+    go false false true p q r e = absurd (true≢false (sym e))
 
 module _ {m n : ℕ} (two : 2 ≤ m) (most : m ≤ maxWidth) (few : n < wordLimit / 2) where
-  pub fits-true : fits m n ≡ true
-  fits-true = rw (le-ltb m 2, le-ltb maxWidth m, lt-ltb n (wordLimit / 2) few)
+  fits-true : {count : ℕ} → count ≤ m → fits m count n ≡ true
+  fits-true {count} l = rw (le-ltb m 2, le-ltb maxWidth m, le-ltb m count, lt-ltb n (wordLimit / 2) few)
 
   pub pairs-fit : (mixed : Bool) → pairsFrom mixed m n ≡ pairGates mixed m m
-  pairs-fit mixed = ap (λ b. choose b (pairGates mixed m m) []) fits-true
+  pairs-fit mixed = ap (λ b. choose b (pairGates mixed m m) []) (fits-true (omega arith))
 
   pub count-fits : {count : ℕ} → count ≤ m → foldsFrom m count n ≡ count
-  count-fits {count} l = ap₂ (λ b c. choose b (choose c 0 count) 0) fits-true (le-ltb m count l)
+  count-fits {count} l = ap (λ b. choose b count 0) (fits-true l)

@@ -15,9 +15,9 @@ use Rattle.list_parts.specs.declared.columns.Rows.{Rows}
 use Rattle.list_parts.specs.declared.columns.Rows.the-variants.{All, Full, Others}
 use Rattle.list_parts.specs.declared.terms.Terms.{Terms}
 
--- m is a width, and every wire of a part from gate n on is a word
-abbrev pub fits : ℕ → ℕ → Bool
-fits m n = choose (ltb m 2) false (choose (ltb maxWidth m) false (ltb n (wordLimit / 2)))
+-- m is a width, `count` coordinates are no more than it has, and every wire of a part from gate n on is a word
+abbrev pub fits : ℕ → ℕ → ℕ → Bool
+fits m count n = choose (ltb m 2) false (choose (ltb maxWidth m) false (choose (ltb m count) false (ltb n (wordLimit / 2))))
 
 -- the gates are stored as gate n and those after it, and k is the next
 pub record Put (n : ℕ) (old : List ℕ) (gates : List Gate) (k : ℕ) (out : List ℕ) : Type 0 where
@@ -38,7 +38,7 @@ pairGates mixed m n = each n (λ i. rowGates mixed m i m)
 
 -- those of all pairs, from gate n on
 abbrev pub pairsFrom : Bool → ℕ → ℕ → List Gate
-pairsFrom mixed m n = choose (fits m n) (pairGates mixed m m) []
+pairsFrom mixed m n = choose (fits m m n) (pairGates mixed m m) []
 
 -- the rows whose pairs are folded: all; "pairs whose product is all ones"; "the other pairs"
 abbrev pub keeps : Rows → ℕ → List ℕ → ℕ → Bool
@@ -72,7 +72,7 @@ tableTerms t m table r =
 
 -- how many coordinates are folded, where `count` are asked for
 abbrev pub foldsFrom : ℕ → ℕ → ℕ → ℕ
-foldsFrom m count n = choose (fits m n) (choose (ltb m count) 0 count) 0
+foldsFrom m count n = choose (fits m count n) count 0
 
 -- their gates from gate n on, and the wires of their sums
 abbrev pub foldGates : Terms → ℕ → List ℕ → ℕ → ℕ → List Gate

@@ -1,5 +1,4 @@
 // The gate that each pair gives by itself: an AND, or where they are mixed an XOR of two of these.
-ghost use mathlib.Core.Path.{_≡_};
 ghost use Prim.Native.Nat.{_+_, _*_, _<_, _≤_};
 ghost use Rattle.gf2.specs.Operands.{maxWidth};
 ghost use Rattle.netlist.specs.Gates.{wordLimit};

@@ -10,13 +10,16 @@ use crate::terms::Terms;
 // Half of the words: more than a list has gates, and so few that every wire of these parts is a word.
 const LIMIT: usize = 2147483648;
 
-fn fits(width: usize, n: usize) -> bool
-    ensures { λ r. ⌜ r ≡ fits width n ⌝ }
+fn fits(width: usize, count: usize, n: usize) -> bool
+    ensures { λ r. ⌜ r ≡ fits width count n ⌝ }
 {
     if width < 2 {
         return false;
     }
     if limbs::MAX_WIDTH < width {
+        return false;
+    }
+    if width < count {
         return false;
     }
     n < LIMIT
@@ -26,7 +29,7 @@ fn fits(width: usize, n: usize) -> bool
 pub fn put_pairs(out: &mut [u32], width: usize, mixed: bool, n: usize) -> usize
     ensures { λ r. ⌜ Put n (now (out .entry)) (pairsFrom mixed width n) r (now (out .exit)) ⌝ }
 {
-    if !fits(width, n) {
+    if !fits(width, width, n) {
         return n;
     }
     pairs::put_rows(out, width, mixed, n)
@@ -45,10 +48,7 @@ pub fn put_folds(
     ensures { λ k. ⌜ Put n (now (out .entry)) (foldGates t width (now (table .entry)) count n) k (now (out .exit)) ⌝ }
     ensures { λ _. ⌜ now (ends .exit) ≡ sets (now (ends .entry)) 0 (foldWires t width (now (table .entry)) count n) ⌝ }
 {
-    if !fits(width, n) {
-        return n;
-    }
-    if width < count {
+    if !fits(width, count, n) {
         return n;
     }
     let mut scratch = [0u64; columns::SCRATCH];

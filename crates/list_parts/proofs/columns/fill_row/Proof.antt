@@ -5,7 +5,7 @@ use native.Mathlib.Omega.{arith}
 use borrow.Author.Tests.{not-true, not-false}
 use Rattle.gf2.specs.Coordinates.{coord}
 use Rattle.gf2.specs.Tables.{row}
-use Rattle.list_parts.proofs.ColumnLaws.{RowTo, row-none, row-more, row-inside, row-next, row-after, row-end, row-done, row-skipped}
+use Rattle.list_parts.proofs.ColumnLaws.{RowTo, row-none, row-more, row-next, row-after, row-end, row-done, row-skipped}
 use borrow.Author.Needs.{needs}
 use Rattle.list_parts.proofs.columns.fill_row.Statement.{statement}
 use Rattle.list_parts.proofs.columns.fill_row.Tie as tie
@@ -15,9 +15,6 @@ Inv-loop columns₀ width table d x s₀ columns s = RowTo width table d s colum
 
 abbrev μ-loop : tie.MeasureT-loop
 μ-loop columns₀ width table d x s₀ columns s = width - s
-
-is-kept-requires : tie.Need-is-kept-requires Inv-loop μ-loop
-is-kept-requires c κs = (c .before .before .pre .1 .room .greatest, c .before .before .pre .0)
 
 returns : tie.Need-returns Inv-loop μ-loop
 returns c =
@@ -29,41 +26,6 @@ loop-holds c =
     let b = c .before .before in
     let s = b .before .before .before .before .before in
     row-next (s .pre) (b .row-limbs .ensures) (c .next-one .ensures) row-none
-
-mul-k : tie.Need-mul-k Inv-loop μ-loop
-mul-k c =
-    let s = c .before .before .before .before in
-    omega (arith, c .loop-test .taken, s .before .before .before .before .before .pre .1 .room .greatest)
-
-add-k : tie.Need-add-k Inv-loop μ-loop
-add-k c =
-    let b = c .before .before .before .before in
-    let s = b .before .before .before .before .before in
-    omega (arith, c .loop-test .taken, s .pre .1 .room .greatest, s .pre .0)
-
-mul-columns : tie.Need-mul-columns Inv-loop μ-loop
-mul-columns c =
-    let b = c .before .before .before .before in
-    let s = b .before .before .before .before .before in
-    omega (arith, c .loop-test .taken, s .pre .1 .room .greatest, s .pre .0)
-
-slice-read-columns : tie.Need-slice-read-columns Inv-loop μ-loop
-slice-read-columns c =
-    let b = c .before .before .before .before .before in
-    let s = b .before .before .before .before .before in
-    row-inside (s .pre) (c .before .loop-test .taken) (c .before .before .loop .inv .0)
-
-mul-columns-2 : tie.Need-mul-columns-2 Inv-loop μ-loop
-mul-columns-2 c =
-    let b = c .before .before .before .before .before in
-    let s = b .before .before .before .before .before in
-    omega (arith, c .before .loop-test .taken, s .pre .1 .room .greatest, s .pre .0)
-
-slice-write-columns : tie.Need-slice-write-columns Inv-loop μ-loop
-slice-write-columns c =
-    let b = c .before .before .before .before .before in
-    let s = b .before .before .before .before .before in
-    row-inside (s .pre) (c .before .loop-test .taken) (c .before .before .loop .inv .0)
 
 loop-less : tie.Need-loop-less Inv-loop μ-loop
 loop-less c =
@@ -80,9 +42,6 @@ loop-again c =
     let v = w .before .loop .inv in
     row-next (s .pre) (b .row-limbs .ensures) (c .next-one2 .ensures) (row-more (s .pre) (w .loop-test .taken) (v .1 (w .loop-test .taken)) (v .0))
 
-same-length : tie.Need-same-length Inv-loop μ-loop
-same-length c = c .before .loop .inv .0 .size
-
 returns-2 : tie.Need-returns-2 Inv-loop μ-loop
 returns-2 c =
     let b = c .before .before .before .before .before in
@@ -95,21 +54,21 @@ fill-row-spec =
     (tie.spec
     Inv-loop
     μ-loop
-    is-kept-requires
+    (λ c κs. search needs)
     returns
     (λ c κs. search needs)
     (λ c κs. search needs)
     loop-holds
-    mul-k
-    add-k
-    mul-columns
-    slice-read-columns
     (λ c. search needs)
-    mul-columns-2
-    slice-write-columns
+    (λ c. search needs)
+    (λ c. search needs)
+    (λ c. search needs)
+    (λ c. search needs)
+    (λ c. search needs)
+    (λ c. search needs)
     (λ c. search needs)
     (λ c κs. search needs)
     loop-less
     loop-again
-    same-length
+    (λ c. search needs)
     returns-2)

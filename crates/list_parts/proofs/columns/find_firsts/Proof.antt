@@ -14,39 +14,18 @@ Inv-loop firsts₀ columns k₀ n₀ firsts k n = (k ≤ length columns) × (Fir
 abbrev μ-loop : tie.MeasureT-loop
 μ-loop firsts₀ columns k₀ n₀ firsts k n = k
 
-mul-n : tie.Need-mul-n Inv-loop μ-loop
-mul-n c = omega (arith, c .before .before .pre .0)
-
 loop-holds : tie.Need-loop-holds Inv-loop μ-loop
 loop-holds c = let n = firsts-none (c .before .before .pre .1) in (omega arith, n .0, n .1, refl)
-
-sub-at : tie.Need-sub-at Inv-loop μ-loop
-sub-at c = omega arith
-
-cast-firsts : tie.Need-cast-firsts Inv-loop μ-loop
-cast-firsts c = omega (arith, c .before .loop .inv .2 .most, c .before .before .before .before .pre .0)
-
-mul-firsts : tie.Need-mul-firsts Inv-loop μ-loop
-mul-firsts c = omega (arith, c .before .loop .inv .0, c .before .before .before .before .pre .0)
-
-slice-write-firsts : tie.Need-slice-write-firsts Inv-loop μ-loop
-slice-write-firsts c = omega (arith, c .loop-test .taken, c .before .loop .inv .0, c .before .loop .inv .1 .size)
 
 first-from-requires : tie.Need-first-from-requires Inv-loop μ-loop
 first-from-requires c κs =
     let w = c .before .loop in
     (omega (arith, c .loop-test .taken, w .inv .0), c .before .before .before .before .pre .0, from-next (w .k - 1) (omega (arith, c .loop-test .taken)) (w .inv .2))
 
-loop-less : tie.Need-loop-less Inv-loop μ-loop
-loop-less c = omega (arith, c .before .loop-test .taken)
-
 loop-again : tie.Need-loop-again Inv-loop μ-loop
 loop-again c =
     let w = c .before .before .loop in
     (omega (arith, w .inv .0), firsts-more (omega (arith, c .before .loop-test .taken)) (w .inv .0) (w .inv .1) (w .inv .2), c .first-from .ensures, length-set (w .firsts) (w .k - 1) (w .n) ∙ w .inv .3)
-
-same-length : tie.Need-same-length Inv-loop μ-loop
-same-length c = c .before .loop .inv .3
 
 returns : tie.Need-returns Inv-loop μ-loop
 returns c =
@@ -60,14 +39,14 @@ find-firsts-spec =
     (tie.spec
     Inv-loop
     μ-loop
-    mul-n
+    (λ c. search needs)
     loop-holds
-    sub-at
-    cast-firsts
-    mul-firsts
-    slice-write-firsts
+    (λ c. search needs)
+    (λ c. search needs)
+    (λ c. search needs)
+    (λ c. search needs)
     first-from-requires
-    loop-less
+    (λ c. search needs)
     loop-again
-    same-length
+    (λ c. search needs)
     returns)

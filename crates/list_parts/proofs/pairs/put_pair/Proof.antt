@@ -19,9 +19,11 @@ returns c = rw (not-true (c .before .before .before .before .before .before .arg
 returns-2 : tie.Need-returns-2
 unfolding pairGate only
 returns-2 c =
-    let a = c .before .before .before .before .before .before .before .before .before .args in
-    rw (not-false (a .mixed) (c .before .before .before .before .before .before .before .if1 .left), lt-ltb (a .i) (a .j) (c .before .before .before .before .before .before .if2 .taken))
-    (put-xor (c .before .before .put-gate2 .ensures ∙ ap₂ (λ l r. sets (a .out .now) (2 + 3 * a .n) (1 ∷ l ∷ r ∷ [])) (c .before .before .before .before .before .and-wire .ensures) (c .before .before .before .and-wire2 .ensures)))
+    let w = c .before .before .before in
+    let t = w .before .before .before in
+    let a = t .before .before .before .args in
+    rw (not-false (a .mixed) (t .before .if1 .left), lt-ltb (a .i) (a .j) (t .if2 .taken))
+    (put-xor (c .before .before .put-gate2 .ensures ∙ ap₂ (λ l r. sets (a .out .now) (2 + 3 * a .n) (1 ∷ l ∷ r ∷ [])) (w .before .before .and-wire .ensures) (w .and-wire2 .ensures)))
 
 returns-3 : tie.Need-returns-3
 unfolding pairGate only

@@ -27,12 +27,10 @@ put-pair-requires c κs =
 
 loop-again : tie.Need-loop-again Inv-loop μ-loop
 loop-again c =
-    let a = c .before .before .before .before .before .before .before .args in
-    let w = c .before .before .before .before .before .loop in
+    let b = c .before .before .before .before .before in
+    let a = b .before .before .args in
+    let w = b .loop in
     (omega arith, rw (gates-more (a .mixed) (a .width) (a .i) (w .j)) (put-more (w .inv .1) (c .before .before .put-pair .ensures)), c .before .before .put-pair .kept .0 ∙ w .inv .2)
-
-same-length : tie.Need-same-length Inv-loop μ-loop
-same-length c = c .before .loop .inv .2
 
 returns : tie.Need-returns Inv-loop μ-loop
 returns c =
@@ -51,5 +49,5 @@ put-row-spec =
     (λ c. search needs)
     (λ c. search needs)
     loop-again
-    same-length
+    (λ c. search needs)
     returns)

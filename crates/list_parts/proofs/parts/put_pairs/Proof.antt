@@ -14,8 +14,8 @@ returns c = rw (sym (c .before .fits2 .ensures) ∙ not-true _ (c .if1 .taken)) 
 put-rows-requires : tie.Need-put-rows-requires
 put-rows-requires c κs =
     let a = c .before .before .before .before .args in
-    let k = fits-known (a .width) (a .n) (sym (c .before .before .fits2 .ensures) ∙ not-false _ (c .before .if1 .left)) in
-    (k .1, omega (arith, k .1, k .2, width-square _ _ (k .1) (k .1)))
+    let k = fits-known (a .width) (a .width) (a .n) (sym (c .before .before .fits2 .ensures) ∙ not-false _ (c .before .if1 .left)) in
+    (k .1, omega (arith, k .1, k .3, width-square _ _ (k .1) (k .1)))
 
 returns-2 : tie.Need-returns-2
 returns-2 c =

@@ -7,8 +7,11 @@ use Rattle.list_parts.proofs.store.put_gate.Tie as tie
 
 returns : tie.Need-returns
 returns c =
-    let a = c .before .before .before .before .before .before .before .before .before .before .before .before .before .args in
-    sets-three (a .out .now) _ _ _ (2 + 3 * a .n) (a .kind) (a .left) (a .right) (c .before .before .before .before .before .before .before .before .before .before .put .ensures) (c .before .before .before .before .before .before .put2 .ensures) (c .before .before .put3 .ensures)
+    let third = c .before .before in
+    let second = third .before .before .before .before in
+    let first = second .before .before .before .before in
+    let a = first .before .before .before .args in
+    sets-three (a .out .now) _ _ _ (2 + 3 * a .n) (a .kind) (a .left) (a .right) (first .put .ensures) (second .put2 .ensures) (third .put3 .ensures)
 
 pub put-gate-spec : {M : Type 1} → statement M
 put-gate-spec =

@@ -35,9 +35,6 @@ loop-again c =
     let w = b .loop in
     (omega arith, rw (rows-more (a .mixed) (a .width) (a .columns .now) (a .r) (w .i)) (push-more (w .inv .1) (c .before .before .push-row .ensures)), c .before .before .push-row .kept .0 ∙ w .inv .2)
 
-same-length : tie.Need-same-length Inv-loop μ-loop
-same-length c = c .before .loop .inv .2
-
 returns : tie.Need-returns Inv-loop μ-loop
 returns c =
     let w = c .before .loop in
@@ -55,5 +52,5 @@ push-pairs-spec =
     (λ c. search needs)
     (λ c. search needs)
     loop-again
-    same-length
+    (λ c. search needs)
     returns)

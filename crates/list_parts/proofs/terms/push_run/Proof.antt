@@ -19,24 +19,11 @@ Inv-loop out₀ width columns firsts at from to start g₀ d₀ out g d = (from 
 abbrev μ-loop : tie.MeasureT-loop
 μ-loop out₀ width columns firsts at from to start g₀ d₀ out g d = to - d
 
-next-one-requires : tie.Need-next-one-requires Inv-loop μ-loop
-next-one-requires c κs = let p = c .before .before .before .pre in (p .order, omega (arith, p .most, p .inside), p .room, p .after)
-
 loop-holds : tie.Need-loop-holds Inv-loop μ-loop
 loop-holds c =
     let a = c .before .before .before .before .args in
     let n = c .next-one .ensures in
     (n .least, n .most, n .found, run-first (isSet (a .columns .now) (a .at)) (a .start) (a .from) n, refl)
-
-add-push : tie.Need-add-push Inv-loop μ-loop
-add-push c =
-    let b = c .before .before in
-    omega (arith, b .before .before .before .before .before .pre .wires, c .before .loop-test .taken)
-
-cast-push : tie.Need-cast-push Inv-loop μ-loop
-cast-push c =
-    let b = c .before .before in
-    omega (arith, b .before .before .before .before .before .pre .wires, c .before .loop-test .taken)
 
 push-requires : tie.Need-push-requires Inv-loop μ-loop
 push-requires c κs =
@@ -47,15 +34,6 @@ push-requires c κs =
     let w = b .loop in
     (p .most, omega (arith, p .gates, push-most (w .inv .3), run-most (isSet (a .columns .now) (a .at)) (a .start) (a .from) (w .d - a .from), c .before .loop-test .taken))
 
-next-one-requires-2 : tie.Need-next-one-requires-2 Inv-loop μ-loop
-next-one-requires-2 c κs =
-    let b = c .before .before .before .before in
-    let p = b .before .before .before .before .before .before .pre in
-    (omega (arith, b .loop-test .taken), omega (arith, p .most, p .inside), p .room, p .after)
-
-loop-less : tie.Need-loop-less Inv-loop μ-loop
-loop-less c = omega (arith, c .next-one2 .ensures .least, c .next-one2 .ensures .most)
-
 loop-again : tie.Need-loop-again Inv-loop μ-loop
 loop-again c =
     let b = c .before .before .before .before .before in
@@ -63,9 +41,6 @@ loop-again c =
     let w = b .before .loop in
     let n = c .next-one2 .ensures in
     (omega (arith, n .least, w .inv .0), n .most, n .found, run-next (isSet (a .columns .now) (a .at)) (a .start) (a .from) (w .inv .0) (w .inv .2 (b .loop-test .taken)) (w .inv .3) (c .before .before .before .push .ensures) n, c .before .before .before .push .kept .0 ∙ w .inv .4)
-
-same-length : tie.Need-same-length Inv-loop μ-loop
-same-length c = c .before .loop .inv .4
 
 returns : tie.Need-returns Inv-loop μ-loop
 returns c =
@@ -79,14 +54,14 @@ push-run-spec =
     (tie.spec
     Inv-loop
     μ-loop
-    next-one-requires
+    (λ c κs. search needs)
     loop-holds
-    add-push
-    cast-push
+    (λ c. search needs)
+    (λ c. search needs)
     push-requires
     (λ c. search needs)
-    next-one-requires-2
-    loop-less
+    (λ c κs. search needs)
+    (λ c. search needs)
     loop-again
-    same-length
+    (λ c. search needs)
     returns)

@@ -23,8 +23,9 @@ loop-holds c = (omega arith, folds-none, refl, refl)
 
 fold-terms-requires : tie.Need-fold-terms-requires Inv-loop μ-loop
 fold-terms-requires c κs =
-    let w = c .before .before .loop in
-    let s = c .before .before .before .before .before .before .before in
+    let b = c .before .before in
+    let w = b .loop in
+    let s = b .before .before .before .before .before in
     let a = s .args in
     let h = s .pre .0 .room .greatest in
     let l : w .r ≤ maxWidth = omega (arith, s .pre .1, w .inv .0) in
@@ -37,12 +38,6 @@ loop-again c =
     let b = c .before .before .before .before .before .before in
     let w = b .before .before .before .loop in
     (omega (arith, b .before .before .loop-test .taken), folds-more (w .inv .1) (b .fold-terms .ensures) (c .before .before .put .ensures), b .fold-terms .kept .0 ∙ w .inv .2, c .before .before .put .kept .0 ∙ w .inv .3)
-
-same-length : tie.Need-same-length Inv-loop μ-loop
-same-length c = c .before .loop .inv .2
-
-same-length-2 : tie.Need-same-length-2 Inv-loop μ-loop
-same-length-2 c = c .before .loop .inv .3
 
 returns : tie.Need-returns Inv-loop μ-loop
 returns c =
@@ -62,6 +57,6 @@ put-each-spec =
     (λ c. search needs)
     (λ c. search needs)
     loop-again
-    same-length
-    same-length-2
+    (λ c. search needs)
+    (λ c. search needs)
     returns)

@@ -13,14 +13,16 @@ returns-2 c = let b = c .before .before .before .before in rw (b .before .before
 returns-3 : tie.Need-returns-3
 returns-3 c =
     let b = c .before .before .before .before in
-    let s = b .before .before .before .before .before .before .before .before .before in
-    rw (list-none (s .pre .0) (b .before .before .before .before .enum-told3 .given .1) (b .before .before .before .if1 .taken)) (b .put-plain2 .ensures)
+    let t = b .before .before .before .before in
+    let s = t .before .before .before .before .before in
+    rw (list-none (s .pre .0) (t .enum-told3 .given .1) (b .before .before .before .if1 .taken)) (b .put-plain2 .ensures)
 
 returns-4 : tie.Need-returns-4
 returns-4 c =
     let b = c .before .before .before .before in
-    let s = b .before .before .before .before .before .before .before .before .before in
-    rw (list-some (s .pre .0) (b .before .before .before .before .enum-told3 .given .1) (b .before .before .before .if1 .left)) (b .put-sharing .ensures)
+    let t = b .before .before .before .before in
+    let s = t .before .before .before .before .before in
+    rw (list-some (s .pre .0) (t .enum-told3 .given .1) (b .before .before .before .if1 .left)) (b .put-sharing .ensures)
 
 pub put-gates-spec : {M : Type 1} → statement M
 put-gates-spec =

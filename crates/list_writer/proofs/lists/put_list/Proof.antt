@@ -8,48 +8,42 @@ use borrow.Author.Needs.{needs}
 use Rattle.list_writer.proofs.lists.put_list.Statement.{statement}
 use Rattle.list_writer.proofs.lists.put_list.Tie as tie
 
-cast-put : tie.Need-cast-put
-cast-put c = let s = c .before .before .before in omega (arith, s .pre .0 .shaped .greatest)
-
 cast-put-2 : tie.Need-cast-put-2
-cast-put-2 c = let s = c .before .before .before .before .before .before .before in omega (arith, told-few (s .pre .0) (s .pre .1))
-
-put-gates-requires : tie.Need-put-gates-requires
-put-gates-requires c κs = (c .before .before .before .before .before .before .before .before .before .before .before .before .pre .0, omega arith)
-
-mul-put-words : tie.Need-mul-put-words
-mul-put-words c = let s = c .before .before .before .before .before .before .before .before .before .before .before .before .before .before .before .before .before in omega (arith, told-few (s .pre .0) (s .pre .1))
-
-add-put-words : tie.Need-add-put-words
-add-put-words c = let s = c .before .before .before .before .before .before .before .before .before .before .before .before .before .before .before .before .before in omega (arith, told-few (s .pre .0) (s .pre .1))
+cast-put-2 c =
+    let y = c .before .before .before in
+    let s = y .before .before .before .before in
+    omega (arith, told-few (s .pre .0) (s .pre .1))
 
 put-words-requires : tie.Need-put-words-requires
 put-words-requires c κs =
     let g = c .before .before .before .before .before in
-    let s = g .before .before .before .before .before .before .before .before .before .before .before .before .before in
+    let x = g .before .before .before .before .before in
+    let y = x .before .before .before .before in
+    let s = y .before .before .before .before in
     (omega (arith, outputs-length (g .put-gates .ensures), s .pre .0 .shaped .greatest), omega (arith, told-few (s .pre .0) (s .pre .1)))
 
 returns : tie.Need-returns
 returns c =
-    let g = c .before .before .before .before .before .before .before .before in
+    let z = c .before .before in
+    let g = z .before .before .before .before .before .before in
     let x = g .before .before .before .before .before in
     let y = x .before .before .before .before in
     let s = y .before .before .before .before in
     let a = s .args in
-    list-done (s .pre .0 .sized) (a .out .now) (s .pre .1) (x .put2 .ensures ∙ ap (λ z. set z 1 (a .g)) (y .put .ensures)) (g .put-gates .ensures) (omega (arith, s .pre .0 .shaped .greatest)) (c .before .before .put-words .ensures) (s .pre .2)
+    list-done (s .pre .0 .sized) (a .out .now) (s .pre .1) (x .put2 .ensures ∙ ap (λ z. set z 1 (a .g)) (y .put .ensures)) (g .put-gates .ensures) (omega (arith, s .pre .0 .shaped .greatest)) (z .put-words .ensures) (s .pre .2)
 
 pub put-list-spec : {M : Type 1} → statement M
 put-list-spec =
     tie.close
     (tie.spec
-    cast-put
+    (λ c. search needs)
     (λ c κs. search needs)
     cast-put-2
     (λ c κs. search needs)
     (λ c. search needs)
-    put-gates-requires
-    mul-put-words
-    add-put-words
+    (λ c κs. search needs)
+    (λ c. search needs)
+    (λ c. search needs)
     (λ c. search needs)
     put-words-requires
     (λ c. search needs)

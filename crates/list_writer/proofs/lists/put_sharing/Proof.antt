@@ -7,7 +7,8 @@ use Rattle.list_writer.proofs.lists.put_sharing.Tie as tie
 returns : tie.Need-returns
 returns c =
     let f = c .before .before .before .before in
-    let q = f .before .before .before .before .before .before .before .before in
+    let o = f .before .before .before .before in
+    let q = o .before .before .before .before in
     let p = q .before .before .before .before .before in
     let s = p .before .before .before .before .before in
     sharing-written (s .pre .0) (p .put-pairs .ensures) (s .args .ends .now) (s .pre .1) (q .put-folds .ensures) (f .put-folds2 .ensures)

@@ -19,24 +19,19 @@ abbrev μ-loop : tie.MeasureT-loop
 loop-holds : tie.Need-loop-holds Inv-loop μ-loop
 loop-holds c = (omega arith, refl, refl)
 
-shared-slice-read-put : tie.Need-shared-slice-read-put Inv-loop μ-loop
-shared-slice-read-put c = omega (arith, c .before .before .loop-test .taken, c .before .before .before .before .before .before .pre .0)
-
 loop-again : tie.Need-loop-again Inv-loop μ-loop
 loop-again c =
-    let s = c .before .before .before .before .before .before .before .before .before in
+    let t = c .before .before .before .before .before in
+    let s = t .before .before .before .before in
     let a = s .args in
-    let w = c .before .before .before .before .before .before .loop in
-    let l = c .before .before .before .before .before .loop-test .taken in (
+    let w = t .before .loop in
+    let l = t .loop-test .taken in (
       omega arith,
       c .before .before .put .ensures ∙ ap (λ z. set z (a .at + w .k) (getD (a .words .now) (w .k) 0)) (w .inv .1)
           ∙ sets-snoc (a .out .now) (a .at) (w .k) (take (w .k) (a .words .now)) (getD (a .words .now) (w .k) 0) (length-take-le (w .k) (a .words .now) (omega (arith, s .pre .0)))
           ∙ ap (sets (a .out .now) (a .at)) (sym (ap (λ i. take i (a .words .now)) (add-one (w .k)) ∙ take-suc (a .words .now) (w .k) 0 (omega (arith, s .pre .0)))),
       c .before .before .put .kept .0 ∙ w .inv .2,
     )
-
-same-length : tie.Need-same-length Inv-loop μ-loop
-same-length c = c .before .loop .inv .2
 
 returns : tie.Need-returns Inv-loop μ-loop
 returns c =
@@ -53,10 +48,10 @@ put-words-spec =
     loop-holds
     (λ c. search needs)
     (λ c. search needs)
-    shared-slice-read-put
+    (λ c. search needs)
     (λ c κs. search needs)
     (λ c. search needs)
     (λ c. search needs)
     loop-again
-    same-length
+    (λ c. search needs)
     returns)
