@@ -14,18 +14,16 @@ use Rattle.judging.specs.declared.fault.Fault.the-variants.{None, Width, Output
 use Rattle.gf2.specs.Operands.{maxWidth, bytesFor, choose}
 use Rattle.gf2.proofs.Operands.{from-operand}
 use Rattle.judging.specs.Faults.{isNone}
-use Rattle.netlist.specs.Judgements.{outputFault}
 use Rattle.card.specs.Numbers.{Read, refused, got, andThen, secondGroup, readNumber}
 use Rattle.card.specs.Rows.{steps, onesOf, after, readPlaces, readRow, isPlace, rowOf, readRows}
-use Rattle.card.specs.Cards.{lentFault, readWidth, readHead, Table, ended, readCard}
+use Rattle.card.specs.Cards.{lentCauses, lentFault, readWidth, readHead, Table, ended, readCard}
 use Rattle.card.specs.Statements.{Bytes}
 use Rattle.card.proofs.Numbers.{no-value, parts, read-written, written-read}
 use Rattle.card.proofs.Places.{after-got, row-read, row-written}
 use Rattle.card.proofs.Trips.{lent-none, head-parts, card-read, card-written}
 use Rattle.card.specs.Calls.{readAnswer}
 use Rattle.judging.specs.FaultTable.{badWidth as wrongWidth, tooShort, BadWidth}
-use Rattle.promises.proofs.CauseLaws.{Decides, Decided, cases, then, last}
-use Rattle.promises.proofs.CauseTests.{wide, by-width, by-room}
+use Rattle.promises.proofs.CauseLaws.{Decides, decides, wide}
 use Rattle.promises.specs.CardCauses.{Stands, BadNumber, noGroup, noSecond, badSecond, Ordered, freeAfter, BadPlace, noPlace, placeAbove, BadRow, noCount, countAbove, atPlace, RowsStand, HeadStands, BadCard, noForm, otherForm, noWidth, badWidth, noRoom, atRow, bytesAfter, GoodCard, ExactCard}
 
 -- the fault that a reading is refused with
@@ -221,14 +219,10 @@ rows-stand m (suc count) s t rest small e =
     (rowOf m ps, r, from-operand (bytesFor m) m (isPlace ps), one .isRow, rows-stand m count r w rest (one .bytes) e3)
 
 -- the head
-by-lent : (room m : ℕ) → Decided (wrongWidth m ∷ tooShort room (m * bytesFor m) ∷ []) (lentFault room m)
-unfolding lentFault outputFault
-by-lent room m = then (by-width m) (last (by-room room (m * bytesFor m))) .first
-
 lent-causes : (room m : ℕ) (f : Fault) → isNone (lentFault room m) ≡ false → f ≡ lentFault room m →
     (BadWidth m × (f ≡ Width)) ⊎ ((2 ≤ m) × (m ≤ maxWidth) × (room < m * bytesFor m) × (f ≡ OutputShort))
 unfolding isNone
-lent-causes room m f some e = go (cases (by-lent room m))
+lent-causes room m f some e = go (decides (lentCauses room m) (lentFault room m) refl)
   where
     go : Decides (wrongWidth m ∷ tooShort room (m * bytesFor m) ∷ []) (lentFault room m) → (BadWidth m × (f ≡ Width)) ⊎ ((2 ≤ m) × (m ≤ maxWidth) × (room < m * bytesFor m) × (f ≡ OutputShort))
     go (inl h) = inl (h .0, e ∙ h .1)
@@ -236,14 +230,14 @@ lent-causes room m f some e = go (cases (by-lent room m))
     go (inr (n, inr h)) = absurd (true≢false (sym (ap isNone (h .1)) ∙ some))
 
 lent-bad : (room m : ℕ) → BadWidth m → lentFault room m ≡ Width
-lent-bad room m b = go (cases (by-lent room m))
+lent-bad room m b = go (decides (lentCauses room m) (lentFault room m) refl)
   where
     go : Decides (wrongWidth m ∷ tooShort room (m * bytesFor m) ∷ []) (lentFault room m) → lentFault room m ≡ Width
     go (inl h) = h .1
     go (inr h) = absurd (h .0 b)
 
 lent-short : (room m : ℕ) → 2 ≤ m → m ≤ maxWidth → room < m * bytesFor m → lentFault room m ≡ OutputShort
-lent-short room m least greatest short = go (cases (by-lent room m))
+lent-short room m least greatest short = go (decides (lentCauses room m) (lentFault room m) refl)
   where
     go : Decides (wrongWidth m ∷ tooShort room (m * bytesFor m) ∷ []) (lentFault room m) → lentFault room m ≡ OutputShort
     go (inl h) = absurd (h .0 (least, greatest))

@@ -13,10 +13,12 @@ use Rattle.gaussian.specs.Table.{drawn}
 use Rattle.gaussian.specs.Calls.{drawFault, drawnInto}
 use Rattle.gaussian.proofs.Theorems.{type-list, drawn-table}
 use Rattle.card.proofs.Theorems.{card-laws}
-use Rattle.nb.specs.Judgements.{productBytesFault, reducedBytesFault}
-use Rattle.nb.specs.Calls.{productResult, reducedResult}
+use Rattle.card_writer.proofs.Theorems.{card-trips}
+use Rattle.judging.specs.Causes.{faultOf}
+use Rattle.product.specs.Causes.{productBytesCauses, reducedBytesCauses}
+use Rattle.product.specs.Calls.{productInto, reducedInto}
 use Rattle.promises.specs.Demand2.{bilinear, halved, HasCoords, DrawnBy, Demand2}
-use Rattle.promises.proofs.CauseTests.{wide}
+use Rattle.promises.proofs.CauseLaws.{wide}
 use Rattle.gf2.proofs.Decisions.{equal-unless}
 use Rattle.promises.proofs.Demand1.{demand1}
 
@@ -24,13 +26,13 @@ use Rattle.promises.proofs.Demand1.{demand1}
 given : (m : ℕ) (x : List ℕ) (f : ℕ → ℕ) → length x ≡ bytesFor m → HasCoords m (fromCoords (length x) m f) (λ r. f r % 2)
 given m x f size = rw size (record { operand = from-operand (bytesFor m) m f; coords = λ r l. coord-from (bytesFor m) m f (omega arith) r l })
 
-products : (m : ℕ) (table a b old : List ℕ) → productBytesFault m table a b old ≡ None → HasCoords m (productResult m table a b old) (bilinear m table a b)
+products : (m : ℕ) (table a b old : List ℕ) → faultOf (productBytesCauses m table a b old) ≡ None → HasCoords m (productInto m table a b old) (bilinear m table a b)
 unfolding product
 products m table a b old e =
     let call = demand1 .product m table a b old in
     rw (call .buffer .written e) (given m a _ (equal-unless _ _ (call .exact .none .0 e .1 .0)))
 
-reducedProducts : (m : ℕ) (table a b old : List ℕ) → reducedBytesFault m table a b old ≡ None → HasCoords m (reducedResult m table a b old) (halved m table a b)
+reducedProducts : (m : ℕ) (table a b old : List ℕ) → faultOf (reducedBytesCauses m table a b old) ≡ None → HasCoords m (reducedInto m table a b old) (halved m table a b)
 unfolding reduced
 reducedProducts m table a b old e =
     let call = demand1 .reduced m table a b old in
@@ -58,5 +60,5 @@ demand2 = record {
   drawn = drawn-by;
   undrawn = λ m l h e. let t = type-list m l h in let d = t .none .0 e in (d, t .never d);
   readWritten = card-laws .tables;
-  writtenRead = card-laws .cards;
+  writtenRead = card-trips;
 }

@@ -20,18 +20,22 @@ use Rattle.judging.specs.Faults.{isNone}
 use Rattle.table.specs.Rows.{Shaped}
 use Rattle.table.specs.Judgements.{checkFault, symmetryFault}
 use Rattle.table.proofs.Theorems.{acceptance, fields, symmetry}
-use Rattle.table.proofs.Searches.{none-true}
+use Rattle.judging.proofs.CauseLaws.{none-true}
 use Rattle.netlist.specs.Gates.{Netlist, words}
 use Rattle.netlist.specs.Lists.{plain, reduced, common}
 use Rattle.netlist.specs.Running.{wires, result}
 use Rattle.netlist.specs.Calls.{answer, countedAs, countsCall}
 use Rattle.netlist.specs.Statements.{ListsHold, Holds as ListHolds, Counted, CommonCounts}
 use Rattle.netlist.proofs.Theorems.{theoremLists, theoremCommon}
-use Rattle.nb.specs.Judgements.{runBytesFault}
-use Rattle.nb.specs.Calls.{inverseResult, runResult, runWires}
+use Rattle.judging.specs.Causes.{faultOf}
+use Rattle.product.specs.Calls.{inverseInto}
+use Rattle.runner.specs.Causes.{runBytesCauses}
+use Rattle.runner.specs.Statements.{ListsRun, Runs as ListRuns}
+use Rattle.runner.proofs.Theorems.{theoremRuns}
+use Rattle.nb.specs.Calls.{ranResult, ranWires}
 use Rattle.gf2.proofs.Carrying.{inverse-is}
 use Rattle.promises.specs.Demand3.{wordsWritten, Multiplies, Reduces, Runs, RunsToProduct, Inverts, HasGates, UnderAccepted, Demand3}
-use Rattle.promises.proofs.NoFaults.{Passed, product-none, reduced-none, inverse-none, run-none, list-none}
+use Rattle.promises.proofs.NoFaults.{Passed, product-none, reduced-none, inverse-none, list-none}
 
 -- n(n+1) is even
 pronic : (n : ℕ) → (k : ℕ) × (2 * k ≡ suc n * n)
@@ -65,6 +69,9 @@ module _ (m : ℕ) (table : List ℕ) (e : checkFault m table ≡ None) where
   lists : ListsHold m table
   lists = theoremLists m table (shaped .least) (shaped .isTable) (accepted .symmetric)
 
+  ran : ListsRun m table
+  ran = theoremRuns m table (shaped .least) (shaped .isTable) (accepted .symmetric)
+
   multiplies : (a b old : List ℕ) → Op m a → Op m b → length old ≡ bytesFor m → Multiplies m table a b old
   multiplies a b old x y room = let n = product-none passed a b old x y room in record { noFault = n; value = rw (none-true n) }
 
@@ -75,7 +82,7 @@ module _ (m : ℕ) (table : List ℕ) (e : checkFault m table ≡ None) where
   }
 
   module _ (a old : List ℕ) (x : Op m a) (n : ¬ (a ≡ zeroes (bytesFor m) m)) (room : length old ≡ bytesFor m) where
-    is-inverse : inverseResult m table a old ≡ inverse m table a
+    is-inverse : inverseInto m table a old ≡ inverse m table a
     is-inverse = rw (none-true (inverse-none passed a old x room n))
 
     operand : Op m (inverse m table a)
@@ -91,31 +98,31 @@ module _ (m : ℕ) (table : List ℕ) (e : checkFault m table ≡ None) where
       value = rw is-inverse (field .commutative _ _ operand x ∙ gives .isInverse n);
     }
 
-    only : (b : List ℕ) → Op m b → product m table b a ≡ ones (bytesFor m) m → b ≡ inverseResult m table a old
+    only : (b : List ℕ) → Op m b → product m table b a ≡ ones (bytesFor m) m → b ≡ inverseInto m table a old
     only b y h = gives .unique b y (field .commutative _ _ x y ∙ h) ∙ sym is-inverse
 
   -- a list, as it is written and as it is run
-  module _ (list : Netlist) {xors : ℕ} (h : ListHolds m table list xors) where
+  module _ (list : Netlist) {xors : ℕ} (h : ListHolds m table list xors) (k : ListRuns m list) where
     written : (out : List ℕ) → length (words m list) ≤ length out → wordsWritten m table list out ≡ words m list
     written out room = rw (none-true (list-none passed list out room)) (take-at (words m list) _ _ refl)
 
     runs : (out a b old lent : List ℕ) → length (words m list) ≤ length out → Op m a → Op m b → length old ≡ bytesFor m →
         length lent ≡ 2 * m + length (list .gates) → Runs m table list out a b old lent
     runs out a b old lent room x y w all =
-        let n = run-none passed list (h .runs) a b old lent x y w all in
+        let n = k .noBytesFault (shaped .greatest) a b old lent x y w all in
         let e = written out room in
         record {
-          noFault = ap (λ l. runBytesFault m l a b old lent) e ∙ n;
-          value = ap (λ l. runResult m l a b old lent) e ∙ ran n ∙ ap (λ k. result k m list a b) (sym (x .size))
+          noFault = ap (λ l. faultOf (runBytesCauses m l a b old lent)) e ∙ n;
+          value = ap (λ l. ranResult m l a b old lent) e ∙ found n ∙ ap (λ k. result k m list a b) (sym (x .size))
               ∙ h .computes .bytes a b (rw (x .size) (bytes-fit m)) ∙ sym (multiplies a b old x y w .value);
-          wire = ap (λ l. runWires m l a b old lent) e ∙ wired n;
+          wire = ap (λ l. ranWires m l a b old lent) e ∙ wired n;
         }
       where
-        ran : runBytesFault m (words m list) a b old lent ≡ None → runResult m (words m list) a b old lent ≡ result (bytesFor m) m list a b
-        ran n = rw (none-true n, h .runs .readBack)
+        found : faultOf (runBytesCauses m (words m list) a b old lent) ≡ None → ranResult m (words m list) a b old lent ≡ result (bytesFor m) m list a b
+        found n = rw (none-true n, k .readBack)
 
-        wired : runBytesFault m (words m list) a b old lent ≡ None → runWires m (words m list) a b old lent ≡ wires m list a b
-        wired n = rw (none-true n, h .runs .readBack)
+        wired : faultOf (runBytesCauses m (words m list) a b old lent) ≡ None → ranWires m (words m list) a b old lent ≡ wires m list a b
+        wired n = rw (none-true n, k .readBack)
 
     runs-to : RunsToProduct m table list
     runs-to = record { isWritten = λ out room. (list-none passed list out room, written out room); runs = runs }
@@ -140,9 +147,9 @@ module _ (m : ℕ) (table : List ℕ) (e : checkFault m table ≡ None) where
   under = record {
     plainProduct = multiplies;
     reducedProduct = reduces;
-    plainRun = runs-to (plain m table) (lists .ofPlain);
-    reducedRun = runs-to (reduced m table) (lists .ofReduced);
-    commonRun = runs-to (common m table) (lists .ofCommon);
+    plainRun = runs-to (plain m table) (lists .ofPlain) (ran .ofPlain);
+    reducedRun = runs-to (reduced m table) (lists .ofReduced) (ran .ofReduced);
+    commonRun = runs-to (common m table) (lists .ofCommon) (ran .ofCommon);
     unit = theoremH m table (shaped .least) (shaped .isTable) accepted;
     inverts = inverts;
     only = λ a b old x n w. only a old x n w b;

@@ -1,10 +1,9 @@
 -- The proofs of the records in specs/.
--- CauseLaws: faults that are decided by causes. CauseTests: each judgement decides its causes. CardTests: so does reading a card.
+-- CauseLaws: the cases of a fault. CardTests: reading a card decides its causes.
 -- NoFaults: calls that give no fault.
 -- AnswerLaws: what comes out of an answer, and what a lent buffer holds. CarriedCalls, Reports: the parts of demand 1 of these names.
 -- Demand1, Demand2, Demand3: the demands.
 pub mod CauseLaws
-pub mod CauseTests
 pub mod CardTests
 pub mod AnswerLaws
 pub mod CarriedCalls

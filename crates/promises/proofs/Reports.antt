@@ -5,10 +5,7 @@ use Prim.Native.Nat.{ℕ, _≤_}
 use lib.ListN.{length}
 use Rattle.judging.specs.declared.fault.Fault.{Fault}
 use Rattle.judging.specs.declared.fault.Fault.the-variants.{None}
-use Rattle.operand.specs.Faults.{firstOf}
-use Rattle.operand.proofs.FaultLaws.{none-is, or-both}
-use Rattle.table.specs.Judgements.{symmetryFault, checkFault}
-use Rattle.table.proofs.Searches.{none-true}
+use Rattle.table.specs.Judgements.{symmetryFault}
 use Rattle.netlist.specs.Gates.{Netlist}
 use Rattle.netlist.specs.Lists.{plain, reduced, common}
 use Rattle.netlist.specs.Calls.{answer, countsCall}
@@ -20,12 +17,11 @@ use Rattle.reporting.specs.Text.{ascii, line}
 use Rattle.reporting.specs.Report.{inputLimit, lent, refusal, countsLine, acceptance, tableReport, readReport, report}
 use Rattle.reporting.proofs.Reports.{long-report, short-report}
 use Rattle.judging.specs.Causes.{First, NoCause}
-use Rattle.judging.specs.FaultTable.{checkCauses}
+use Rattle.judging.specs.FaultTable.{rowSumWrong, symmetryCauses, tripleCauses, checkCauses}
 use Rattle.promises.specs.CardCauses.{BadCard, GoodCard}
 use Rattle.promises.specs.Reports.{head, gates, Reports}
-use Rattle.promises.proofs.CauseLaws.{exact, first-is}
-use Rattle.judging.proofs.CauseLaws.{first-some}
-use Rattle.promises.proofs.CauseTests.{by-check}
+use Rattle.judging.proofs.CauseLaws.{exact, of-first, first-some, none-true, none-given, none-fine}
+use Rattle.judging.proofs.Searches.{fine-parts}
 use Rattle.promises.proofs.CardTests.{good-read, card-exact}
 use Rattle.promises.proofs.AnswerLaws.{some-false}
 
@@ -34,8 +30,8 @@ module _ (m : ℕ) (table : List ℕ) where
   table-refused : (f : Fault) → First (checkCauses m table) f → tableReport m table ≡ head m table ++ refusal f
   unfolding tableReport
   table-refused f h =
-      let e = first-is (by-check m table) f h in
-      rw (some-false (checkFault m table) (λ q. first-some (checkCauses m table) f h (sym e ∙ q)), e) (sym (append-assoc (line (ascii "width") (m ∷ [])) _ _))
+      let e = of-first (checkCauses m table) f h in
+      rw (some-false (checkCauses m table) (λ q. first-some (checkCauses m table) f h (sym e ∙ q)), e) (sym (append-assoc (line (ascii "width") (m ∷ [])) _ _))
 
   -- the counts' line of a list, where rules 4 and 5 hold
   gates-line : symmetryFault m table ≡ None → (word : List ℕ) (list : Netlist) → countsLine word (countsCall m table list) ≡ gates word list
@@ -46,8 +42,8 @@ module _ (m : ℕ) (table : List ℕ) where
       ++ (gates (ascii "reduced") (reduced m table) ++ gates (ascii "common") (common m table))))
   unfolding tableReport acceptance
   table-accepted n =
-      let e = exact (by-check m table) .none .1 n in
-      let line-of = gates-line (none-is _ (unfold checkFault firstOf in or-both (symmetryFault m table) _ (none-true e) .0)) in
+      let e = exact (checkCauses m table) .none .1 n in
+      let line-of = gates-line (none-given (symmetryCauses m table) (fine-parts (symmetryCauses m table) (tripleCauses m table ++ (rowSumWrong m table ∷ [])) (none-fine (checkCauses m table) .0 e) .0)) in
       rw (none-true e, line-of (ascii "plain") (plain m table), line-of (ascii "reduced") (reduced m table), line-of (ascii "common") (common m table))
       (sym (append-assoc (line (ascii "width") (m ∷ [])) _ _))
 

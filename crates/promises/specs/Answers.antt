@@ -7,7 +7,7 @@ use Rattle.judging.specs.declared.fault.Fault.{Fault}
 use Rattle.judging.specs.declared.fault.Fault.the-variants.{None}
 use Rattle.judging.specs.Faults.{numberOf}
 use Rattle.nb.specs.Packing.{Unpacks}
-use Rattle.judging.specs.Causes.{Cause, Exact}
+use Rattle.judging.specs.Causes.{Cause, faultOf, Exact}
 
 -- a fault's number, and what document 01 returns beside it, come out of the answer
 abbrev pub Refuses : ℕ → Fault → Type 0
@@ -23,13 +23,13 @@ pub record Lent (fault : Fault) (after old result : List ℕ) : Type 0 where
   pub kept : ¬ (fault ≡ None) → after ≡ old
   pub written : fault ≡ None → after ≡ result
 
--- a call that lends no buffer
-pub record Asks (causes : List Cause) (fault : Fault) (answer first second : ℕ) : Type 0 where
-  pub exact : Exact causes fault
-  pub number : Numbered fault answer first second
+-- a call that judges these causes and lends no buffer
+pub record Asks (causes : List Cause) (answer first second : ℕ) : Type 0 where
+  pub exact : Exact causes (faultOf causes)
+  pub number : Numbered (faultOf causes) answer first second
 
 -- a call that lends one
-pub record Fills (causes : List Cause) (fault : Fault) (answer first second : ℕ) (after old result : List ℕ) : Type 0 where
-  pub exact : Exact causes fault
-  pub number : Numbered fault answer first second
-  pub buffer : Lent fault after old result
+pub record Fills (causes : List Cause) (answer first second : ℕ) (after old result : List ℕ) : Type 0 where
+  pub exact : Exact causes (faultOf causes)
+  pub number : Numbered (faultOf causes) answer first second
+  pub buffer : Lent (faultOf causes) after old result

@@ -12,9 +12,11 @@ use Rattle.gaussian.specs.Types.{modulus, IsType, LeastType, typeOf}
 use Rattle.gaussian.specs.Table.{rowCoord}
 use Rattle.gaussian.specs.Calls.{drawFault, drawnInto}
 use Rattle.card.specs.Calls.{readCall}
-use Rattle.card.specs.Statements.{Bytes, TableTrip, CardTrip, widthRead, tableRead}
-use Rattle.nb.specs.Judgements.{productBytesFault, reducedBytesFault}
-use Rattle.nb.specs.Calls.{productResult, reducedResult}
+use Rattle.card.specs.Statements.{Bytes, TableTrip, widthRead, tableRead}
+use Rattle.card_writer.specs.Statements.{CardTrip}
+use Rattle.judging.specs.Causes.{faultOf}
+use Rattle.product.specs.Causes.{productBytesCauses, reducedBytesCauses}
+use Rattle.product.specs.Calls.{productInto, reducedInto}
 
 -- "coordinate r is the sum modulo 2 of ai·bj over all i, j for which βi·βj has coordinate r"
 abbrev pub bilinear : ℕ → List ℕ → List ℕ → List ℕ → ℕ → ℕ
@@ -41,11 +43,11 @@ pub record DrawnBy (m t : ℕ) (table : List ℕ) : Type 0 where
 
 pub record Demand2 : Type 0 where
   -- "Products equal the bilinear product of document 01,"
-  pub products : (m : ℕ) (table a b old : List ℕ) → productBytesFault m table a b old ≡ None →
-      HasCoords m (productResult m table a b old) (bilinear m table a b)
+  pub products : (m : ℕ) (table a b old : List ℕ) → faultOf (productBytesCauses m table a b old) ≡ None →
+      HasCoords m (productInto m table a b old) (bilinear m table a b)
   -- the reduced product as document 01 has it; demand 3 says where it is the same
-  pub reducedProducts : (m : ℕ) (table a b old : List ℕ) → reducedBytesFault m table a b old ≡ None →
-      HasCoords m (reducedResult m table a b old) (halved m table a b)
+  pub reducedProducts : (m : ℕ) (table a b old : List ℕ) → faultOf (reducedBytesCauses m table a b old) ≡ None →
+      HasCoords m (reducedInto m table a b old) (halved m table a b)
   -- "drawn tables equal the Gaussian rule of IEEE 1363,"
   pub drawn : (m : ℕ) (old : List ℕ) → drawFault m (length old) ≡ None → DrawnBy m (typeOf m) (drawnInto m old)
   -- a width that can't be drawn has no type

@@ -1,7 +1,7 @@
 -- Demand 3, sentence by sentence. Operands are those of the C interface, W bytes, and each definition named here is one that a call's
--- contract names: `checkFault` that of nb_check; `productResult`, `reducedResult`, `inverseResult` and the faults `..BytesFault` those of
+-- contract names: `checkFault` that of nb_check; `productInto`, `reducedInto`, `inverseInto` and the causes `..BytesCauses` those of
 -- the products and the inverse, `productsMade` the count; `plain`, `reducedList`, `common`, `words`, `listBuffer` those of the writers;
--- `runResult`, `runWires` those of the runner; `countsPlainCall` and its like those of the counts.
+-- `ranResult`, `ranWires` those of the runner; `countsPlainCall` and its like those of the counts.
 use mathlib.Core.Path.{_≡_}
 use mathlib.Core.Logic.{_↔_}
 use mathlib.Core.List.{List}
@@ -20,18 +20,21 @@ use Rattle.netlist.specs.Gates.{Netlist, words, andGates, xorGates}
 use Rattle.netlist.specs.Lists.{plain, reduced as reducedList, common}
 use Rattle.netlist.specs.Running.{wires}
 use Rattle.netlist.specs.Calls.{countedAs, countsPlainCall, countsReducedCall, countsCommonCall, listFault, listBuffer}
-use Rattle.nb.specs.Judgements.{productBytesFault, reducedBytesFault, inverseBytesFault, runBytesFault}
-use Rattle.nb.specs.Calls.{productResult, reducedResult, inverseResult, runResult, runWires}
+use Rattle.judging.specs.Causes.{faultOf}
+use Rattle.product.specs.Causes.{productBytesCauses, reducedBytesCauses, inverseBytesCauses}
+use Rattle.product.specs.Calls.{productInto, reducedInto, inverseInto}
+use Rattle.runner.specs.Causes.{runBytesCauses}
+use Rattle.nb.specs.Calls.{ranResult, ranWires}
 
 -- nb_product of two operands into a result of W bytes: no fault, and the plain product
 pub record Multiplies (m : ℕ) (table a b old : List ℕ) : Type 0 where
-  pub noFault : productBytesFault m table a b old ≡ None
-  pub value : productResult m table a b old ≡ product m table a b
+  pub noFault : faultOf (productBytesCauses m table a b old) ≡ None
+  pub value : productInto m table a b old ≡ product m table a b
 
 -- nb_product_reduced of the same: no fault, and the bytes of nb_product
 pub record Reduces (m : ℕ) (table a b old : List ℕ) : Type 0 where
-  pub noFault : reducedBytesFault m table a b old ≡ None
-  pub value : reducedResult m table a b old ≡ productResult m table a b old
+  pub noFault : faultOf (reducedBytesCauses m table a b old) ≡ None
+  pub value : reducedInto m table a b old ≡ productInto m table a b old
 
 -- the words that nb_list_.. wrote in front of the lent buffer `out`
 abbrev pub wordsWritten : ℕ → List ℕ → Netlist → List ℕ → List ℕ
@@ -40,9 +43,9 @@ wordsWritten m table list out = take (length (words m list)) (listBuffer m table
 -- nb_run on these words and two operands, with a result of W bytes and a byte for each wire: no fault, every wire's value, and the
 -- bytes of nb_product
 pub record Runs (m : ℕ) (table : List ℕ) (list : Netlist) (out a b old lent : List ℕ) : Type 0 where
-  pub noFault : runBytesFault m (wordsWritten m table list out) a b old lent ≡ None
-  pub value : runResult m (wordsWritten m table list out) a b old lent ≡ productResult m table a b old
-  pub wire : runWires m (wordsWritten m table list out) a b old lent ≡ wires m list a b
+  pub noFault : faultOf (runBytesCauses m (wordsWritten m table list out) a b old lent) ≡ None
+  pub value : ranResult m (wordsWritten m table list out) a b old lent ≡ productInto m table a b old
+  pub wire : ranWires m (wordsWritten m table list out) a b old lent ≡ wires m list a b
 
 -- a list is written, by nb_list_.., wherever it has room, and gives the product of any two operands when it is run
 pub record RunsToProduct (m : ℕ) (table : List ℕ) (list : Netlist) : Type 0 where
@@ -53,9 +56,9 @@ pub record RunsToProduct (m : ℕ) (table : List ℕ) (list : Netlist) : Type 0 
 
 -- nb_inverse of an operand: no fault, and an operand that times it is one
 pub record Inverts (m : ℕ) (table a old : List ℕ) : Type 0 where
-  pub noFault : inverseBytesFault m table a old ≡ None
-  pub operand : Op m (inverseResult m table a old)
-  pub value : product m table (inverseResult m table a old) a ≡ ones (bytesFor m) m
+  pub noFault : faultOf (inverseBytesCauses m table a old) ≡ None
+  pub operand : Op m (inverseInto m table a old)
+  pub value : product m table (inverseInto m table a old) a ≡ ones (bytesFor m) m
 
 -- the gates that a list holds, and those that its counts report
 pub record HasGates (list : Netlist) (reported : CountsAnswer) (ands xors : ℕ) : Type 0 where
@@ -87,7 +90,7 @@ pub record UnderAccepted (m : ℕ) (table : List ℕ) : Type 0 where
   pub inverts : (a old : List ℕ) → Op m a → ¬ (a ≡ zeroes (bytesFor m) m) → length old ≡ bytesFor m → Inverts m table a old
   -- "no other operand times it is one,"
   pub only : (a b old : List ℕ) → Op m a → ¬ (a ≡ zeroes (bytesFor m) m) → length old ≡ bytesFor m → Op m b →
-      product m table b a ≡ ones (bytesFor m) m → b ≡ inverseResult m table a old
+      product m table b a ≡ ones (bytesFor m) m → b ≡ inverseInto m table a old
   -- "and the returned count of products made .. is floor(log2(m-1)) + (ones in m-1 in binary) - 1"
   pub logarithm : IsLog2 (m - 1) (log2 (m - 1))
   pub count : (a : List ℕ) → productsMade m table a ≡ log2 (m - 1) + binaryOnes (m - 1) - 1
