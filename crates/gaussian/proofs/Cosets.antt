@@ -12,7 +12,7 @@ use lib.Pow.{pow-add}
 use Rattle.gaussian.specs.Types.{Prime, IsOrder, IsType}
 use Rattle.gaussian.specs.Table.{some, inK, inCoset}
 use Rattle.gaussian.proofs.Modulo.{mul-mod-right, mul-cong, pow-mul, mul-pow, pow-cong, mul-one-mod, pow-one, order-divides, order-exists}
-use Rattle.gaussian.proofs.Soundness.{hit-refutes}
+use Rattle.gaussian.proofs.Soundness.{hit-refutes, zero-type}
 use Rattle.gaussian.proofs.Two.{two-whole}
 
 -- the powers of g below its order are distinct
@@ -66,7 +66,7 @@ some-none (suc n) test h = rw (some-none n test (λ i l. h i (omega arith)), h n
 
 -- a type is not 0
 type-pos : (m t : ℕ) → IsType m t → 0 < t
-type-pos m zero ty = absurd (lt-irrefl 1 (subst (λ (x : ℕ). 1 < x + 1) (zero-mul m) (ty .0 .0)))
+type-pos m zero ty = absurd (zero-type m ty)
 type-pos m (suc t) ty = suc-le-suc zero-le
 
 module _ (m t : ℕ) (hm : 1 < m) (ty : IsType m t) where
@@ -129,7 +129,7 @@ module _ (m t : ℕ) (hm : 1 < m) (ty : IsType m t) where
 
           refute : ⊥
           refute =
-              hit-refutes m t d m-pos big (ap (λ (x : ℕ). x % d) (sym whole) ∙ mul-mod-left r d)
+              hit-refutes m t m-pos d big (ap (λ (x : ℕ). x % d) (sym whole) ∙ mul-mod-left r d)
               (ap (λ (x : ℕ). 2 ^ x % (t * m + 1)) part ∙ ap (λ (x : ℕ). x % (t * m + 1)) (sym (g-pow r)) ∙ o .1 .1)
               ty
 

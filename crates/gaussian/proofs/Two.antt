@@ -175,7 +175,7 @@ two-half n p e hp = leaves-one p (4 * n) (4 * n) hp (omega arith)
 
 -- a width that 8 divides has no type
 pub eight : (m : ℕ) → 0 < m → m % 8 ≡ 0 → (t : ℕ) → ¬ IsType m t
-eight m hm z t ty = hit-refutes m t 2 hm (suc-le-suc (suc-le-suc zero-le)) (omega arith) (ap (λ (x : ℕ). 2 ^ x % (t * m + 1)) half ∙ two-half n (t * m + 1) (omega (arith, whole)) (ty .0)) ty
+eight m hm z t ty = hit-refutes m t hm 2 (suc-le-suc (suc-le-suc zero-le)) (omega arith) (ap (λ (x : ℕ). 2 ^ x % (t * m + 1)) half ∙ two-half n (t * m + 1) (omega (arith, whole)) (ty .0)) ty
   where
     n : ℕ
     n = t * (m / 8)
