@@ -7,7 +7,7 @@ use native.Mathlib.Nat.{zero-mul, mul-comm, mul-assoc, le-refl, le-trans, le-of-
 use native.Mathlib.Decide.{ℕ-discrete, decLe}
 use native.Mathlib.Omega.{arith}
 use lib.Dec.{T, eqb, ltb, eqb→eq, ltb→lt}
-use borrow.Author.Tests.{le-ltb, eq-eqb, ne-eqb}
+use borrow.Author.Tests.{eq-eqb}
 use Rattle.gaussian.specs.Types.{Prime, IsOrder, IsType, LeastType}
 use Rattle.gaussian.proofs.Entries.{both, both-parts}
 use Rattle.gaussian.proofs.Modulo.{order-divides, order-exists, pow-one}
