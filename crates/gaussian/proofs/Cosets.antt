@@ -4,7 +4,7 @@ use mathlib.Core.Path.{_≡_, refl, sym, ap, _∙_, subst}
 use mathlib.Core.Logic.{_≢_}
 use mathlib.Core.Bool.{Bool, true, false, _||_}
 use Prim.Native.Nat.{ℕ, zero, suc, _+_, _-_, _*_, _/_, _%_, _^_, _≤_, _<_, zero-le, suc-le-suc}
-use native.Mathlib.Nat.{mul-one, one-mul, mul-comm, mul-assoc, mul-add, mul-left-comm, le-of-lt, lt-irrefl, lt-of-le-of-lt, mod-lt, mod-mod, mod-eq-of-lt, add-mod-left, mul-div-cancel', dvd-of-mod-eq-zero, le-of-dvd, div-eq-of-eq-mul-left, mul-le-mul-right, lt-of-mul-lt-mul-left, mul-mod-left}
+use native.Mathlib.Nat.{mul-one, one-mul, mul-comm, mul-assoc, mul-add, mul-left-comm, le-of-lt, mod-lt, mod-mod, mod-eq-of-lt, add-mod-left, mul-div-cancel', dvd-of-mod-eq-zero, le-of-dvd, div-eq-of-eq-mul-left, mul-le-mul-right, lt-of-mul-lt-mul-left, mul-mod-left}
 use native.Mathlib.Decide.{ℕ-discrete, decLt}
 use native.Mathlib.Omega.{arith}
 use borrow.Author.Tests.{eq-eqb, ne-eqb}

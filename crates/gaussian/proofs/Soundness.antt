@@ -87,13 +87,19 @@ module _ (m t : ℕ) (hm : 0 < m) where
       let pos : 0 < e = mul-pos ht hm in
       let above : 1 < p = omega arith in
       let one = eqb→eq (2 ^ e % p) 1 (r .0) in
-      let (k, o) = order-exists 2 p e pos one in
-      (prime p above (q .0), (k, o, λ d h h′.
-          let some = pos-of-dvd-of-pos h′ hm in
-          elim (ℕ-discrete d 1) [
-            | yes q ↦ q
-            | no q ↦ absurd (noHit-sound m e p m (r .1) d (omega arith) (le-step (le-of-dvd hm h′)) (common above k o one d some h h′))
-          ]))
+      let (k, o) = order-exists 2 p e pos one in (
+        prime p above (q .0),
+        (
+          k,
+          o,
+          λ d h h′.
+              let some = pos-of-dvd-of-pos h′ hm in
+              elim (ℕ-discrete d 1) [
+                | yes q ↦ q
+                | no q ↦ absurd (noHit-sound m e p m (r .1) d (omega arith) (le-step (le-of-dvd hm h′)) (common above k o one d some h h′))
+              ],
+        ),
+      )
 
   -- the tests of what is no type
   pub hit-refutes : (n : ℕ) → 1 < n → m % n ≡ 0 → 2 ^ (e / n) % p ≡ 1 → ¬ IsType m t
