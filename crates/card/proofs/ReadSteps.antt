@@ -17,7 +17,8 @@ use lib.Dec.{eqb, ltb}
 use borrow.Author.Tests.{lt-ltb, le-ltb, le-leb, lt-leb, eq-eqb, ne-eqb, eqb-true}
 use Rattle.gf2.specs.Sums.{sum, every}
 use Rattle.gf2.specs.Coordinates.{coord, value, tabulate, pack}
-use Rattle.gf2.specs.Operands.{maxWidth, bytesFor, carriedBytes, choose, below, fromCoords, zeroes}
+use Rattle.gf2.specs.Operands.{maxWidth, bytesFor, carriedBytes, choose, below, fromCoords}
+use Rattle.gf2.proofs.Parity.{bool-ext}
 use Rattle.gf2.proofs.Sums.{every-at}
 use Rattle.gf2.proofs.Coordinates.{length-tabulate, length-pack, pack-byte, coord-pack, pack-eq, pack-ext, xor-bit}
 use Rattle.gf2.proofs.Operands.{below-in, below-out, length-from}
@@ -69,48 +70,38 @@ bit-value p = omega (arith, power-byte (p % 8) (omega arith))
 
 -- bytes with the bit at p turned over
 module _ (n : ℕ) (f : ℕ → ℕ) (p : ℕ) (h : p < 8 * n) where
-  abbrev turnedOver : List ℕ
-  turnedOver = set (pack n f) (p / 8) (bitXor (getD (pack n f) (p / 8) 0) (2 ^ (p % 8)))
+  abbrev bytes : List ℕ
+  bytes = pack n f
 
-  over-byte : (b : ℕ) → getD turnedOver b 0 < 256
+  abbrev over : ℕ
+  over = bitXor (getD bytes (p / 8) 0) (2 ^ (p % 8))
+
+  at-byte : getD (set bytes (p / 8) over) (p / 8) 0 ≡ over
+  at-byte = getD-set-same bytes (p / 8) over 0 (omega (arith, length-pack n f))
+
+  over-byte : (b : ℕ) → getD (set bytes (p / 8) over) b 0 < 256
   over-byte b = elim (ℕ-discrete b (p / 8)) [
-    | yes e ↦ rw (e, getD-set-same (pack n f) (p / 8) (bitXor (getD (pack n f) (p / 8) 0) (2 ^ (p % 8))) 0 (omega (arith, length-pack n f)))
-        (xor-lt 8 _ _ (pack-byte n f (p / 8)) (power-byte (p % 8) (omega arith)))
-    | no e ↦ rw (getD-set-other (pack n f) (p / 8) b (bitXor (getD (pack n f) (p / 8) 0) (2 ^ (p % 8))) 0 e) (pack-byte n f b)
+    | yes e ↦ rw (e, at-byte) (xor-lt 8 _ _ (pack-byte n f (p / 8)) (power-byte (p % 8) (omega arith)))
+    | no e ↦ rw (getD-set-other bytes (p / 8) b over 0 e) (pack-byte n f b)
   ]
 
-  over-coord : (i : ℕ) → i < 8 * n → coord turnedOver i ≡ (f i + choose (eqb i p) 1 0) % 2
+  over-coord : (i : ℕ) → i < 8 * n → coord (set bytes (p / 8) over) i ≡ (f i + choose (eqb i p) 1 0) % 2
   unfolding coord
   over-coord i l = elim (ℕ-discrete (i / 8) (p / 8)) [
-    | yes e ↦ here e
-    | no e ↦ there e
+    | yes e ↦
+        let b : getD bytes (p / 8) 0 / 2 ^ (i % 8) % 2 ≡ f i % 2 = rw e at (coord-pack n f i l) in
+        let o = power-bit (p % 8) (i % 8) (omega arith) (omega arith) ∙ ap (λ z. choose z 1 0) (same-bit e) in
+        rw (e, at-byte) (xor-bit (getD bytes (p / 8) 0) (2 ^ (p % 8)) (i % 8) ∙ omega arith)
+    | no e ↦
+        let b : getD bytes (i / 8) 0 / 2 ^ (i % 8) % 2 ≡ f i % 2 = coord-pack n f i l in
+        rw (getD-set-other bytes (p / 8) (i / 8) over 0 e, ne-eqb i p (λ q. e (ap (λ k. k / 8) q))) (omega arith)
   ]
     where
-      in-byte : i / 8 ≡ p / 8 → getD (pack n f) (p / 8) 0 / 2 ^ (i % 8) % 2 ≡ f i % 2
-      in-byte e = rw e at (coord-pack n f i l)
+      same-bit : i / 8 ≡ p / 8 → eqb (i % 8) (p % 8) ≡ eqb i p
+      same-bit e = bool-ext _ _ (λ q. let r = eqb-true (i % 8) (p % 8) q in eq-eqb i p (omega arith)) (λ q. let r = eqb-true i p q in eq-eqb (i % 8) (p % 8) (omega arith))
 
-      same-bit : i / 8 ≡ p / 8 → _≡_ {A = ℕ} (choose (eqb (i % 8) (p % 8)) 1 0) (choose (eqb i p) 1 0)
-      same-bit e = elim (ℕ-discrete i p) [
-        | yes q ↦ rw (eq-eqb i p q, eq-eqb (i % 8) (p % 8) (omega arith))
-        | no q ↦ rw (ne-eqb i p q, ne-eqb (i % 8) (p % 8) (λ r. q (omega arith)))
-      ]
-
-      here : i / 8 ≡ p / 8 → coord turnedOver i ≡ (f i + choose (eqb i p) 1 0) % 2
-      here e =
-          let a = getD (pack n f) (p / 8) 0 in
-          let b = in-byte e in
-          let o = power-bit (p % 8) (i % 8) (omega arith) (omega arith) ∙ same-bit e in
-          rw (e, getD-set-same (pack n f) (p / 8) (bitXor a (2 ^ (p % 8))) 0 (omega (arith, length-pack n f)))
-          (xor-bit a (2 ^ (p % 8)) (i % 8) ∙ omega arith)
-
-      there : (i / 8 ≡ p / 8 → ⊥) → coord turnedOver i ≡ (f i + choose (eqb i p) 1 0) % 2
-      there e =
-          let b : getD (pack n f) (i / 8) 0 / 2 ^ (i % 8) % 2 ≡ f i % 2 = coord-pack n f i l in
-          rw (getD-set-other (pack n f) (p / 8) (i / 8) (bitXor (getD (pack n f) (p / 8) 0) (2 ^ (p % 8))) 0 e, ne-eqb i p (λ q. e (ap (λ k. k / 8) q)))
-          (omega arith)
-
-  pub over-pack : turnedOver ≡ pack n (λ i. f i + choose (eqb i p) 1 0)
-  over-pack = pack-eq n (λ i. f i + choose (eqb i p) 1 0) turnedOver (simp length-set (length-pack n f)) over-byte over-coord
+  over-pack : set bytes (p / 8) over ≡ pack n (λ i. f i + choose (eqb i p) 1 0)
+  over-pack = pack-eq n (λ i. f i + choose (eqb i p) 1 0) (set bytes (p / 8) over) (simp length-set (length-pack n f)) over-byte over-coord
 
 -- one more place, which isn't in the list yet
 place-last : (ps : List ℕ) (p i : ℕ) → isPlace ps p ≡ 0 → isPlace (ps ++ (p ∷ [])) i ≡ isPlace ps i + choose (eqb i p) 1 0

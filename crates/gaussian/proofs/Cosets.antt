@@ -4,7 +4,7 @@ use mathlib.Core.Path.{_≡_, refl, sym, ap, _∙_, subst}
 use mathlib.Core.Logic.{_≢_}
 use mathlib.Core.Bool.{Bool, true, false, _||_}
 use Prim.Native.Nat.{ℕ, zero, suc, _+_, _-_, _*_, _/_, _%_, _^_, _≤_, _<_, zero-le, suc-le-suc}
-use native.Mathlib.Nat.{mul-one, one-mul, zero-mul, mul-comm, mul-assoc, mul-add, mul-left-comm, le-of-lt, lt-irrefl, lt-of-le-of-lt, mod-lt, mod-mod, mod-eq-of-lt, add-mod-left, mul-div-cancel', dvd-of-mod-eq-zero, le-of-dvd, div-eq-of-eq-mul-left, mul-le-mul-right, lt-of-mul-lt-mul-left, mul-mod-left}
+use native.Mathlib.Nat.{mul-one, one-mul, mul-comm, mul-assoc, mul-add, mul-left-comm, le-of-lt, mod-lt, mod-mod, mod-eq-of-lt, add-mod-left, mul-div-cancel', dvd-of-mod-eq-zero, le-of-dvd, div-eq-of-eq-mul-left, mul-le-mul-right, lt-of-mul-lt-mul-left, mul-mod-left}
 use native.Mathlib.Decide.{ℕ-discrete, decLt}
 use native.Mathlib.Omega.{arith}
 use borrow.Author.Tests.{eq-eqb, ne-eqb}
@@ -12,39 +12,24 @@ use lib.Pow.{pow-add}
 use Rattle.gaussian.specs.Types.{Prime, IsOrder, IsType}
 use Rattle.gaussian.specs.Table.{some, inK, inCoset}
 use Rattle.gaussian.proofs.Modulo.{mul-mod-right, mul-cong, pow-mul, mul-pow, pow-cong, mul-one-mod, pow-one, order-divides, order-exists}
-use Rattle.gaussian.proofs.Soundness.{hit-refutes}
+use Rattle.gaussian.proofs.Soundness.{hit-refutes, zero-type}
 use Rattle.gaussian.proofs.Two.{two-whole}
 
 -- the powers of g below its order are distinct
 distinct : (g m p : ℕ) → 1 < p → IsOrder m g p → (i j : ℕ) → i < j → j < m → g ^ i % p ≢ g ^ j % p
-distinct g m p hp o i j h h′ e = lt-irrefl 0 (subst (λ (x : ℕ). 0 < x) rest pos)
-  where
-    d : ℕ
-    d = j - i
-
-    turned : g ^ (m + d) % p ≡ 1
-    turned =
-        ap (λ (x : ℕ). g ^ x % p) shape
-        ∙ ap (λ (x : ℕ). x % p) (pow-add g j (m - i))
-        ∙ mul-cong (g ^ j) (g ^ i) (g ^ (m - i)) (g ^ (m - i)) p (sym e) refl
-        ∙ ap (λ (x : ℕ). x % p) (sym (pow-add g i (m - i)))
-        ∙ ap (λ (x : ℕ). g ^ x % p) shape′
-        ∙ o .1
-      where
-        shape : m + d ≡ j + (m - i)
-        shape = omega arith
-
-        shape′ : i + (m - i) ≡ m
-        shape′ = omega arith
-
-    pos : 0 < d
-    pos = omega arith
-
-    below : d < m
-    below = omega arith
-
-    rest : d ≡ 0
-    rest = sym (mod-eq-of-lt below) ∙ sym (add-mod-left m d) ∙ order-divides m g p (m + d) hp o turned
+distinct g m p hp o i j h h′ e =
+    let d = j - i in
+    let shape : m + d ≡ j + (m - i) = omega arith in
+    let back : i + (m - i) ≡ m = omega arith in
+    let turned =
+    ap (λ (x : ℕ). g ^ x % p) shape
+    ∙ ap (λ (x : ℕ). x % p) (pow-add g j (m - i))
+    ∙ mul-cong (g ^ j) (g ^ i) (g ^ (m - i)) (g ^ (m - i)) p (sym e) refl
+    ∙ ap (λ (x : ℕ). x % p) (sym (pow-add g i (m - i)))
+    ∙ ap (λ (x : ℕ). g ^ x % p) back
+    ∙ o .1 in
+    let rest : d ≡ 0 = sym (mod-eq-of-lt (omega arith)) ∙ sym (add-mod-left m d) ∙ order-divides m g p (m + d) hp o turned in
+    omega arith
 
 -- some number below a bound passes a test, or none does
 some-at : (n : ℕ) (test : ℕ → Bool) (i : ℕ) → i < n → test i ≡ true → some n test ≡ true
@@ -66,7 +51,7 @@ some-none (suc n) test h = rw (some-none n test (λ i l. h i (omega arith)), h n
 
 -- a type is not 0
 type-pos : (m t : ℕ) → IsType m t → 0 < t
-type-pos m zero ty = absurd (lt-irrefl 1 (subst (λ (x : ℕ). 1 < x + 1) (zero-mul m) (ty .0 .0)))
+type-pos m zero ty = absurd (zero-type m ty)
 type-pos m (suc t) ty = suc-le-suc zero-le
 
 module _ (m t : ℕ) (hm : 1 < m) (ty : IsType m t) where
@@ -104,34 +89,15 @@ module _ (m t : ℕ) (hm : 1 < m) (ty : IsType m t) where
   g-order = (m-pos, g-whole, least)
     where
       least : (j : ℕ) → 0 < j → j < m → g ^ j % p ≢ 1
-      least j h h′ e = refute
-        where
-          o : (r : ℕ) × IsOrder r g p
-          o = order-exists g p m m-pos g-whole
-
-          r : ℕ
-          r = o .0
-
-          d : ℕ
-          d = m / r
-
-          whole : r * d ≡ m
-          whole = mul-div-cancel' r (dvd-of-mod-eq-zero r (order-divides r g p m (hp .0) (o .1) g-whole))
-
-          less : r < m
-          less = lt-of-le-of-lt (le-of-dvd h (dvd-of-mod-eq-zero r (order-divides r g p j (hp .0) (o .1) e))) h′
-
-          big : 1 < d
-          big = lt-of-mul-lt-mul-left r (subst (λ (x : ℕ). r * 1 < x) (sym whole) (subst (λ (x : ℕ). x < m) (sym (mul-one r)) less))
-
-          part : t * m / d ≡ t * r
-          part = div-eq-of-eq-mul-left (le-of-lt big) (ap (λ (x : ℕ). t * x) (sym whole) ∙ sym (mul-assoc t r d))
-
-          refute : ⊥
-          refute =
-              hit-refutes m t d m-pos big (ap (λ (x : ℕ). x % d) (sym whole) ∙ mul-mod-left r d)
-              (ap (λ (x : ℕ). 2 ^ x % (t * m + 1)) part ∙ ap (λ (x : ℕ). x % (t * m + 1)) (sym (g-pow r)) ∙ o .1 .1)
-              ty
+      least j h h′ e =
+          let (r, o) = order-exists g p m m-pos g-whole in
+          let d = m / r in
+          let whole : r * d ≡ m = mul-div-cancel' r (dvd-of-mod-eq-zero r (order-divides r g p m (hp .0) o g-whole)) in
+          let few = le-of-dvd h (dvd-of-mod-eq-zero r (order-divides r g p j (hp .0) o e)) in
+          let big : 1 < d = lt-of-mul-lt-mul-left r (omega (arith, whole, mul-one r)) in
+          let part : t * m / d ≡ t * r = div-eq-of-eq-mul-left (le-of-lt big) (ap (λ (x : ℕ). t * x) (sym whole) ∙ sym (mul-assoc t r d)) in
+          hit-refutes m t m-pos d big (ap (λ (x : ℕ). x % d) (sym whole) ∙ mul-mod-left r d)
+          (ap (λ (x : ℕ). 2 ^ x % p) part ∙ ap (λ (x : ℕ). x % p) (sym (g-pow r)) ∙ o .1) ty
 
   -- x = 2^s·u with u^t = 1 has x^t = g^s
   coset-power : (s u x : ℕ) → u ^ t % p ≡ 1 → 2 ^ s * u % p ≡ x → x ^ t % p ≡ g ^ s % p
@@ -144,18 +110,16 @@ module _ (m t : ℕ) (hm : 1 < m) (ty : IsType m t) where
 
   -- and x with x^t = g^s is 2^s·u for u = x·2^(-s)
   module _ (s x : ℕ) (hs : s < m) (hx : x < p) (power : x ^ t % p ≡ g ^ s % p) where
-    r : ℕ
+    abbrev r : ℕ
     r = t * m - s
 
-    u : ℕ
+    abbrev u : ℕ
     u = x * 2 ^ r % p
 
     sum : s + r ≡ t * m
-    unfolding r
     sum = omega (arith, at-least)
 
     kernel : u ^ t % p ≡ 1
-    unfolding u
     kernel =
         pow-cong (x * 2 ^ r % p) (x * 2 ^ r) p t (mod-mod (x * 2 ^ r) p)
         ∙ ap (λ (z : ℕ). z % p) (mul-pow x (2 ^ r) t)
@@ -165,7 +129,6 @@ module _ (m t : ℕ) (hm : 1 < m) (ty : IsType m t) where
         ∙ pow-one 2 p (t * m) t (hp .0) two-all
 
     turned : 2 ^ s * u % p ≡ x
-    unfolding u
     turned =
         sym (mul-mod-right (2 ^ s) (x * 2 ^ r) p)
         ∙ ap (λ (z : ℕ). z % p) (mul-left-comm (2 ^ s) x (2 ^ r) ∙ ap (λ (z : ℕ). x * z) (sym (pow-add 2 s r) ∙ ap (λ (z : ℕ). 2 ^ z) sum))
@@ -173,7 +136,7 @@ module _ (m t : ℕ) (hm : 1 < m) (ty : IsType m t) where
         ∙ mod-eq-of-lt hx
 
     pub coset-in : inCoset p t s x ≡ true
-    unfolding inCoset inK u
+    unfolding inCoset inK
     coset-in = some-at p _ u (mod-lt (x * 2 ^ r) p-pos) (rw (eq-eqb _ _ kernel, eq-eqb _ _ turned))
 
   pub coset-out : (s x : ℕ) → (x ^ t % p ≡ g ^ s % p → ⊥) → inCoset p t s x ≡ false
@@ -188,9 +151,10 @@ module _ (m t : ℕ) (hm : 1 < m) (ty : IsType m t) where
 
   -- the powers of g below m are distinct
   pub power-one : (s r : ℕ) → s < m → r < m → g ^ s % p ≡ g ^ r % p → s ≡ r
-  power-one s r h h′ same = pick (decLt s r) (decLt r s)
-    where
-      pick : Dec (s < r) → Dec (r < s) → s ≡ r
-      pick (yes l) q = absurd (distinct g m p (hp .0) g-order s r l h′ same)
-      pick (no l) (yes q) = absurd (distinct g m p (hp .0) g-order r s q h (sym same))
-      pick (no l) (no q) = omega arith
+  power-one s r h h′ same = elim (decLt s r) [
+    | yes l ↦ absurd (distinct g m p (hp .0) g-order s r l h′ same)
+    | no l ↦ elim (decLt r s) [
+      | yes q ↦ absurd (distinct g m p (hp .0) g-order r s q h (sym same))
+      | no q ↦ omega arith
+    ]
+  ]

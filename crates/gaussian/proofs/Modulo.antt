@@ -1,8 +1,8 @@
 -- Remainders of products and powers, and the order of a number modulo another.
-use mathlib.Core.Path.{_≡_, sym, ap, ap₂, _∙_, subst}
+use mathlib.Core.Path.{_≡_, sym, ap, ap₂, _∙_}
 use mathlib.Core.Logic.{_≢_, _⊎_, inl, inr}
-use Prim.Native.Nat.{ℕ, zero, suc, _*_, _/_, _%_, _^_, _≤_, _<_, zero-le, suc-le-suc}
-use native.Mathlib.Nat.{mul-zero, mul-suc, mul-comm, mul-one, mod-add-div, mod-eq-of-lt, mod-lt, pow-zero, pow-suc, mul-mul-mul-comm, eq-zero-or-pos, eq-or-lt-of-le, le-of-suc-le-suc, le-trans, not-suc-le-zero}
+use Prim.Native.Nat.{ℕ, zero, suc, _*_, _/_, _%_, _^_, _≤_, _<_}
+use native.Mathlib.Nat.{mul-zero, mul-suc, mul-comm, mul-one, mod-add-div, mod-eq-of-lt, mod-lt, pow-zero, pow-suc, mul-mul-mul-comm}
 use native.Mathlib.Decide.{ℕ-discrete}
 use native.Mathlib.Omega.{arith}
 use lib.Pow.{pow-add}
@@ -40,44 +40,33 @@ pow-cong a b p (suc n) e = ap (λ (x : ℕ). x % p) (pow-suc a n) ∙ mul-cong (
 
 -- the order divides each power that leaves 1
 pub order-divides : (k b p n : ℕ) → 1 < p → IsOrder k b p → b ^ n % p ≡ 1 → n % k ≡ 0
-order-divides k b p n h o e = pick (eq-zero-or-pos (n % k))
-  where
-    rest : b ^ (n % k) % p ≡ 1
-    rest =
-        sym (mul-one-mod (b ^ (n % k)) (b ^ (k * (n / k))) p (pow-one b p k (n / k) h (o .1)))
-        ∙ ap (λ (x : ℕ). x % p) (sym (pow-add b (n % k) (k * (n / k))))
-        ∙ ap (λ (x : ℕ). b ^ x % p) (mod-add-div n k)
-        ∙ e
+order-divides k b p n h o e =
+    let rest =
+    sym (mul-one-mod (b ^ (n % k)) (b ^ (k * (n / k))) p (pow-one b p k (n / k) h (o .1)))
+    ∙ ap (λ (x : ℕ). x % p) (sym (pow-add b (n % k) (k * (n / k))))
+    ∙ ap (λ (x : ℕ). b ^ x % p) (mod-add-div n k)
+    ∙ e in
+    elim (ℕ-discrete (n % k) 0) [
+      | yes z ↦ z
+      | no z ↦ absurd (o .2 (n % k) (omega arith) (mod-lt n (o .0)) rest)
+    ]
 
-    pick : (n % k ≡ 0) ⊎ (0 < n % k) → n % k ≡ 0
-    pick (inl z) = z
-    pick (inr z) = absurd (o .2 (n % k) z (mod-lt n (o .0)) rest)
-
--- the least number above 0, up to n, whose power leaves 1; or there is none
-Found : ℕ → ℕ → ℕ → Type 0
-Found b p n = ((k : ℕ) × IsOrder k b p) ⊎ ((j : ℕ) → 0 < j → j ≤ n → b ^ j % p ≢ 1)
-
-find : (b p n : ℕ) → Found b p n
-unfolding Found
-find b p zero = inr (λ j h h′ e. not-suc-le-zero (le-trans h h′))
-find b p (suc n) = next (find b p n)
-  where
-    here : ((j : ℕ) → 0 < j → j ≤ n → b ^ j % p ≢ 1) → Dec (b ^ suc n % p ≡ 1) → Found b p (suc n)
-    here f (yes e) = inl (suc n, (suc-le-suc zero-le, e, λ j h h′. f j h (le-of-suc-le-suc h′)))
-    here f (no e) = inr (λ j h h′. last j h (eq-or-lt-of-le h′))
-      where
-        last : (j : ℕ) → 0 < j → (j ≡ suc n) ⊎ (j < suc n) → b ^ j % p ≢ 1
-        last j h (inl q) e′ = e (subst (λ (x : ℕ). b ^ x % p ≡ 1) q e′)
-        last j h (inr q) e′ = f j h (le-of-suc-le-suc q) e′
-
-    next : Found b p n → Found b p (suc n)
-    next (inl o) = inl o
-    next (inr f) = here f (ℕ-discrete (b ^ suc n % p) 1)
+-- the least number above 0 whose power leaves 1, where there is one up to n
+order-up-to : (b p n : ℕ) → ((k : ℕ) × IsOrder k b p) ⊎ ((j : ℕ) → 0 < j → j ≤ n → b ^ j % p ≢ 1)
+order-up-to b p zero = inr (λ j h h′. absurd (omega arith))
+order-up-to b p (suc n) = elim (order-up-to b p n) [
+  | inl o ↦ inl o
+  | inr f ↦ elim (ℕ-discrete (b ^ suc n % p) 1) [
+    | yes e ↦ inl (suc n, (omega arith, e, λ j h h′. f j h (omega arith)))
+    | no e ↦ inr (λ j h h′. elim (ℕ-discrete j (suc n)) [
+      | yes q ↦ rw q e
+      | no q ↦ f j h (omega arith)
+    ])
+  ]
+]
 
 pub order-exists : (b p n : ℕ) → 0 < n → b ^ n % p ≡ 1 → (k : ℕ) × IsOrder k b p
-unfolding Found
-order-exists b p n h e = pick (find b p n)
-  where
-    pick : Found b p n → (k : ℕ) × IsOrder k b p
-    pick (inl o) = o
-    pick (inr f) = absurd (f n h (omega arith) e)
+order-exists b p n h e = elim (order-up-to b p n) [
+  | inl o ↦ o
+  | inr f ↦ absurd (f n h (omega arith) e)
+]

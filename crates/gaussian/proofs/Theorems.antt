@@ -13,7 +13,7 @@ use Rattle.gf2.specs.Operands.{below, fromCoords}
 use Rattle.gaussian.specs.Types.{IsType, types, typeOf}
 use Rattle.gaussian.specs.Table.{some, inK, inCoset, gives, term, rowCoord, rowsOf, drawn}
 use Rattle.gaussian.specs.Statements.{Listed, TypeList, DrawnTable, DrawnCarried}
-use Rattle.gaussian.proofs.Entries.{both, both-left, every, at}
+use Rattle.gaussian.proofs.Entries.{both, both-parts, every, at}
 use Rattle.gaussian.proofs.TypeTests.{entry, isType, noneBelow}
 use Rattle.gaussian.proofs.Soundness.{least}
 use Rattle.gaussian.proofs.Two.{eight}
@@ -47,7 +47,7 @@ sound k x t = pick (cases (eqb ((k + 2) % 8) 0) (eqb x 0) rest t)
     }
     pick (inr s) = record {
       least = λ n. least (k + 2) x pos (s .1);
-      none = (λ z. absurd (lt-irrefl 0 (subst (λ (y : ℕ). 0 < y) z (ltb→lt 0 x (both-left (ltb 0 x) _ (s .1))))), λ d. absurd (not-eight d));
+      none = (λ z. absurd (lt-irrefl 0 (subst (λ (y : ℕ). 0 < y) z (ltb→lt 0 x (both-parts (ltb 0 x) _ (s .1) .0)))), λ d. absurd (not-eight d));
       never = never;
     }
       where

@@ -16,7 +16,7 @@ divisor (suc f) d p = elim (ltb p (d * d)) [ true ↦ 0 | false ↦ elim (eqb (p
 
 -- n divides m, and the power of 2 by e / n leaves 1 modulo p
 abbrev pub hits : ℕ → ℕ → ℕ → ℕ → Bool
-hits m e p n = elim (eqb (m % n) 0) [ true ↦ eqb (2 ^ (e / n) % p) 1 | false ↦ false ]
+hits m e p n = both (eqb (m % n) 0) (eqb (2 ^ (e / n) % p) 1)
 
 -- none of the numbers 2 to n + 1 hits
 abbrev pub noHit : ℕ → ℕ → ℕ → ℕ → Bool

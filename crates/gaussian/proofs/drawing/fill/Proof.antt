@@ -34,15 +34,16 @@ loop-holds c =
 add-term-requires : tie.Need-add-term-requires Inv-loop μ-loop
 add-term-requires c κs =
     let s = c .before .before .before in
-    let p = s .before .before .before .before .before .before .before .before .pre in (
+    let g = s .before .before in
+    let p = g .before .before .before .before .before .before .pre in (
       p .0,
       s .before .logarithms .ensures,
       has-row (p .1) (s .loop .inv .1 ∙ sym (p .1 .size)) (p .1 .row),
-      residue _ (p .0) (omega (arith, s .before .before .modulus .ensures, c .before .before .loop-test .taken)),
+      residue _ (p .0) (omega (arith, g .modulus .ensures, c .before .before .loop-test .taken)),
     )
 
 add-w : tie.Need-add-w Inv-loop μ-loop
-add-w c = omega (arith, c .before .before .before .before .before .before .before .before .modulus .ensures)
+add-w c = let s = c .before .before .before .before .before .before in omega (arith, s .before .before .modulus .ensures)
 
 loop-less : tie.Need-loop-less Inv-loop μ-loop
 loop-less c = omega arith
@@ -56,7 +57,7 @@ loop-again c =
     )
 
 same-length : tie.Need-same-length Inv-loop μ-loop
-same-length c = c .before .loop .inv .1 ∙ sym (c .before .before .before .before .before .before .before .before .before .pre .1 .size)
+same-length c = let g = c .before .before .before in c .before .loop .inv .1 ∙ sym (g .before .before .before .before .before .before .pre .1 .size)
 
 returns : tie.Need-returns Inv-loop μ-loop
 returns c = sum-done _ _ _ (c .before .loop .inv .0) (omega (arith, c .before .before .before .modulus .ensures))
