@@ -1,31 +1,35 @@
 -- The length of a report: each of its numbers has nine digits at most, so that 128 bytes are enough.
 use mathlib.Core.Path.{_≡_, refl, ap, _∙_}
-use mathlib.Core.Bool.{Bool, true, false}
+use mathlib.Core.Bool.{Bool, true, false, not}
 use mathlib.Core.List.{List, [], _∷_}
 use Prim.Native.Nat.{ℕ, _+_, _-_, _*_, _<_, _≤_}
-use native.Mathlib.Nat.{mul-le-mul}
 use native.Mathlib.Omega.{arith}
 use lib.ListN.{length, replicate, length-append}
 use lib.Dec.{ltb}
-use Rattle.gf2.specs.Operands.{maxWidth, choose}
+use borrow.Author.Tests.{lt-ltb, ltb-true, not-false}
+use Rattle.gf2.specs.Operands.{choose}
 use Rattle.gf2.specs.Tables.{onesIn}
 use Rattle.judging.specs.declared.fault.Fault.{Fault}
 use Rattle.judging.specs.declared.fault.Fault.the-variants.{None, Length}
 use Rattle.judging.specs.Faults.{numberOf, isNone}
-use Rattle.operand.proofs.FaultLaws.{none-is, number-most}
+use Rattle.judging.specs.Causes.{Cause, faultOf}
+use Rattle.judging.specs.FaultTable.{checkCauses}
+use Rattle.judging.proofs.CauseLaws.{Each, none-is, number-small, keeps}
 use Rattle.io.specs.Counts.{Counts}
 use Rattle.io.proofs.Counting.{counts}
 use Rattle.table.specs.Rows.{Shaped}
 use Rattle.table.specs.Judgements.{symmetryFault, checkFault}
 use Rattle.table.proofs.Theorems.{acceptance as accepted-table}
 use Rattle.card.specs.Numbers.{Read, refused, got}
-use Rattle.card.specs.Cards.{Table, readCard}
+use Rattle.card.specs.Cards.{lentCauses, Table, readCard}
 use Rattle.card.specs.Statements.{Bytes}
 use Rattle.card.proofs.Trips.{card-written}
+use Rattle.card.proofs.Refusals.{card-refusals}
 use Rattle.netlist.specs.Gates.{Netlist, andGates, xorGates}
 use Rattle.netlist.specs.Lists.{plain, reduced, common}
 use Rattle.netlist.specs.Calls.{answer, countsCall}
 use Rattle.netlist.specs.Statements.{Sized}
+use Rattle.netlist.proofs.TableLaws.{width-square}
 use Rattle.netlist.proofs.SizeLaws.{ones-most, counts-most}
 use Rattle.netlist.proofs.Theorems.{theoremLists}
 use Rattle.reporting.specs.declared.text.Text.{Text}
@@ -47,9 +51,33 @@ line-two : (word : List ℕ) (a x : ℕ) → a < great → x < great → length 
 unfolding line spaced
 line-two word a x h k = simp length-append (omega (arith, decimal-length a 8 h, decimal-length x 8 k))
 
-refusal-length : (f : Fault) → length (refusal f) ≤ 18
+-- a number of document 01's table has room in a byte
+abbrev Numbered : Fault → Type 0
+Numbered f = numberOf f .0 < 256
+
+none-numbered : Numbered None
+none-numbered = omega arith
+
+-- that of any list of causes
+causes-numbered : (cs : List Cause) → Numbered (faultOf cs)
+causes-numbered cs = keeps Numbered none-numbered cs (each cs)
+  where
+    each : (ds : List Cause) → Each Numbered none-numbered ds
+    each [] = tt
+    each (d ∷ ds) = (number-small d, λ e. each ds)
+
+-- that of a card
+unnumbered : Fault → Bool
+unnumbered f = not (ltb (numberOf f .0) 256)
+
+card-numbered : (s : List ℕ) (f : Fault) → readCard lent s ≡ refused f → Numbered f
+unfolding unnumbered
+card-numbered s f e = ltb-true _ 256 (not-false _ (card-refusals unnumbered lent
+    (record { ends = refl; number = refl; form = refl; place = refl; tail = refl; lent = λ m h. ap not (lt-ltb _ 256 (causes-numbered (lentCauses lent m))) }) s f e))
+
+refusal-length : (f : Fault) → Numbered f → length (refusal f) ≤ 18
 unfolding refusal
-refusal-length f = line-one (ascii "refused") _ (omega (arith, number-most f))
+refusal-length f h = line-one (ascii "refused") _ (omega (arith, h))
 
 choose-small : (b : Bool) (x : ℕ) → x < great → choose b x 0 < great
 choose-small true x h = h
@@ -61,8 +89,8 @@ counts-length word f a x h k = line-two word _ _ (choose-small (isNone f) a h) (
 
 -- the numbers of a table that is accepted
 module _ (m : ℕ) (table : List ℕ) (shaped : Shaped m table) where
-  square : m * m ≤ 65025
-  square = mul-le-mul {n₁ = m} {m₁ = m} {n₂ = maxWidth} {m₂ = maxWidth} (shaped .greatest) (shaped .greatest)
+  few-ones : onesIn m table < great
+  few-ones = omega (arith, ones-most m table, width-square m m (shaped .greatest) (shaped .greatest))
 
   counts-short : (word : List ℕ) (list : Netlist) → Sized m list → length (countsLine word (countsCall m table list)) ≤ length word + 21
   counts-short word list s = counts-length word (symmetryFault m table) _ _ (omega (arith, both)) (omega (arith, both))
@@ -85,24 +113,21 @@ module _ (m : ℕ) (table : List ℕ) (shaped : Shaped m table) where
   verdict-length = go (isNone (checkFault m table)) refl
     where
       go : (b : Bool) → isNone (checkFault m table) ≡ b → length (choose b (acceptance m table) (refusal (checkFault m table))) ≤ 90
-      go true e = acceptance-length (none-is _ e)
-      go false e = omega (arith, refusal-length (checkFault m table))
+      go true e = acceptance-length (none-is (checkCauses m table) e)
+      go false e = omega (arith, refusal-length (checkFault m table) (causes-numbered (checkCauses m table)))
 
   table-length : length (tableReport m table) ≤ room
   unfolding tableReport
   table-length =
       simp length-append (omega (
         arith,
-        square,
-        ones-most m table,
-        shaped .greatest,
         verdict-length,
         line-one (ascii "width") m (omega (arith, shaped .greatest)),
-        line-one (ascii "ones") (onesIn m table) (omega (arith, square, ones-most m table)),
+        line-one (ascii "ones") (onesIn m table) few-ones,
       ))
 
 read-length : (s : List ℕ) → Bytes s → (x : Read Table) → readCard lent s ≡ x → length (readReport x) ≤ room
-read-length s small (refused f) q = omega (arith, refusal-length f)
+read-length s small (refused f) q = omega (arith, refusal-length f (card-numbered s f q))
 read-length s small (got t rest) q =
     let r = card-written lent s t rest small q in
     table-length (t .width) (t .bytes) (record { least = r .lent .least; greatest = r .lent .greatest; isTable = r .isTable })
@@ -112,7 +137,7 @@ unfolding report
 report-length s small = go (ltb inputLimit (length s))
   where
     go : (b : Bool) → length (choose b (refusal Length) (readReport (readCard lent s))) ≤ room
-    go true = omega (arith, refusal-length Length)
+    go true = omega (arith, refusal-length Length (omega arith))
     go false = read-length s small (readCard lent s) refl
 
 -- the text that the code ends with

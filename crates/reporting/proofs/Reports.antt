@@ -12,7 +12,7 @@ use Rattle.gf2.specs.Tables.{onesIn}
 use Rattle.judging.specs.declared.fault.Fault.{Fault}
 use Rattle.judging.specs.declared.fault.Fault.the-variants.{None, Length}
 use Rattle.judging.specs.Faults.{isNone}
-use Rattle.operand.proofs.FaultLaws.{none-is}
+use Rattle.judging.proofs.CauseLaws.{none-true}
 use Rattle.table.specs.Judgements.{checkFault}
 use Rattle.card.specs.declared.CardAnswer.{CardAnswer}
 use Rattle.card.specs.Numbers.{Read, refused, got}
@@ -20,7 +20,7 @@ use Rattle.card.specs.Cards.{Table, readCard}
 use Rattle.card.specs.Calls.{inFront, readAnswer, readInto, readCall, readTable}
 use Rattle.card.specs.Statements.{Bytes}
 use Rattle.card.proofs.Trips.{card-written}
-use Rattle.card.proofs.Theorems.{found}
+use Rattle.card.proofs.Theorems.{found, read-none}
 use Rattle.netlist.specs.Calls.{countsPlainCall, countsReducedCall, countsCommonCall}
 use Rattle.reporting.specs.declared.text.Text.{Text}
 use Rattle.reporting.specs.Text.{ascii, spaced, line, textOf}
@@ -88,8 +88,7 @@ module _ (s : List ℕ) (short : length s ≤ inputLimit) where
       go : (x : Read Table) → readCard lent s ≡ x → refusal (readCall s old .fault) ≡ report s
       go (refused g) q = ap (λ (a : CardAnswer). refusal (a .fault)) (found-answer (refused g) q) ∙ sym (found-report (refused g) q)
       go (got t rest) q =
-          let none : isNone None ≡ true = unfold isNone in refl in
-          absurd (true≢false (sym none ∙ ap isNone (sym (ap (λ (a : CardAnswer). a .fault) (found-answer (got t rest) q)) ∙ sym e) ∙ n))
+          absurd (true≢false (sym (none-true (ap (λ (a : CardAnswer). a .fault) (found-answer (got t rest) q))) ∙ ap isNone (sym e) ∙ n))
 
   table-of : (t : Table) (rest : List ℕ) → Bytes s → readCard lent s ≡ got t rest → {m : ℕ} {new : List ℕ} → m ≡ t .width → new ≡ inFront (t .bytes) old → TableRead s m new
   table-of t rest small q {m} {new} w n =
@@ -106,6 +105,6 @@ module _ (s : List ℕ) (short : length s ≤ inputLimit) where
 
   pub table-read : {a : CardAnswer} {new : List ℕ} → Bytes s → a ≡ readCall s old → new ≡ readTable s old → isNone (a .fault) ≡ true → TableRead s (a .value) new
   table-read {a} {new} small e n none =
-      let call = e ∙ found-answer (readCard lent s) refl in
-      let (t, rest, q) = found lent s (sym (ap (λ (a : CardAnswer). a .fault) call) ∙ none-is (a .fault) none) in
+      let fault = read-none s old (ap (λ (a : CardAnswer). isNone (a .fault)) (sym e) ∙ none) in
+      let (t, rest, q) = found lent s (sym (ap (λ (a : CardAnswer). a .fault) (found-answer (readCard lent s) refl)) ∙ fault) in
       table-of t rest small q (ap (λ (a : CardAnswer). a .value) (e ∙ found-answer (got t rest) q)) (n ∙ ap (λ k. readInto (readCard k s) old) room ∙ ap (λ x. readInto x old) q)

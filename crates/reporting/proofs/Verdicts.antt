@@ -1,5 +1,5 @@
 -- Which faults a report can name: 3, 7 and 11 are not among them.
-use mathlib.Core.Path.{_≡_, refl, sym, ap, _∙_}
+use mathlib.Core.Path.{_≡_, refl, sym}
 use mathlib.Core.Bool.{Bool, true, false, not, _||_, _&&_, true≢false}
 use mathlib.Core.List.{List, [], _∷_, _++_, append-assoc}
 use Prim.Native.Nat.{ℕ, _-_, _*_, _≤_}
@@ -10,22 +10,22 @@ use lib.Dec.{ltb, leb, eqb}
 use Rattle.gf2.specs.Operands.{maxWidth, bytesFor, choose, same}
 use Rattle.gf2.specs.Tables.{row, basis, onesIn}
 use Rattle.judging.specs.declared.fault.Fault.{Fault}
-use Rattle.judging.specs.declared.fault.Fault.the-variants.{None, Width, Length, RowZero, RowPair, Triple}
-use Rattle.operand.specs.Faults.{when, orElse, firstOf, firstFrom}
+use Rattle.judging.specs.declared.fault.Fault.the-variants.{None, Length}
 use Rattle.judging.specs.Faults.{numberOf, isNone}
-use Rattle.operand.specs.Judgements.{widthFault}
-use Rattle.judging.specs.FaultTable.{badWidth}
-use Rattle.operand.proofs.FaultLaws.{one-when, none-is, when-keeps, or-keeps, from-keeps, width-fine}
-use Rattle.table.specs.Rows.{Shaped, mirrors, associates}
-use Rattle.table.specs.Judgements.{shapeFault, rowZeroFault, rowPairFault, tripleFault, symmetryFault, checkFault}
-use Rattle.table.proofs.Searches.{three-first, three-second, three-third}
-use Rattle.table.proofs.Rules.{mirrorFault, mirror-search, pairFault, rowFault, triple-search}
-use Rattle.table.proofs.Shapes.{shape-none}
+use Rattle.judging.specs.Causes.{Cause, faultOf}
+use Rattle.judging.specs.FaultTable.{badWidth, tooShort, rowSumWrong, shapeCauses, ruleCauses, symmetryCauses, tripleCauses}
+use Rattle.judging.proofs.CauseLaws.{Fine, none-given, keeps, keeps-both}
+use Rattle.judging.proofs.Searches.{each-from}
+use Rattle.judging.proofs.Passed.{is-width, size-small, room-passes}
+use Rattle.table.specs.Rows.{Shaped}
+use Rattle.table.specs.Judgements.{symmetryFault, checkFault}
+use Rattle.table.proofs.Rules.{mirrorCauses, pairCauses, rowCauses}
+use Rattle.table.proofs.Shapes.{shape-passes}
 use Rattle.table.proofs.Theorems.{row-sums}
 use Rattle.card.specs.Numbers.{Read, refused, got}
 use Rattle.card.specs.Cards.{Table, lentFault, readCard}
 use Rattle.card.specs.Statements.{Bytes}
-use Rattle.card.proofs.Trips.{lent-width, lent-room, card-written}
+use Rattle.card.proofs.Trips.{card-written}
 use Rattle.card.proofs.Refusals.{card-refusals}
 use Rattle.reporting.specs.Text.{ascii, line}
 use Rattle.reporting.specs.Report.{inputLimit, lent, refusal, tableReport, readReport, report, readVerdict, verdict}
@@ -38,83 +38,43 @@ barred f = eqb (numberOf f .0) 3 || (eqb (numberOf f .0) 7 || eqb (numberOf f .0
 abbrev Apart : Fault → Type 0
 Apart f = barred f ≡ false
 
-or-apart : (f g : Fault) → barred f ≡ false → barred g ≡ false → barred (orElse f g) ≡ false
-or-apart f g p q = or-keeps Apart p (λ e. q)
-
--- the test at each fault that is met
 none-apart : barred None ≡ false
 unfolding barred
 none-apart = refl
 
-width-one : barred Width ≡ false
-unfolding barred
-width-one = refl
-
-zero-four : barred RowZero ≡ false
-unfolding barred
-zero-four = refl
-
-pair-five : (d : ℕ) → barred (RowPair d) ≡ false
-unfolding barred
-pair-five d = refl
-
-triple-six : (i j : ℕ) → barred (Triple i j) ≡ false
-unfolding barred
-triple-six i j = refl
-
-when-apart : (b : Bool) (f : Fault) → barred f ≡ false → barred (when b f) ≡ false
-when-apart = when-keeps Apart none-apart
-
-from-apart : (start count : ℕ) (f : ℕ → Fault) → ((i : ℕ) → barred (f i) ≡ false) → barred (firstFrom start count f) ≡ false
-from-apart start count f p = from-keeps Apart none-apart start count f (λ d l h. p d)
+-- a list of which no test holds
+fine-apart : (cs : List Cause) → Fine cs → barred (faultOf cs) ≡ false
+fine-apart cs p = rw (none-given cs p) none-apart
 
 -- the check of a table that was read
 module _ (m : ℕ) (t : List ℕ) (shaped : Shaped m t) where
-  row-zero-apart : barred (rowZeroFault m t) ≡ false
-  unfolding rowZeroFault
-  row-zero-apart = when-apart (not (same (row m t 0) (basis m 1))) RowZero zero-four
+  rules-apart : barred (faultOf (ruleCauses m t)) ≡ false
+  unfolding barred
+  rules-apart = keeps Apart none-apart (ruleCauses m t) (refl, λ e. each-from Apart none-apart (mirrorCauses m t) 1 (m - 1) (λ d l h. (refl, λ q. tt)))
 
-  row-pair-apart : barred (rowPairFault m t) ≡ false
-  row-pair-apart = ap barred (mirror-search m t) ∙ from-apart 1 (m - 1) (mirrorFault m t) (λ d. when-apart (not (mirrors m t d)) (RowPair d) (pair-five d))
-
-  triple-apart : barred (tripleFault m t) ≡ false
-  triple-apart =
-      ap barred (triple-search m t)
-      ∙ from-apart 0 m (rowFault m t) (λ i. from-apart 0 m (pairFault m t i) (λ j. when-apart (not (associates m t i j)) (Triple i j) (triple-six i j)))
+  triples-apart : barred (faultOf (tripleCauses m t)) ≡ false
+  unfolding barred
+  triples-apart = keeps Apart none-apart (tripleCauses m t) (each-from Apart none-apart (rowCauses m t) 0 m (λ i k u.
+      each-from Apart none-apart (pairCauses m t i) 0 m (λ j l v. (refl, λ q. tt))))
 
   symmetry-apart : barred (symmetryFault m t) ≡ false
-  unfolding symmetryFault firstOf
-  symmetry-apart =
-      or-apart (shapeFault m t) _ (ap barred (shape-none shaped) ∙ none-apart)
-      (or-apart (rowZeroFault m t) _ row-zero-apart (or-apart (rowPairFault m t) None row-pair-apart none-apart))
+  symmetry-apart = keeps-both Apart none-apart (shapeCauses m t) (ruleCauses m t) (fine-apart (shapeCauses m t) (shape-passes shaped)) (λ p. rules-apart)
 
   check-apart : barred (checkFault m t) ≡ false
-  unfolding checkFault
-  check-apart = go (isNone (symmetryFault m t)) (isNone (tripleFault m t)) refl refl
-    where
-      go : (a b : Bool) → isNone (symmetryFault m t) ≡ a → isNone (tripleFault m t) ≡ b → barred (checkFault m t) ≡ false
-      go false b p q = ap barred (three-first _ _ _ p) ∙ symmetry-apart
-      go true false p q = ap barred (three-second _ _ _ p q) ∙ triple-apart
-      go true true p q = ap barred (three-third _ _ _ p q ∙ row-sums m t (none-is _ p) (none-is _ q)) ∙ none-apart
-
-width-apart : (m : ℕ) → barred (widthFault m) ≡ false
-width-apart m = ap barred (one-when (badWidth m)) ∙ when-apart (not (leb 2 m && leb m maxWidth)) Width width-one
+  check-apart = keeps-both Apart none-apart (symmetryCauses m t) (tripleCauses m t ++ (rowSumWrong m t ∷ [])) symmetry-apart (λ p.
+      keeps-both Apart none-apart (tripleCauses m t) (rowSumWrong m t ∷ []) triples-apart (λ q.
+      rw (row-sums m t (none-given (symmetryCauses m t) p) (none-given (tripleCauses m t) q)) none-apart))
 
 -- the lent table has room for every width that passes
-lent-apart : (m : ℕ) → isNone (lentFault lent m) ≡ false → barred (lentFault lent m) ≡ false
-lent-apart m n = go (isNone (widthFault m)) refl
-  where
-    go : (b : Bool) → isNone (widthFault m) ≡ b → barred (lentFault lent m) ≡ false
-    go true e =
-        let w = width-fine m e in
-        let room : m * bytesFor m ≤ lent = mul-le-mul {n₁ = m} {m₁ = bytesFor m} {n₂ = maxWidth} {m₂ = bytesFor maxWidth} (w .1) (omega (arith, w .1)) in
-        ap barred (sym (lent-room lent m e room)) ∙ none-apart
-    go false e = ap barred (sym (lent-width lent m refl e)) ∙ width-apart m
+lent-apart : (m : ℕ) → barred (lentFault lent m) ≡ false
+unfolding barred
+lent-apart m = keeps-both Apart none-apart (badWidth m ∷ []) (tooShort lent (m * bytesFor m) ∷ []) (keeps Apart none-apart (badWidth m ∷ []) (refl, λ e. tt)) (λ p.
+    fine-apart (tooShort lent (m * bytesFor m) ∷ []) (room-passes lent (m * bytesFor m) (size-small m (is-width m (p .0) .greatest)), tt))
 
 read-apart : (s : List ℕ) → Bytes s → (x : Read Table) → readCard lent s ≡ x → barred (readVerdict x) ≡ false
 unfolding barred
 read-apart s small (refused f) q =
-    card-refusals barred lent (record { ends = refl; number = refl; form = refl; place = refl; tail = refl; lent = lent-apart }) s f q
+    card-refusals barred lent (record { ends = refl; number = refl; form = refl; place = refl; tail = refl; lent = λ m h. lent-apart m }) s f q
 read-apart s small (got t rest) q =
     let r = card-written lent s t rest small q in
     check-apart (t .width) (t .bytes) (record { least = r .lent .least; greatest = r .lent .greatest; isTable = r .isTable })

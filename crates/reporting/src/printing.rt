@@ -50,10 +50,10 @@ fn table_report(width: usize, table: &[u8]) -> Text
     requires { ⌜ Shaped width (now table) ⌝ }
     ensures { λ r. ⌜ r ≡ appended (textOf []) (tableReport width (now (table .entry))) ⌝ }
 {
-    let ones = table::ones(width, table);
+    let ones = limbs::ones_of(table);
     let start = Text::empty();
     let first = start.append_line(b"width", width);
-    let head = first.append_line(b"ones", ones.ones);
+    let head = first.append_line(b"ones", ones);
     let fault = table::check(width, table);
     if judging::is_none(fault) {
         accepted(head, width, table)
