@@ -5,6 +5,7 @@ use native.Mathlib.Omega.{arith}
 use lib.ListN.{length, length-set}
 use Rattle.list_parts.specs.Columns.{isSet, Successor, Firsts}
 use Rattle.list_parts.proofs.ColumnLaws.{firsts-none, firsts-more, from-next}
+use borrow.Author.Needs.{needs}
 use Rattle.list_parts.proofs.columns.find_firsts.Statement.{statement}
 use Rattle.list_parts.proofs.columns.find_firsts.Tie as tie
 
