@@ -1,7 +1,7 @@
 -- `netlist::counts::common_xors` meets its contract.
 use mathlib.Core.Path.{sym, ap, _∙_}
 use native.Mathlib.Nat.{mul-pos}
-use Prim.Native.Nat.{_+_, _-_, _*_}
+use Prim.Native.Nat.{_-_, _*_}
 use native.Mathlib.Omega.{arith}
 use Rattle.netlist.proofs.TableLaws.{width-square, ones-times}
 use Rattle.netlist.specs.Counts.{commonXors}

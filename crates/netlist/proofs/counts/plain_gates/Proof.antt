@@ -1,5 +1,5 @@
 -- `netlist::counts::plain_gates` meets its contract.
-use Prim.Native.Nat.{_+_, _-_, _*_}
+use Prim.Native.Nat.{_+_, _-_}
 use native.Mathlib.Omega.{arith}
 use Rattle.netlist.proofs.TableLaws.{width-square, ones-times}
 use borrow.Author.Needs.{needs}

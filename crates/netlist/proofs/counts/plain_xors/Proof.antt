@@ -1,7 +1,7 @@
 -- `netlist::counts::plain_xors` meets its contract.
-use Prim.Native.Nat.{_+_, _-_, _*_}
+use Prim.Native.Nat.{_-_}
 use native.Mathlib.Omega.{arith}
-use Rattle.netlist.proofs.TableLaws.{width-square, ones-times}
+use Rattle.netlist.proofs.TableLaws.{ones-times}
 use borrow.Author.Needs.{needs}
 use Rattle.netlist.proofs.counts.plain_xors.Statement.{statement}
 use Rattle.netlist.proofs.counts.plain_xors.Tie as tie
