@@ -16,7 +16,6 @@ use Rattle.judging.proofs.CauseLaws.{Fine, none-is, none-given}
 use Rattle.table.specs.Rows.{Shaped}
 use Rattle.table.specs.Judgements.{symmetryFault}
 use Rattle.table.proofs.Theorems.{symmetry}
-use Rattle.netlist.specs.declared.CountsAnswer.{CountsAnswer}
 use Rattle.netlist.specs.declared.Numbers.{Numbers}
 use Rattle.netlist.specs.declared.counts.Method.{Method}
 use Rattle.netlist.specs.declared.counts.Method.the-variants.{Plain, Reduced, Common}
@@ -34,10 +33,6 @@ pub table-fine : (m : ℕ) (table : List ℕ) → isNone (symmetryFault m table)
 table-fine m table e = symmetry m table .0 (none-is (symmetryCauses m table) e)
 
 -- answers
-pub answer-fault : {f : Fault} (a x : ℕ) {c : CountsAnswer} → c ≡ answer f a x → c .fault ≡ f
-unfolding answer
-answer-fault a x e = ap (λ (c : CountsAnswer). c .fault) e
-
 pub answer-counted : (cs : List Cause) (a x : ℕ) → Fine cs → answer (faultOf cs) a x ≡ countedAs a x
 unfolding answer isNone
 answer-counted cs a x e = rw (none-given cs e)
@@ -107,10 +102,6 @@ countable {m} {table} method h s e = record {
   most = rw e (ones-most m table);
   shared = rw e (shared-few m table (h .least) (h .isTable) s method);
 }
-
--- with no shared rows
-pub countable-none : {m ones q : ℕ} → Countable m ones q → Countable m ones 0
-countable-none c = record { least = c .least; greatest = c .greatest; some = c .some; most = c .most; shared = omega arith }
 
 pub tally-refused : (f : Fault) (list : Netlist) (q : ℕ) → isNone f ≡ false → record { fault = f; ands = record { 0 = 0 }; xors = record { 0 = 0 }; gates = 0; full = 0 } ≡ tallied f list q
 unfolding tallied

@@ -1,12 +1,12 @@
--- Stores of several elements in a row: one more, two after one another, at places apart, from the front.
-use mathlib.Core.Path.{_≡_, refl, sym, ap, _∙_}
+-- Stores of several elements in a row: one more, two after one another, from the front.
+use mathlib.Core.Path.{_≡_, sym, ap, _∙_}
 use mathlib.Core.List.{List, [], _∷_, _++_}
-use Prim.Native.Nat.{ℕ, suc, _+_, _<_, _≤_}
+use Prim.Native.Nat.{ℕ, suc, _+_, _≤_}
 use native.Mathlib.Nat.{add-zero, zero-add}
 use native.Mathlib.Numerals.{add-one}
 use native.Mathlib.Omega.{arith}
 use lib.ListN.{length, set, drop}
-use lib.Seq.{sets, sets-eq, set-comm}
+use lib.Seq.{sets, sets-eq}
 use Rattle.gf2.specs.Coordinates.{tabulate}
 use Rattle.gf2.proofs.Coordinates.{length-tabulate}
 
@@ -34,12 +34,3 @@ sets-three l l₁ l₂ l₃ i x y z e f g =
     let p : i + 1 ≡ suc i = omega arith in
     let q : i + 2 ≡ suc (suc i) = omega arith in
     g ∙ rw (f, e, p, q)
-
--- at places apart
-set-sets : (l : List ℕ) (i j v : ℕ) (ws : List ℕ) → i < j → set (sets l j ws) i v ≡ sets (set l i v) j ws
-set-sets l i j v [] h = refl
-set-sets l i j v (w ∷ ws) h = set-sets (set l j w) i (suc j) v ws (omega arith) ∙ ap (λ z. sets z (suc j) ws) (set-comm l j i w v (omega arith))
-
-pub sets-comm : (l : List ℕ) (i j : ℕ) (vs ws : List ℕ) → i + length vs ≤ j → sets (sets l j ws) i vs ≡ sets (sets l i vs) j ws
-sets-comm l i j [] ws h = refl
-sets-comm l i j (v ∷ vs) ws h = ap (λ z. sets z (suc i) vs) (set-sets l i j v ws (omega arith)) ∙ sets-comm (set l i v) (suc i) j vs ws (omega arith)

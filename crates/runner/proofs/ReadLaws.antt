@@ -141,7 +141,7 @@ module _ (m : ℕ) (list : Netlist) where
     module _ (w : IsWidth m) where
       carried-good : (a b : Operand) → a .width ≡ m → b .width ≡ m → IsOperand carriedBytes m (a .bytes) → IsOperand carriedBytes m (b .bytes) → faultOf (runCauses m W a b (bytesFor m) (2 * m + g)) ≡ None
       carried-good a b wa wb oa ob =
-          let lengths : Fine (lengthCauses m (a .width) (b .width) (bytesFor m)) = (length-passes (a .width) m wa, (length-passes (b .width) m wb, (length-passes (bytesFor m) (bytesFor m) refl, tt))) in
+          let lengths : Fine (lengthCauses (a .width) m (b .width) m (bytesFor m) (bytesFor m)) = (length-passes (a .width) m wa, (length-passes (b .width) m wb, (length-passes (bytesFor m) (bytesFor m) refl, tt))) in
           none-given (runCauses m W a b (bytesFor m) (2 * m + g))
           (fine-append (carriedCauses m a b (bytesFor m)) (listCauses m W (a .bytes) (b .bytes) (2 * m + g))
           (width-passes m w, (rw wa (width-passes m w), (rw wb (width-passes m w), lengths))) (list-good (a .bytes) (b .bytes) oa ob refl))

@@ -14,15 +14,16 @@ use Rattle.netlist.specs.Running.{applied, valueOn, kindAt, leftAt, rightAt, ga
 use Rattle.netlist.specs.Judgements.{isGate, isOutput}
 use Rattle.runner.specs.Causes.{fewWords, otherWidth, badWords, badWires, badGates}
 
--- the widths and lengths of carried operands and a result
+-- three widths; three lengths, each as laid down
 abbrev pub widthCauses : ℕ → ℕ → ℕ → List Cause
 widthCauses m a b = badWidth m ∷ badWidth a ∷ badWidth b ∷ []
 
-abbrev pub lengthCauses : ℕ → ℕ → ℕ → ℕ → List Cause
-lengthCauses m a b result = badLength a m ∷ badLength b m ∷ badLength result (bytesFor m) ∷ []
+abbrev pub lengthCauses : ℕ → ℕ → ℕ → ℕ → ℕ → ℕ → List Cause
+lengthCauses a m b n c k = badLength a m ∷ badLength b n ∷ badLength c k ∷ []
 
+-- carried operands and a result
 abbrev pub carriedCauses : ℕ → Operand → Operand → ℕ → List Cause
-carriedCauses m a b result = widthCauses m (a .width) (b .width) ++ lengthCauses m (a .width) (b .width) result
+carriedCauses m a b result = widthCauses m (a .width) (b .width) ++ lengthCauses (a .width) m (b .width) m result (bytesFor m)
 
 -- the words of a list, and the length of the buffer for its wires
 abbrev pub wordCauses : ℕ → List ℕ → ℕ → List Cause

@@ -35,19 +35,19 @@ fn judge_widths(width: usize, a: usize, b: usize) -> Fault
     judge_width(b)
 }
 
-// Carried widths as the one given, and the length of a result.
-fn judge_lengths(width: usize, a: usize, b: usize, result: usize) -> Fault
-    ensures { λ r. ⌜ r ≡ faultOf (lengthCauses width a b result) ⌝ }
+// Three lengths, each as laid down.
+fn judge_lengths(a: usize, m: usize, b: usize, n: usize, c: usize, k: usize) -> Fault
+    ensures { λ r. ⌜ r ≡ faultOf (lengthCauses a m b n c k) ⌝ }
 {
-    let left = judge_length(a, width);
-    if !is_none(left) {
-        return left;
+    let first = judge_length(a, m);
+    if !is_none(first) {
+        return first;
     }
-    let right = judge_length(b, width);
-    if !is_none(right) {
-        return right;
+    let second = judge_length(b, n);
+    if !is_none(second) {
+        return second;
     }
-    judge_length(result, limbs::bytes_for(width))
+    judge_length(c, k)
 }
 
 pub(crate) fn judge_carried(width: usize, a: Operand, b: Operand, result: usize) -> Fault
@@ -59,7 +59,7 @@ pub(crate) fn judge_carried(width: usize, a: Operand, b: Operand, result: usize)
     if !is_none(widths) {
         return widths;
     }
-    judge_lengths(width, m, n, result)
+    judge_lengths(m, width, n, width, result, limbs::bytes_for(width))
 }
 
 fn judge_words(width: usize, list: &[u32], wires: usize) -> Fault
@@ -70,15 +70,15 @@ fn judge_words(width: usize, list: &[u32], wires: usize) -> Fault
         return Fault::Length;
     }
     let g = words::word(list, 1);
-    let first = judge_length(words::word(list, 0), width);
-    if !is_none(first) {
-        return first;
-    }
-    let all = judge_length(list.len(), 2 + 3 * g + width);
-    if !is_none(all) {
-        return all;
-    }
-    judge_length(wires, 2 * width + g)
+    let all = 2 + 3 * g + width;
+    judge_lengths(
+        words::word(list, 0),
+        width,
+        list.len(),
+        all,
+        wires,
+        2 * width + g,
+    )
 }
 
 fn is_gate(width: usize, list: &[u32], k: usize) -> bool

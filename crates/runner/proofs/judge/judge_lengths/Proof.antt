@@ -1,8 +1,6 @@
 -- `runner::judge::judge_lengths` meets its contract.
-use mathlib.Core.Path.{_∙_, ap}
 use mathlib.Core.List.{[], _∷_}
 use borrow.Author.Tests.{not-true, not-false}
-use Rattle.judging.specs.Causes.{faultOf}
 use Rattle.judging.specs.FaultTable.{badLength}
 use Rattle.judging.proofs.CauseLaws.{ends, follows}
 use borrow.Author.Needs.{needs}
@@ -20,12 +18,10 @@ returns-2 c =
 
 returns-3 : tie.Need-returns-3
 returns-3 c =
-    let u = c .before .before in
+    let u = c .before in
     let s = u .before .before .before in
-    let n = s .before .before .before .args .result in
     follows (badLength _ _ ∷ []) (badLength _ _ ∷ badLength _ _ ∷ []) (s .before .before .judge-length .ensures) (s .before .is-none .ensures) (not-false _ (s .if1 .left))
-    (follows (badLength _ _ ∷ []) (badLength _ _ ∷ []) (u .before .before .judge-length2 .ensures) (u .before .is-none2 .ensures) (not-false _ (u .if2 .left))
-    (c .judge-length3 .ensures ∙ ap (λ w. faultOf (badLength n w ∷ [])) (c .before .bytes-for .ensures)))
+    (follows (badLength _ _ ∷ []) (badLength _ _ ∷ []) (u .before .before .judge-length2 .ensures) (u .before .is-none2 .ensures) (not-false _ (u .if2 .left)) (c .judge-length3 .ensures))
 
 pub judge-lengths-spec : {M : Type 1} → statement M
-judge-lengths-spec = tie.close (tie.spec (λ c κs. search needs) (λ c κs. search needs) returns (λ c κs. search needs) (λ c κs. search needs) returns-2 (λ c κs. search needs) (λ c κs. search needs) returns-3)
+judge-lengths-spec = tie.close (tie.spec (λ c κs. search needs) (λ c κs. search needs) returns (λ c κs. search needs) (λ c κs. search needs) returns-2 (λ c κs. search needs) returns-3)
