@@ -72,6 +72,10 @@ pub place-low : {m free : ℕ} {ps : List ℕ} → Ascending m free ps → (i : 
 place-low none i h = unfold isPlace in refl
 place-low {ps = p ∷ ps} (more l u a) i h = place-there p ps i (λ e. omega arith) ∙ place-low a i (omega arith)
 
+pub place-high : {m free : ℕ} {ps : List ℕ} → Ascending m free ps → (i : ℕ) → m ≤ i → isPlace ps i ≡ 0
+place-high none i h = unfold isPlace in refl
+place-high {ps = p ∷ ps} (more l u a) i h = place-there p ps i (λ e. omega arith) ∙ place-high a i h
+
 -- the function of the places of f is f, where that is 0 or 1
 pub place-is : (f : ℕ → ℕ) (start count i : ℕ) → start ≤ i → i < start + count → f i < 2 → isPlace (places f start count) i ≡ f i
 place-is f start zero i h l u = absurd (omega arith)

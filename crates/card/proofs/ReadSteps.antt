@@ -46,6 +46,10 @@ module _ (s : List ℕ) {r : Step} {x : Read ℕ} (e : told s r ≡ x) where
   pub refused-of : {f : Fault} → r ≡ Refused f → x ≡ refused f
   refused-of g = sym e ∙ ap (told s) g
 
+-- one is left, and the others
+one-left : {left : ℕ} → 0 < left → left ≡ suc (left - 1)
+one-left h = omega arith
+
 after-nil : (x : Read (List ℕ)) → x ≡ after [] x
 after-nil (refused f) = refl
 after-nil (got y s) = refl
@@ -155,9 +159,6 @@ places-none m count s = record {
 }
 
 module _ {m free left : ℕ} {x : Read (List ℕ)} {s bytes : List ℕ} (to : PlacesTo m x s bytes free left) where
-  one-left : 0 < left → left ≡ suc (left - 1)
-  one-left h = omega arith
-
   pub places-refused : {f : Fault} → 0 < left → readNumber s ≡ refused f → refused f ≡ carriedPlaces m x
   unfolding readPlaces
   places-refused h e = rw (rw (one-left h) at (to .reads), e)
@@ -248,13 +249,10 @@ rows-none m first count size s old small h e = record {
 }
 
 module _ {m first count from left : ℕ} {s₀ s old new : List ℕ} (to : RowsTo m first count s₀ s old new from left) where
-  row-left : 0 < left → left ≡ suc (left - 1)
-  row-left h = omega arith
-
   pub rows-refused : {f : Fault} → 0 < left → readRow m s ≡ refused f → RowsRead m first count s₀ (refused f) old new
   unfolding readRows
   rows-refused {f} h e =
-      let q : readRows m count s₀ ≡ refused f = rw (row-left h) at (to .reads) ∙ rw e in
+      let q : readRows m count s₀ ≡ refused f = rw (one-left h) at (to .reads) ∙ rw e in
       record { ends = sym (ap endOf q); stores = λ t rest g. no-value (sym q ∙ g) }
 
   pub rows-more : {ps r bytes next : List ℕ} → m ≤ maxWidth → 0 < left → readRow m s ≡ got ps r → bytes ≡ fromCoords carriedBytes m (isPlace ps) →
@@ -266,7 +264,7 @@ module _ {m first count from left : ℕ} {s₀ s old new : List ℕ} (to : RowsT
         front = to .front ++ rowOf m ps;
         short = omega arith;
         size = omega (arith, length-append (to .front) (rowOf m ps), size, to .size);
-        reads = rw (row-left h) at (to .reads) ∙ rw e (after-after (to .front) (rowOf m ps) (readRows m (left - 1) r));
+        reads = rw (one-left h) at (to .reads) ∙ rw e (after-after (to .front) (rowOf m ps) (readRows m (left - 1) r));
         stored = n ∙ rw (b, take-row m (isPlace ps) small, to .stored, ← to .size) (sym (sets-append old (first * bytesFor m) (to .front) (rowOf m ps)));
         kept = k ∙ to .kept;
       }

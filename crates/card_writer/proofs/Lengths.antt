@@ -30,46 +30,36 @@ module _ (n : ℕ) where
   unfolding number
   two-bytes h = rw (le-ltb n 128 h)
 
-  number-le : length (number n) ≤ 2
+  number-le : (length (number n) ≤ 2) × (length (number n) ≤ 1 + n)
   number-le = elim (decLt n 128) [
-    | yes h ↦ rw (one-byte h) (omega arith)
-    | no h ↦ rw (two-bytes (omega arith)) (omega arith)
-  ]
-
-  number-few : length (number n) ≤ 1 + n
-  number-few = elim (decLt n 128) [
-    | yes h ↦ rw (one-byte h) (omega arith)
-    | no h ↦ rw (two-bytes (omega arith)) (omega arith)
+    | yes h ↦ rw (one-byte h) (omega arith, omega arith)
+    | no h ↦ rw (two-bytes (omega arith)) (omega arith, omega arith)
   ]
 
 -- a step to a place takes no more bytes than the places that it goes over, that place among them
 steps-le : {m free : ℕ} {ps : List ℕ} → Ascending m free ps → length (steps free ps) ≤ m - free
 unfolding steps
 steps-le none = omega arith
-steps-le {m} {free} {ps = p ∷ ps} (more l u a) = omega (arith, length-append (number (p - free)) (steps (p + 1) ps), number-few (p - free), steps-le a)
+steps-le {m} {free} {ps = p ∷ ps} (more l u a) = omega (arith, length-append (number (p - free)) (steps (p + 1) ps), number-le (p - free) .1, steps-le a)
 
 pub row-length : (m : ℕ) (x : List ℕ) → length (rowCard m x) ≡ length (number (length (onesOf m x))) + length (steps 0 (onesOf m x))
 unfolding rowCard
 row-length m x = length-append (number (length (onesOf m x))) (steps 0 (onesOf m x))
 
 row-le : (m : ℕ) (x : List ℕ) → length (rowCard m x) ≤ m + 2
-row-le m x = omega (arith, row-length m x, number-le (length (onesOf m x)), steps-le (places-ascend (coord x) 0 m m (omega arith)))
+row-le m x = omega (arith, row-length m x, number-le (length (onesOf m x)) .0, steps-le (places-ascend (coord x) 0 m m (omega arith)))
 
 rows-le : (m : ℕ) (table : List ℕ) (start count : ℕ) → length (rowsCard m table start count) ≤ count * (m + 2)
 unfolding rowsCard
 rows-le m table start zero = omega arith
 rows-le m table start (suc count) = rw (length-append, suc-mul) (omega (arith, row-le m (row m table start), rows-le m table (start + 1) count))
 
-pub one-length : length (number 1) ≡ 1
-unfolding number
-one-length = refl
-
 pub card-length : (m : ℕ) (table : List ℕ) → length (card m table) ≡ 1 + length (number m) + length (rowsCard m table 0 m)
 unfolding card number
 card-length m table = omega (arith, length-append (number 1) (number m ++ rowsCard m table 0 m), length-append (number m) (rowsCard m table 0 m))
 
 pub card-le : (m : ℕ) (table : List ℕ) → length (card m table) ≤ longest m
-card-le m table = omega (arith, card-length m table, number-le m, rows-le m table 0 m)
+card-le m table = omega (arith, card-length m table, number-le m .0, rows-le m table 0 m)
 
 -- no card of any width is longer
 pub card-most : (m : ℕ) (table : List ℕ) → m ≤ maxWidth → length (card m table) ≤ longest maxWidth

@@ -38,7 +38,7 @@ use Rattle.card.specs.Rows.{places, steps, onesOf, rowCard, rowsCard}
 use Rattle.card.specs.Cards.{card}
 use Rattle.card_writer.specs.Calls.{writeFault, writeCall, writeCard}
 use Rattle.card_writer.specs.Inner.{Put, InCard, limbOnes, Writable}
-use Rattle.card.proofs.Places.{places-zero, places-one}
+use Rattle.card.proofs.Places.{places-zero, places-one, places-ascend, place-high, place-is, places-are}
 use Rattle.card_writer.proofs.Lengths.{one-byte, two-bytes, card-most}
 use Rattle.card.proofs.Stores.{sets-append, sets-front}
 
@@ -172,28 +172,6 @@ module _ {x : List ℕ} {at : ℕ} {old new : List ℕ} {next free left : ℕ} (
   unfolding steps
   steps-done h = left-done (to .remains) (ap (steps free) (steps-all h))
 
-places-ext : (f g : ℕ → ℕ) (start count : ℕ) → ((i : ℕ) → start ≤ i → i < start + count → f i ≡ g i) → places f start count ≡ places g start count
-places-ext f g start zero e = unfold places in refl
-places-ext f g start (suc count) e = go (e start (omega arith) (omega arith)) (places-ext f g (start + 1) count (λ i h l. e i (omega arith) (omega arith)))
-  where
-    go : f start ≡ g start → places f (start + 1) count ≡ places g (start + 1) count → places f start (suc count) ≡ places g start (suc count)
-    go here rest = unfold places in rw (here, rest)
-
--- places past which f is 0
-places-none : (f : ℕ → ℕ) (start count : ℕ) → ((i : ℕ) → start ≤ i → f i ≡ 0) → places f start count ≡ []
-places-none f start zero z = unfold places in refl
-places-none f start (suc count) z = places-zero f start count (z start (omega arith)) ∙ places-none f (start + 1) count (λ i h. z i (omega arith))
-
-places-clear : (f : ℕ → ℕ) (start count all : ℕ) → count ≤ all → ((i : ℕ) → start + count ≤ i → f i ≡ 0) → places f start all ≡ places f start count
-places-clear f start zero all h z = places-none f start all (λ i l. z i (omega arith)) ∙ unfold places in refl
-places-clear f start (suc count) zero h z = absurd (omega arith)
-places-clear f start (suc count) (suc all) h z =
-    let rest = places-clear f (start + 1) count all (omega arith) (λ i l. z i (omega arith)) in
-    elim (ℕ-discrete (f start) 0) [
-      | yes e ↦ places-zero f start all e ∙ rest ∙ sym (places-zero f start count e)
-      | no n ↦ places-one f start all n ∙ ap (λ ps. start ∷ ps) rest ∙ sym (places-one f start count n)
-    ]
-
 -- a function of bits has as many places as its sum
 places-count : (f : ℕ → ℕ) (start count : ℕ) → ((i : ℕ) → f i < 2) → sum count (λ i. f (start + i)) ≡ length (places f start count)
 unfolding sum
@@ -231,8 +209,11 @@ module _ {m : ℕ} {t : List ℕ} (ok : Writable m t) (d : ℕ) (l : d < m) {x :
   row-ones : limbOnes x ≡ onesOf m (row m t d)
   row-ones =
       let g = ok .greatest in
-      places-clear (limbCoord x) 0 m (64 * carriedLimbs) (omega arith) (λ i h. row-clear i (omega arith))
-      ∙ places-ext (limbCoord x) (coord (row m t d)) 0 m (λ i h q. row-coord i (omega arith))
+      places-are (limbCoord x) 0 (64 * carriedLimbs) (64 * carriedLimbs) (omega arith) (places-ascend (coord (row m t d)) 0 m (64 * carriedLimbs) (omega arith)) (λ i low high.
+      elim (decLt i m) [
+        | yes q ↦ row-coord i high ∙ sym (place-is (coord (row m t d)) 0 m i low (omega arith) (coord-lt (row m t d) i))
+        | no q ↦ row-clear i (omega arith) ∙ sym (place-high (places-ascend (coord (row m t d)) 0 m m (omega arith)) i (omega arith))
+      ])
 
   -- its number of ones, and the steps to their places
   pub row-parts : {n : ℕ} → n ≡ sum (64 * carriedLimbs) (limbCoord x) → rowCard m (row m t d) ≡ number n ++ steps 0 (limbOnes x)
