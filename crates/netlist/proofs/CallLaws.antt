@@ -1,7 +1,7 @@
 -- Laws of the counts: the numbers of all gates, and the answers of the calls.
-use mathlib.Core.Path.{_≡_, refl, sym, ap, _∙_}
-use mathlib.Core.Bool.{true, false}
-use mathlib.Core.List.{List}
+use mathlib.Core.Path.{_≡_, refl, sym, ap, ap₂, _∙_}
+use mathlib.Core.Bool.{Bool, true, false}
+use mathlib.Core.List.{List, []}
 use Prim.Native.Nat.{ℕ, zero, suc, _+_, _-_, _*_, _/_, _≤_}
 use native.Mathlib.Nat.{mul-add, mul-pos}
 use native.Mathlib.Omega.{arith}
@@ -9,10 +9,11 @@ use lib.ListN.{length}
 use Rattle.gf2.specs.Tables.{IsTable, onesIn}
 use Rattle.gf2.specs.Check.{Symmetric}
 use Rattle.judging.specs.declared.fault.Fault.{Fault}
+use Rattle.judging.specs.declared.fault.Fault.the-variants.{None}
 use Rattle.judging.specs.Faults.{isNone}
 use Rattle.judging.specs.Causes.{Cause, faultOf}
 use Rattle.judging.specs.FaultTable.{symmetryCauses}
-use Rattle.judging.proofs.CauseLaws.{Fine, none-is, none-given}
+use Rattle.judging.proofs.CauseLaws.{Fine, none-is, none-given, judged}
 use Rattle.table.specs.Rows.{Shaped}
 use Rattle.table.specs.Judgements.{symmetryFault}
 use Rattle.table.proofs.Theorems.{symmetry}
@@ -22,7 +23,7 @@ use Rattle.netlist.specs.declared.counts.Method.the-variants.{Plain, Red
 use Rattle.netlist.specs.Gates.{Netlist, andGates, xorGates}
 use Rattle.netlist.specs.Lists.{plain, reduced, sharing, common, ifNone, fullRows}
 use Rattle.netlist.specs.Counts.{plainGates, reducedGates, commonGates, Countable}
-use Rattle.netlist.specs.Calls.{answer, countedAs}
+use Rattle.netlist.specs.Calls.{answer, refusedWith, countedAs, countsPlainCall, countsReducedCall, countsCommonCall, allCountsCall}
 use Rattle.netlist.specs.Methods.{listBy, sharedBy, xorsBy, gatesBy, tallied}
 use Rattle.netlist.specs.Statements.{Sized}
 use Rattle.netlist.proofs.SizeLaws.{ones-most, plain-sized, reduced-sized, common-sized}
@@ -32,10 +33,24 @@ use Rattle.netlist.proofs.ListLaws.{Gates, ones-positive, shared-ones, 
 pub table-fine : (m : ℕ) (table : List ℕ) → isNone (symmetryFault m table) ≡ true → Shaped m table × Symmetric m table
 table-fine m table e = symmetry m table .0 (none-is (symmetryCauses m table) e)
 
+-- the same of one that code has judged: f is its fault, b the test whether that is none
+pub table-passed : (m : ℕ) (table : List ℕ) {f : Fault} {b : Bool} → f ≡ symmetryFault m table → b ≡ isNone f → b ≡ true → Shaped m table × Symmetric m table
+table-passed m table e t q = table-fine m table (judged (symmetryCauses m table) [] e t q)
+
 -- answers
 pub answer-counted : (cs : List Cause) (a x : ℕ) → Fine cs → answer (faultOf cs) a x ≡ countedAs a x
 unfolding answer isNone
 answer-counted cs a x e = rw (none-given cs e)
+
+pub all-counted : (m : ℕ) (table : List ℕ) {p r c : CountsAnswer} → p ≡ countsPlainCall m table → r ≡ countsReducedCall m table → c ≡ countsCommonCall m table →
+    record { plain = p; reduced = r; common = c } ≡ allCountsCall m table
+all-counted m table {p} {r} {c} h k l =
+    ap₂ (λ x y. record { plain = x; reduced = y; common = c }) h k ∙ ap (λ z. record { plain = countsPlainCall m table; reduced = countsReducedCall m table; common = z }) l
+
+pub all-refused : (m : ℕ) (table : List ℕ) {f : Fault} → f ≡ symmetryFault m table → isNone f ≡ false →
+    record { plain = refusedWith f; reduced = refusedWith f; common = refusedWith f } ≡ allCountsCall m table
+unfolding answer
+all-refused m table e n = let k = ap isNone (sym e) ∙ n in rw (e, k)
 
 -- the second where there is one
 pub if-some : {A : Type 0} (q : ℕ) (x y : A) → (q ≡ 0 → ⊥) → y ≡ ifNone q x y
@@ -103,14 +118,14 @@ countable {m} {table} method h s e = record {
   shared = rw e (shared-few m table (h .least) (h .isTable) s method);
 }
 
-pub tally-refused : (f : Fault) (list : Netlist) (q : ℕ) → isNone f ≡ false → record { fault = f; ands = record { 0 = 0 }; xors = record { 0 = 0 }; gates = 0; full = 0 } ≡ tallied f list q
+pub tally-refused : {f g : Fault} (list : Netlist) (q : ℕ) → f ≡ g → isNone f ≡ false → record { fault = f; ands = record { 0 = 0 }; xors = record { 0 = 0 }; gates = 0; full = 0 } ≡ tallied g list q
 unfolding tallied
-tally-refused f list q e = rw e
+tally-refused list q e n = let k = ap isNone (sym e) ∙ n in rw (e, k)
 
-pub tally-counted : (f : Fault) (list : Netlist) (q : ℕ) {a x y g k : ℕ} → isNone f ≡ true → Gates list a y → x ≡ y → g ≡ length (list .gates) → k ≡ q →
-    record { fault = f; ands = record { 0 = a }; xors = record { 0 = x }; gates = g; full = k } ≡ tallied f list q
-unfolding tallied
-tally-counted f list q e c l h k = rw (e, c .ands, c .xors, l, h, k)
+pub tally-counted : {f : Fault} (list : Netlist) (q : ℕ) {a x y g k : ℕ} → f ≡ None → Gates list a y → x ≡ y → g ≡ length (list .gates) → k ≡ q →
+    record { fault = None; ands = record { 0 = a }; xors = record { 0 = x }; gates = g; full = k } ≡ tallied f list q
+unfolding tallied isNone
+tally-counted list q e c l h k = rw (e, c .ands, c .xors, l, h, k)
 
 pub tally-answer : (f : Fault) (list : Netlist) (q : ℕ) {t : Numbers} → t ≡ tallied f list q →
     record { fault = t .fault; ands = t .ands; xors = t .xors } ≡ answer f (andGates (list .gates)) (xorGates (list .gates))

@@ -10,6 +10,7 @@ use Rattle.judging.specs.Causes.{Cause, faultOf}
 use Rattle.judging.specs.FaultTable.{tooShort, symmetryCauses}
 use Rattle.table.specs.Judgements.{symmetryFault}
 use Rattle.netlist.specs.declared.CountsAnswer.{CountsAnswer}
+use Rattle.netlist.specs.declared.AllCounts.{AllCounts}
 use Rattle.netlist.specs.Gates.{Netlist, words, andGates, xorGates}
 use Rattle.netlist.specs.Lists.{plain, reduced, common}
 
@@ -38,6 +39,11 @@ countsReducedCall m table = countsCall m table (reduced m table)
 
 abbrev pub countsCommonCall : ℕ → List ℕ → CountsAnswer
 countsCommonCall m table = countsCall m table (common m table)
+
+-- of all three
+abbrev pub allCountsCall : ℕ → List ℕ → AllCounts
+allCountsCall m table =
+    record { plain = countsPlainCall m table; reduced = countsReducedCall m table; common = countsCommonCall m table }
 
 -- "4 and 5 also for the .. gate lists"; 11 where the list is longer than the buffer
 abbrev pub listCauses : ℕ → List ℕ → Netlist → List ℕ → List Cause

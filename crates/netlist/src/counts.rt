@@ -1,15 +1,18 @@
 // The numbers of gates of a table's lists, without the lists: from the width, the ones and the all-ones rows.
 // Each kind has its own number; the number of all gates is worked out by itself, not from these two.
 ghost use mathlib.Core.Path.{_≡_};
+ghost use Rattle.gf2.specs.Check.{Symmetric};
 ghost use Rattle.table.specs.Rows.{Shaped};
 ghost use Rattle.netlist.specs.Counts.{plainXors, reducedXors, commonXors, plainGates, reducedGates, commonGates, Countable};
-ghost use Rattle.netlist.specs.Calls.{countsCall, countsPlainCall, countsReducedCall, countsCommonCall};
+ghost use Rattle.netlist.specs.Calls.{countsCall, countsPlainCall, countsReducedCall, countsCommonCall, allCountsCall};
 ghost use Rattle.netlist.specs.Methods.{listBy, sharedBy, xorsBy, gatesBy, tallyCall};
+use crate::AllCounts;
 use crate::AndCount;
 use crate::CountsAnswer;
 use crate::Numbers;
 use crate::XorCount;
 use crate::entries;
+use judging::Fault;
 
 // The three lists of a table.
 pub enum Method {
@@ -104,30 +107,78 @@ fn gates_by(width: usize, ones: usize, full: usize, method: Method) -> usize
     }
 }
 
-// 1 to 5 judged once, and all numbers of a list. C is the number of ones of all bytes: no row has a bit at the width or above.
+// All numbers of a list of a table that has passed. C is the number of ones of all bytes: no row has a bit at the width or above.
+fn numbers(width: usize, table: &[u8], method: Method) -> Numbers
+    requires { ⌜ Shaped width (now table) × Symmetric width (now table) ⌝ }
+    ensures { λ r. ⌜ r ≡ tallyCall method width (now (table .entry)) ⌝ }
+{
+    let ones = limbs::ones_of(table);
+    let full = shared_by(width, table, method);
+    let xors = xors_by(width, ones, full, method);
+    let gates = gates_by(width, ones, full, method);
+    let ands = width * width;
+    Numbers {
+        fault: Fault::None,
+        ands: AndCount(ands),
+        xors: XorCount(xors),
+        gates,
+        full,
+    }
+}
+
+// 1 to 5 judged once, and all numbers of a list.
 pub fn tally(width: usize, table: &[u8], method: Method) -> Numbers
     ensures { λ r. ⌜ r ≡ tallyCall method width (now (table .entry)) ⌝ }
 {
     let fault = table::judge_symmetry(width, table);
-    if !judging::is_none(fault) {
-        return Numbers {
+    if judging::is_none(fault) {
+        numbers(width, table, method)
+    } else {
+        Numbers {
             fault,
             ands: AndCount(0),
             xors: XorCount(0),
             gates: 0,
             full: 0,
-        };
+        }
     }
-    let ones = limbs::ones_of(table);
-    let full = shared_by(width, table, method);
-    let xors = xors_by(width, ones, full, method);
-    let gates = gates_by(width, ones, full, method);
-    Numbers {
-        fault,
-        ands: AndCount(width * width),
-        xors: XorCount(xors),
-        gates,
-        full,
+}
+
+// The gates by kind of a list of a table that has passed.
+fn counted(width: usize, table: &[u8], method: Method) -> CountsAnswer
+    requires { ⌜ Shaped width (now table) × Symmetric width (now table) ⌝ }
+    ensures { λ r. ⌜ r ≡ countsCall width (now (table .entry)) (listBy method width (now (table .entry))) ⌝ }
+{
+    let all = numbers(width, table, method);
+    let fault = all.fault;
+    let ands = all.ands;
+    let xors = all.xors;
+    CountsAnswer { fault, ands, xors }
+}
+
+// 1 to 5 judged once, and the gates of all three lists.
+pub fn all_counts(width: usize, table: &[u8]) -> AllCounts
+    ensures { λ r. ⌜ r ≡ allCountsCall width (now (table .entry)) ⌝ }
+{
+    let fault = table::judge_symmetry(width, table);
+    if judging::is_none(fault) {
+        let plain = counted(width, table, Method::Plain);
+        let reduced = counted(width, table, Method::Reduced);
+        let common = counted(width, table, Method::Common);
+        AllCounts {
+            plain,
+            reduced,
+            common,
+        }
+    } else {
+        let ands = AndCount(0);
+        let xors = XorCount(0);
+        let none = CountsAnswer { fault, ands, xors };
+        AllCounts {
+            plain: none,
+            reduced: none,
+            common: none,
+        }
     }
 }
 

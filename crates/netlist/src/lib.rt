@@ -6,6 +6,7 @@ mod entries;
 mod words;
 
 pub use counts::Method;
+pub use counts::all_counts;
 pub use counts::counts_common;
 pub use counts::counts_plain;
 pub use counts::counts_reduced;
@@ -24,7 +25,14 @@ pub struct CountsAnswer {
     pub xors: XorCount,
 }
 
-// The same, the number of all gates, and the all-ones rows whose pairs are shared.
+// The gates of the three lists.
+pub struct AllCounts {
+    pub plain: CountsAnswer,
+    pub reduced: CountsAnswer,
+    pub common: CountsAnswer,
+}
+
+// A fault, or none and the gates of a list by kind, the number of all gates, and the all-ones rows whose pairs are shared.
 pub struct Numbers {
     pub fault: Fault,
     pub ands: AndCount,

@@ -43,7 +43,7 @@ module _ (m : ℕ) (table : List ℕ) where
   unfolding acceptance line spaced
   accepted-put t = three _ _ _ _ ∙ appended-more t (ascii "accepted\n") _
 
-  abbrev head : Text
+  abbrev pub head : Text
   head = appended (appended (textOf []) (line (ascii "width") (m ∷ []))) (line (ascii "ones") (onesIn m table ∷ []))
 
   pub table-accepted : isNone (checkFault m table) ≡ true → appended head (acceptance m table) ≡ appended (textOf []) (tableReport m table)

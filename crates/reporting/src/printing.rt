@@ -36,13 +36,11 @@ fn counts(text: Text, word: &[u8], counts: CountsAnswer) -> Text
 fn accepted(text: Text, width: usize, table: &[u8]) -> Text
     ensures { λ r. ⌜ r ≡ appended text (acceptance width (now (table .entry))) ⌝ }
 {
-    let plain = netlist::counts_plain(width, table);
-    let reduced = netlist::counts_reduced(width, table);
-    let common = netlist::counts_common(width, table);
+    let all = netlist::all_counts(width, table);
     let verdict = text.append(b"accepted\n");
-    let first = counts(verdict, b"plain", plain);
-    let second = counts(first, b"reduced", reduced);
-    counts(second, b"common", common)
+    let first = counts(verdict, b"plain", all.plain);
+    let second = counts(first, b"reduced", all.reduced);
+    counts(second, b"common", all.common)
 }
 
 // The report of a table that was read.

@@ -1,4 +1,4 @@
--- `report::reporting::counts` meets its contract.
+-- `reporting::printing::counts` meets its contract.
 use Rattle.reporting.specs.Report.{countsLine}
 use borrow.Author.Needs.{needs}
 use Rattle.reporting.proofs.printing.counts.Statement.{statement}

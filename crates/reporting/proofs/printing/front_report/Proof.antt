@@ -1,4 +1,4 @@
--- `report::reporting::front_report` meets its contract.
+-- `reporting::printing::front_report` meets its contract.
 use mathlib.Core.Path.{sym, ap, _∙_}
 use mathlib.Core.List.{[]}
 use Prim.Native.Nat.{_*_}

@@ -1,4 +1,4 @@
--- `report::reporting::refused` meets its contract.
+-- `reporting::printing::refused` meets its contract.
 use mathlib.Core.Path.{ap, _∙_}
 use mathlib.Core.List.{[], _∷_}
 use Rattle.reporting.specs.Text.{ascii, line}

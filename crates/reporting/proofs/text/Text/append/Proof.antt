@@ -1,4 +1,4 @@
--- `report::text::Text::append` meets its contract. What is left of the word, put after the text so far, gives the whole.
+-- `reporting::text::Text::append` meets its contract. What is left of the word, put after the text so far, gives the whole.
 use mathlib.Core.Path.{_≡_, refl, sym, ap, _∙_}
 use Prim.Native.Nat.{_+_, _-_, _≤_}
 use native.Mathlib.Omega.{arith}

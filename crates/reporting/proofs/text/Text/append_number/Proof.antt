@@ -1,4 +1,4 @@
--- `report::text::Text::append_number` meets its contract.
+-- `reporting::text::Text::append_number` meets its contract.
 use mathlib.Core.Path.{_∙_}
 use Rattle.reporting.proofs.Texts.{number-put}
 use borrow.Author.Needs.{needs}

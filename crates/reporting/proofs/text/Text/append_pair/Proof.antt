@@ -1,4 +1,4 @@
--- `report::text::Text::append_pair` meets its contract.
+-- `reporting::text::Text::append_pair` meets its contract.
 use mathlib.Core.Path.{ap, _∙_}
 use mathlib.Core.List.{[], _∷_}
 use Rattle.reporting.specs.Text.{spaced}

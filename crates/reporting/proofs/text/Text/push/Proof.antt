@@ -1,4 +1,4 @@
--- `report::text::Text::push` meets its contract.
+-- `reporting::text::Text::push` meets its contract.
 use borrow.Author.Tests.{le-ltb, lt-ltb}
 use borrow.Author.Needs.{needs}
 use Rattle.reporting.specs.Text.{room}

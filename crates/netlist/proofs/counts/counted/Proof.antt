@@ -1,0 +1,11 @@
+-- `netlist::counts::counted` meets its contract.
+use Rattle.netlist.proofs.CallLaws.{tally-answer}
+use borrow.Author.Needs.{needs}
+use Rattle.netlist.proofs.counts.counted.Statement.{statement}
+use Rattle.netlist.proofs.counts.counted.Tie as tie
+
+returns : tie.Need-returns
+returns c = tally-answer _ _ _ (c .before .before .numbers .ensures)
+
+pub counted-spec : {M : Type 1} → statement M
+counted-spec = tie.close (tie.spec (λ c κs. search needs) returns)
