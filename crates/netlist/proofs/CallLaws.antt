@@ -17,6 +17,7 @@ use Rattle.judging.proofs.CauseLaws.{Fine, none-is, none-given, judged}
 use Rattle.table.specs.Rows.{Shaped}
 use Rattle.table.specs.Judgements.{symmetryFault}
 use Rattle.table.proofs.Theorems.{symmetry}
+use Rattle.netlist.specs.declared.CountsAnswer.{CountsAnswer}
 use Rattle.netlist.specs.declared.Numbers.{Numbers}
 use Rattle.netlist.specs.declared.counts.Method.{Method}
 use Rattle.netlist.specs.declared.counts.Method.the-variants.{Plain, Reduced, Common}
