@@ -8,18 +8,15 @@ use Rattle.gf2.specs.Tables.{row, basis, pairProduct, onesIn}
 use Rattle.gf2.specs.Products.{product}
 use Rattle.gf2.specs.Check.{rowSum}
 use Rattle.gf2.specs.Inverse.{halvings, binaryOnes, doubling, adding, digits, inverse, productsMade}
-use Rattle.operand.specs.Faults.{orElse, firstOf, firstFrom}
 use Rattle.judging.specs.Faults.{isNone}
-use Rattle.judging.specs.Causes.{faultOf}
-use Rattle.table.specs.Judgements.{rowsFault, shapeFault, rowZeroFault, rowPairFault, tripleFault, rowSumFault, symmetryFault, checkFault}
+use Rattle.judging.specs.Causes.{faultOf, from}
 use Rattle.table.specs.Calls.{onesCall}
 use Rattle.netlist.specs.Gates.{andGates, xorGates}
 use Rattle.netlist.specs.Lists.{each, only, pairs, ands, onto, start, folds, folded, plainTerms, plain, mixes, reducedTerms, reduced, allOnes, fullRows, common}
 use Rattle.netlist.specs.Calls.{answer}
 use Rattle.nb.specs.Packing.{packedFault, packedAnswer}
-use Rattle.nb.specs.Judgements.{productBytesFault, zeroBytesFault, inverseBytesFault}
 use Rattle.examples.specs.Starred.{Holds, AllHold, starred}
 
 pub all-starred : AllHold starred
-unfolding Holds sum every coord value tabulate pack minus isClear below fromCoords zeroes ones added turned squared trace rootCoord root row basis pairProduct onesIn product rowSum halvings binaryOnes doubling adding digits inverse productsMade isNone orElse firstOf firstFrom faultOf same rowsFault shapeFault rowZeroFault rowPairFault tripleFault rowSumFault symmetryFault checkFault onesCall andGates xorGates each only pairs ands onto start folds folded plainTerms plain mixes reducedTerms reduced allOnes fullRows common answer packedFault packedAnswer productBytesFault zeroBytesFault inverseBytesFault
+unfolding Holds sum every coord value tabulate pack minus isClear below fromCoords zeroes ones added turned squared trace rootCoord root row basis pairProduct onesIn product rowSum halvings binaryOnes doubling adding digits inverse productsMade isNone faultOf from same onesCall andGates xorGates each only pairs ands onto start folds folded plainTerms plain mixes reducedTerms reduced allOnes fullRows common answer packedFault packedAnswer
 all-starred = ((refl, refl), ((refl, refl), ((refl, refl), ((refl, refl), ((refl, refl), ((refl, refl), ((refl, refl), ((refl, refl), (refl, (refl, (refl, ((refl, refl, refl, refl, refl), tt))))))))))))

@@ -3,10 +3,15 @@
 use mathlib.Core.Path.{_≡_}
 use mathlib.Core.List.{List, [], _∷_}
 use Prim.Native.Nat.{ℕ, _*_}
+use Rattle.judging.specs.FaultTable.{checkCauses}
+use Rattle.operand.specs.Causes.{solveBytesCauses}
+use Rattle.operand.specs.Calls.{solveInto}
 use Rattle.table.specs.Carried.{carried2, carried3}
+use Rattle.product.specs.Causes.{productBytesCauses}
+use Rattle.product.specs.Calls.{productInto, inverseInto}
 use Rattle.netlist.specs.Calls.{countsPlainCall, countsReducedCall, countsCommonCall}
 use Rattle.nb.specs.Packing.{packed}
-use Rattle.nb.specs.Calls.{checkAnswer, onesAnswer, solveAnswer, solveResult, productAnswer, productResult, inverseAnswer, inverseResult, countsAnswer}
+use Rattle.nb.specs.Calls.{faultAnswer, onesAnswer, inverseAnswer, countsAnswer}
 
 -- what is asked, of a width and rows, and what document 01 answers
 pub data Example : Type 0 where
@@ -30,14 +35,14 @@ abbrev pub lent : List ℕ
 lent = 255 ∷ []
 
 unfoldable pub Holds : Example → Type 0
-Holds (product m rows a b c) = (productAnswer m rows a b lent ≡ packed 0 0 0) × (productResult m rows a b lent ≡ c)
-Holds (inverse m rows a b made) = (inverseAnswer m rows a lent ≡ packed 0 made 0) × (inverseResult m rows a lent ≡ b)
-Holds (noInverse m rows a number) = (inverseAnswer m rows a lent ≡ packed number 0 0) × (inverseResult m rows a lent ≡ lent)
-Holds (solution m c z) = (solveAnswer m c lent ≡ packed 0 0 0) × (solveResult m c lent ≡ z)
-Holds (noSolution m c number) = (solveAnswer m c lent ≡ packed number 0 0) × (solveResult m c lent ≡ lent)
-Holds (refused m rows number first second) = checkAnswer m rows ≡ packed number first second
+Holds (product m rows a b c) = (faultAnswer (productBytesCauses m rows a b lent) ≡ packed 0 0 0) × (productInto m rows a b lent ≡ c)
+Holds (inverse m rows a b made) = (inverseAnswer m rows a lent ≡ packed 0 made 0) × (inverseInto m rows a lent ≡ b)
+Holds (noInverse m rows a number) = (inverseAnswer m rows a lent ≡ packed number 0 0) × (inverseInto m rows a lent ≡ lent)
+Holds (solution m c z) = (faultAnswer (solveBytesCauses m c lent) ≡ packed 0 0 0) × (solveInto m c lent ≡ z)
+Holds (noSolution m c number) = (faultAnswer (solveBytesCauses m c lent) ≡ packed number 0 0) × (solveInto m c lent ≡ lent)
+Holds (refused m rows number first second) = faultAnswer (checkCauses m rows) ≡ packed number first second
 Holds (accepted m rows ones plain reduced common) =
-    (checkAnswer m rows ≡ packed 0 0 0)
+    (faultAnswer (checkCauses m rows) ≡ packed 0 0 0)
     × (onesAnswer m rows ≡ packed 0 ones 0)
     × (countsAnswer (countsPlainCall m rows) ≡ packed 0 (m * m) plain)
     × (countsAnswer (countsReducedCall m rows) ≡ packed 0 (m * m) reduced)

@@ -3,7 +3,7 @@ ghost use mathlib.Core.Path.{_≡_};
 ghost use Prim.Native.Nat.{_<_, _≤_};
 ghost use Rattle.judging.specs.Faults.{numberOf};
 ghost use Rattle.gaussian.specs.Calls.{drawnInto};
-ghost use Rattle.card.specs.Calls.{writeCard};
+ghost use Rattle.card_writer.specs.Calls.{writeCard};
 ghost use Rattle.vectors.specs.Curve.{pointOnCurve};
 use crate::curve;
 use crate::printing;
@@ -91,7 +91,7 @@ pub(crate) fn xors(text: &[u8], width: usize, table: &[u8])
 fn written(width: usize, table: &[u8], card: &mut [u8])
     ensures { λ _. ⌜ now (card .exit) ≡ writeCard width (now (table .entry)) (now (card .entry)) ⌝ }
 {
-    let answer = card::write(width, table, card);
+    let answer = card_writer::write(width, table, card);
     let fault = answer.fault;
     let number = judging::number(fault);
     printing::line(
