@@ -23,7 +23,7 @@ use Rattle.limbs.proofs.LimbRows.{sum-bits, ones-fit, row-limbs}
 use Rattle.table.specs.Rows.{Shaped}
 use Rattle.table.proofs.TableOnes.{table-ones}
 use Rattle.netlist.specs.Lists.{allOnes}
-use Rattle.netlist.specs.Counts.{Countable}
+use Rattle.netlist.specs.Inner.{Countable}
 use Rattle.netlist.proofs.SumLaws.{sum-next, sum-one}
 
 -- a product with a width

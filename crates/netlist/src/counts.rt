@@ -2,7 +2,8 @@
 // Each kind has its own number; the number of all gates is worked out by itself, not from these two.
 ghost use mathlib.Core.Path.{_≡_};
 ghost use Rattle.table.specs.Rows.{Shaped};
-ghost use Rattle.netlist.specs.Counts.{plainXors, reducedXors, commonXors, plainGates, reducedGates, commonGates, Countable};
+ghost use Rattle.netlist.specs.Counts.{plainXors, reducedXors, commonXors, plainGates, reducedGates, commonGates};
+ghost use Rattle.netlist.specs.Inner.{Countable};
 ghost use Rattle.netlist.specs.Calls.{countsCall, countsPlainCall, countsReducedCall, countsCommonCall};
 ghost use Rattle.netlist.specs.Methods.{listBy, sharedBy, xorsBy, gatesBy, tallyCall};
 use crate::AndCount;
