@@ -23,7 +23,8 @@ use Rattle.netlist.specs.declared.counts.Method.{Method}
 use Rattle.netlist.specs.declared.counts.Method.the-variants.{Plain, Reduced, Common}
 use Rattle.netlist.specs.Gates.{Netlist, andGates, xorGates}
 use Rattle.netlist.specs.Lists.{plain, reduced, sharing, common, ifNone, fullRows}
-use Rattle.netlist.specs.Counts.{plainGates, reducedGates, commonGates, Countable}
+use Rattle.netlist.specs.Counts.{plainGates, reducedGates, commonGates}
+use Rattle.netlist.specs.Inner.{Countable}
 use Rattle.netlist.specs.Calls.{answer, refusedWith, countedAs, countsPlainCall, countsReducedCall, countsCommonCall, allCountsCall}
 use Rattle.netlist.specs.Methods.{listBy, sharedBy, xorsBy, gatesBy, tallied}
 use Rattle.netlist.specs.Statements.{Sized}

@@ -22,7 +22,7 @@ use Rattle.limbs.proofs.LimbRows.{sum-bits, row-limbs}
 use Rattle.table.specs.Rows.{Shaped}
 use Rattle.table.proofs.TableOnes.{ones-small}
 use Rattle.netlist.specs.Lists.{allOnes}
-use Rattle.netlist.specs.Counts.{Countable}
+use Rattle.netlist.specs.Inner.{Countable}
 use Rattle.netlist.proofs.SumLaws.{sum-next, sum-one}
 
 -- a product with a width

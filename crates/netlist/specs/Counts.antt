@@ -1,7 +1,6 @@
 -- The numbers by which the gates of a list are counted without writing it: from m, the number C of ones and the number q of
 -- all-ones rows. `CountsHold` of Statements says that they are those of the lists.
-use Prim.Native.Nat.{ℕ, _+_, _-_, _*_, _/_, _≤_}
-use Rattle.gf2.specs.Operands.{maxWidth}
+use Prim.Native.Nat.{ℕ, _+_, _-_, _*_, _/_}
 use Rattle.netlist.specs.Lists.{ifNone}
 
 -- "m² AND gates"
@@ -29,11 +28,3 @@ reducedGates m ones = m * (3 * m + ones - 2) / 2
 
 abbrev pub commonGates : ℕ → ℕ → ℕ → ℕ
 commonGates m ones q = ifNone q (plainGates m ones) (m * (m + ones - m * q) + m * q - 1)
-
--- inner: numbers that the gates can be counted from
-pub record Countable (m ones q : ℕ) : Type 0 where
-  pub least : 2 ≤ m
-  pub greatest : m ≤ maxWidth
-  pub some : 1 ≤ ones
-  pub most : ones ≤ m * m
-  pub shared : m * q ≤ ones

@@ -1,4 +1,4 @@
--- The definitions that the contracts of this crate cite, in document 01's order.
+-- The definitions that the contracts of this crate cite, in document 01's order. To be believed: all but Methods and Inner.
 -- Gates: gates, words, numbers of gates by kind.
 -- Lists: the plain, the reduced and the common list of a table.
 -- Running: the values of a list's wires, and its result; words read as a list.
@@ -6,6 +6,7 @@
 -- Judgements: what is judged of the gates of a list.
 -- Calls: what each call answers, for every input.
 -- Methods: the lists by their method, all numbers of a list in one answer.
+-- Inner: what only inner functions cite.
 -- Statements: what is proved of the lists; the proofs are proofs/Theorems.antt.
 pub mod Gates
 pub mod Lists
@@ -14,4 +15,5 @@ pub mod Counts
 pub mod Judgements
 pub mod Calls
 pub mod Methods
+pub mod Inner
 pub mod Statements

@@ -3,7 +3,8 @@
 ghost use mathlib.Core.Path.{_≡_};
 ghost use Rattle.gf2.specs.Check.{Symmetric};
 ghost use Rattle.table.specs.Rows.{Shaped};
-ghost use Rattle.netlist.specs.Counts.{plainXors, reducedXors, commonXors, plainGates, reducedGates, commonGates, Countable};
+ghost use Rattle.netlist.specs.Counts.{plainXors, reducedXors, commonXors, plainGates, reducedGates, commonGates};
+ghost use Rattle.netlist.specs.Inner.{Countable};
 ghost use Rattle.netlist.specs.Calls.{countsCall, countsPlainCall, countsReducedCall, countsCommonCall, allCountsCall};
 ghost use Rattle.netlist.specs.Methods.{listBy, sharedBy, xorsBy, gatesBy, tallyCall};
 use crate::AllCounts;

@@ -42,6 +42,4 @@ returns-2 c =
     )
 
 pub run-spec : {M : Type 1} → statement M
-run-spec =
-    tie.close
-    (tie.spec (λ c κs. search needs) (λ c κs. search needs) returns run-sized-requires (λ c. search needs) (λ c. search needs) returns-2)
+run-spec = tie.close (tie.spec (λ c κs. search needs) (λ c κs. search needs) returns run-sized-requires (λ c. search needs) (λ c. search needs) returns-2)

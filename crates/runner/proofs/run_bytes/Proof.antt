@@ -59,4 +59,5 @@ returns-2 c =
 pub run-bytes-spec : {M : Type 1} → statement M
 run-bytes-spec =
     tie.close
-    (tie.spec (λ c κs. search needs) (λ c κs. search needs) returns (λ c κs. search needs) (λ c κs. search needs) run-sized-requires (λ c. search needs) (λ c. search needs) returns-2)
+    (tie.spec (λ c κs. search needs) (λ c κs. search needs) returns (λ c κs. search needs) (λ c κs. search needs) run-sized-requires (λ c. search needs)
+    (λ c. search needs) returns-2)

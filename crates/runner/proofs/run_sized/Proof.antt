@@ -51,4 +51,5 @@ returns-2 c =
 pub run-sized-spec : {M : Type 1} → statement M
 run-sized-spec =
     tie.close
-    (tie.spec (λ c κs. search needs) (λ c κs. search needs) (λ c. search needs) (λ c. search needs) fill-wires-requires fill-result-requires (λ c. search needs) (λ c. search needs) returns returns-2)
+    (tie.spec (λ c κs. search needs) (λ c κs. search needs) (λ c. search needs) (λ c. search needs) fill-wires-requires fill-result-requires
+    (λ c. search needs) (λ c. search needs) returns returns-2)

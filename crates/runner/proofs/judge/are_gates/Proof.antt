@@ -36,15 +36,4 @@ returns-2 c =
     sym (rw e at (w .inv .1))
 
 pub are-gates-spec : {M : Type 1} → statement M
-are-gates-spec =
-    tie.close
-    (tie.spec
-    Inv-loop
-    μ-loop
-    loop-holds
-    is-gate-requires
-    returns
-    (λ c. search needs)
-    (λ c. search needs)
-    loop-again
-    returns-2)
+are-gates-spec = tie.close (tie.spec Inv-loop μ-loop loop-holds is-gate-requires returns (λ c. search needs) (λ c. search needs) loop-again returns-2)

@@ -46,14 +46,4 @@ returns c = filled-all (c .before .loop .inv .0) (omega (arith, c .before .befor
 pub fill-result-spec : {M : Type 1} → statement M
 fill-result-spec =
     tie.close
-    (tie.spec
-    Inv-loop
-    μ-loop
-    loop-holds
-    output-byte-requires
-    slice-write-result
-    (λ c. search needs)
-    loop-less
-    loop-again
-    same-length
-    returns)
+    (tie.spec Inv-loop μ-loop loop-holds output-byte-requires slice-write-result (λ c. search needs) loop-less loop-again same-length returns)

@@ -34,12 +34,5 @@ returns-2 c =
 pub output-bit-spec : {M : Type 1} → statement M
 output-bit-spec =
     tie.close
-    (tie.spec
-    returns
-    (λ c κs. search needs)
-    (λ c. search needs)
-    (λ c. search needs)
-    (λ c. search needs)
-    (λ c κs. search needs)
-    shared-slice-read-result
+    (tie.spec returns (λ c κs. search needs) (λ c. search needs) (λ c. search needs) (λ c. search needs) (λ c κs. search needs) shared-slice-read-result
     returns-2)

@@ -48,17 +48,5 @@ returns c =
 pub output-byte-spec : {M : Type 1} → statement M
 output-byte-spec =
     tie.close
-    (tie.spec
-    Inv-loop
-    μ-loop
-    loop-holds
-    (λ c. search needs)
-    (λ c. search needs)
-    output-bit-requires
-    (λ c. search needs)
-    (λ c. search needs)
-    add-byte
-    (λ c. search needs)
-    (λ c. search needs)
-    loop-again
-    returns)
+    (tie.spec Inv-loop μ-loop loop-holds (λ c. search needs) (λ c. search needs) output-bit-requires (λ c. search needs) (λ c. search needs) add-byte
+    (λ c. search needs) (λ c. search needs) loop-again returns)

@@ -81,19 +81,5 @@ returns c =
 pub fill-gates-spec : {M : Type 1} → statement M
 fill-gates-spec =
     tie.close
-    (tie.spec
-    Inv-loop
-    μ-loop
-    (λ c. search needs)
-    (λ c. search needs)
-    slice-read-last
-    loop-holds
-    gate-at-requires
-    (λ c. search needs)
-    (λ c. search needs)
-    slice-write-wires
-    (λ c. search needs)
-    (λ c. search needs)
-    loop-again
-    same-length
-    returns)
+    (tie.spec Inv-loop μ-loop (λ c. search needs) (λ c. search needs) slice-read-last loop-holds gate-at-requires (λ c. search needs) (λ c. search needs)
+    slice-write-wires (λ c. search needs) (λ c. search needs) loop-again same-length returns)

@@ -41,15 +41,5 @@ returns c =
 pub fill-operand-spec : {M : Type 1} → statement M
 fill-operand-spec =
     tie.close
-    (tie.spec
-    Inv-loop
-    μ-loop
-    loop-holds
-    (λ c κs. search needs)
-    (λ c. search needs)
-    slice-write-wires
-    (λ c. search needs)
-    (λ c. search needs)
-    loop-again
-    same-length
-    returns)
+    (tie.spec Inv-loop μ-loop loop-holds (λ c κs. search needs) (λ c. search needs) slice-write-wires (λ c. search needs) (λ c. search needs) loop-again
+    same-length returns)

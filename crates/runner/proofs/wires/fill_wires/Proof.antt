@@ -40,12 +40,4 @@ returns c =
     (u .fill-operand2 .ensures ∙ ap (λ z. sets z m (tabulate m (coord (s .args .b .now)))) (v .fill-operand .ensures)) (c .before .before .fill-gates .ensures) (t .before .word .ensures .0)
 
 pub fill-wires-spec : {M : Type 1} → statement M
-fill-wires-spec =
-    tie.close
-    (tie.spec
-    (λ c κs. search needs)
-    (λ c κs. search needs)
-    (λ c κs. search needs)
-    fill-gates-requires
-    (λ c. search needs)
-    returns)
+fill-wires-spec = tie.close (tie.spec (λ c κs. search needs) (λ c κs. search needs) (λ c κs. search needs) fill-gates-requires (λ c. search needs) returns)

@@ -47,17 +47,5 @@ returns c =
 pub gate-at-spec : {M : Type 1} → statement M
 gate-at-spec =
     tie.close
-    (tie.spec
-    (λ c. search needs)
-    (λ c. search needs)
-    (λ c. search needs)
-    (λ c. search needs)
-    (λ c. search needs)
-    (λ c κs. search needs)
-    on-wire-requires
-    (λ c. search needs)
-    (λ c κs. search needs)
-    on-wire-requires-2
-    (λ c κs. search needs)
-    gate-value-requires
-    returns)
+    (tie.spec (λ c. search needs) (λ c. search needs) (λ c. search needs) (λ c. search needs) (λ c. search needs) (λ c κs. search needs) on-wire-requires
+    (λ c. search needs) (λ c κs. search needs) on-wire-requires-2 (λ c κs. search needs) gate-value-requires returns)
