@@ -127,7 +127,8 @@ countable {m} {table} method h s e = record {
 pub countable-none : {m ones q : ℕ} → Countable m ones q → Countable m ones 0
 countable-none c = record { least = c .least; greatest = c .greatest; some = c .some; most = c .most; shared = omega arith }
 
-pub tally-refused : {f g : Fault} (list : Netlist) (q : ℕ) → f ≡ g → isNone f ≡ false → record { fault = f; ands = record { 0 = 0 }; xors = record { 0 = 0 }; gates = 0; full = 0 } ≡ tallied g list q
+pub tally-refused : {f g : Fault} (list : Netlist) (q : ℕ) → f ≡ g → isNone f ≡ false →
+    record { fault = f; ands = record { 0 = 0 }; xors = record { 0 = 0 }; gates = 0; full = 0 } ≡ tallied g list q
 unfolding tallied
 tally-refused list q e n = let k = ap isNone (sym e) ∙ n in rw (e, k)
 

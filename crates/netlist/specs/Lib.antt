@@ -5,7 +5,7 @@
 -- Counts: the numbers of gates, without the lists.
 -- Judgements: what is judged of the gates of a list.
 -- Calls: what each call answers, for every input.
--- Methods: the lists by their method, all numbers of a list in one answer.
+-- Methods: inner: the lists by their method, all numbers of a list in one answer.
 -- Statements: what is proved of the lists; the proofs are proofs/Theorems.antt.
 pub mod Gates
 pub mod Lists
