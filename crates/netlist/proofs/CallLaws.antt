@@ -120,7 +120,8 @@ countable {m} {table} method h s e = record {
   shared = rw e (shared-few m table (h .least) (h .isTable) s method);
 }
 
-pub tally-refused : {f g : Fault} (list : Netlist) (q : ℕ) → f ≡ g → isNone f ≡ false → record { fault = f; ands = record { 0 = 0 }; xors = record { 0 = 0 }; gates = 0; full = 0 } ≡ tallied g list q
+pub tally-refused : {f g : Fault} (list : Netlist) (q : ℕ) → f ≡ g → isNone f ≡ false →
+    record { fault = f; ands = record { 0 = 0 }; xors = record { 0 = 0 }; gates = 0; full = 0 } ≡ tallied g list q
 unfolding tallied
 tally-refused list q e n = let k = ap isNone (sym e) ∙ n in rw (e, k)
 

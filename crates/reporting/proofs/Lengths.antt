@@ -2,7 +2,7 @@
 use mathlib.Core.Path.{_≡_, refl, ap, _∙_}
 use mathlib.Core.Bool.{Bool, true, false, not}
 use mathlib.Core.List.{List, [], _∷_}
-use Prim.Native.Nat.{ℕ, _+_, _-_, _*_, _<_, _≤_}
+use Prim.Native.Nat.{ℕ, _+_, _-_, _^_, _<_, _≤_}
 use native.Mathlib.Omega.{arith}
 use lib.ListN.{length, replicate, length-append}
 use lib.Dec.{ltb}
@@ -23,7 +23,6 @@ use Rattle.table.proofs.Theorems.{acceptance as accepted-table}
 use Rattle.card.specs.Numbers.{Read, refused, got}
 use Rattle.card.specs.Cards.{lentCauses, Table, readCard}
 use Rattle.card.specs.Statements.{Bytes}
-use Rattle.card.proofs.Trips.{card-written}
 use Rattle.card.proofs.Refusals.{card-refusals}
 use Rattle.netlist.specs.Gates.{Netlist, andGates, xorGates}
 use Rattle.netlist.specs.Lists.{plain, reduced, common}
@@ -36,12 +35,13 @@ use Rattle.reporting.specs.declared.text.Text.{Text}
 use Rattle.reporting.specs.Text.{ascii, spaced, line, room, textOf}
 use Rattle.reporting.specs.Steps.{appended}
 use Rattle.reporting.specs.Report.{inputLimit, lent, refusal, countsLine, acceptance, tableReport, readReport, report}
+use Rattle.reporting.proofs.Reports.{card-shaped}
 use Rattle.reporting.proofs.Texts.{appended-text}
 use Rattle.reporting.proofs.Decimals.{decimal-length}
 
--- no number of a report is as great
+-- No number of a report is as great: nine digits are enough for the counts, which are maxWidth³ at most.
 abbrev great : ℕ
-great = 1000000000
+great = 10 ^ 9
 
 line-one : (word : List ℕ) (n : ℕ) → n < great → length (line word (n ∷ [])) ≤ length word + 11
 unfolding line spaced
@@ -128,9 +128,7 @@ module _ (m : ℕ) (table : List ℕ) (shaped : Shaped m table) where
 
 read-length : (s : List ℕ) → Bytes s → (x : Read Table) → readCard lent s ≡ x → length (readReport x) ≤ room
 read-length s small (refused f) q = omega (arith, refusal-length f (card-numbered s f q))
-read-length s small (got t rest) q =
-    let r = card-written lent s t rest small q in
-    table-length (t .width) (t .bytes) (record { least = r .lent .least; greatest = r .lent .greatest; isTable = r .isTable })
+read-length s small (got t rest) q = table-length (t .width) (t .bytes) (card-shaped s t rest small q)
 
 pub report-length : (s : List ℕ) → Bytes s → length (report s) ≤ room
 unfolding report

@@ -10,9 +10,10 @@ use borrow.Author.Tests.{lt-ltb, le-ltb}
 use Rattle.gf2.specs.Operands.{bytesFor}
 use Rattle.gf2.specs.Tables.{onesIn}
 use Rattle.judging.specs.declared.fault.Fault.{Fault}
-use Rattle.judging.specs.declared.fault.Fault.the-variants.{None, Length}
+use Rattle.judging.specs.declared.fault.Fault.the-variants.{Length}
 use Rattle.judging.specs.Faults.{isNone}
 use Rattle.judging.proofs.CauseLaws.{none-true}
+use Rattle.table.specs.Rows.{Shaped}
 use Rattle.table.specs.Judgements.{checkFault}
 use Rattle.card.specs.declared.CardAnswer.{CardAnswer}
 use Rattle.card.specs.Numbers.{Read, refused, got}
@@ -63,6 +64,12 @@ pub short-report : (s : List ℕ) → length s ≤ inputLimit → report s ≡ r
 unfolding report
 short-report s h = rw (le-ltb inputLimit (length s) h)
 
+-- the table of a card that was read
+pub card-shaped : (s : List ℕ) (t : Table) (rest : List ℕ) → Bytes s → readCard lent s ≡ got t rest → Shaped (t .width) (t .bytes)
+card-shaped s t rest small q =
+    let r = card-written lent s t rest small q in
+    record { least = r .lent .least; greatest = r .lent .greatest; isTable = r .isTable }
+
 -- what the code knows of a card that it has read
 pub record TableRead (s : List ℕ) (m : ℕ) (new : List ℕ) : Type 0 where
   pub inFront : InFront m new
@@ -92,13 +99,13 @@ module _ (s : List ℕ) (short : length s ≤ inputLimit) where
 
   table-of : (t : Table) (rest : List ℕ) → Bytes s → readCard lent s ≡ got t rest → {m : ℕ} {new : List ℕ} → m ≡ t .width → new ≡ inFront (t .bytes) old → TableRead s m new
   table-of t rest small q {m} {new} w n =
-      let r = card-written lent s t rest small q in
+      let r = card-shaped s t rest small q in
       let e : m * bytesFor m ≡ length (t .bytes) = ap (λ k. k * bytesFor k) w ∙ sym (r .isTable .size) in
       let b : front m new ≡ t .bytes = ap₂ take e n ∙ take-at (t .bytes) _ _ refl in
       record {
         inFront = record {
           within = rw (e, n) (omega (arith, length-append (t .bytes) (drop (length (t .bytes)) old)));
-          shaped = rw (b, w) (record { least = r .lent .least; greatest = r .lent .greatest; isTable = r .isTable });
+          shaped = rw (b, w) r;
         };
         reported = ap₂ tableReport w b ∙ sym (found-report (got t rest) q);
       }

@@ -1,14 +1,12 @@
 -- Which faults a report can name: 3, 7 and 11 are not among them.
 use mathlib.Core.Path.{_≡_, refl, sym}
-use mathlib.Core.Bool.{Bool, true, false, not, _||_, _&&_, true≢false}
+use mathlib.Core.Bool.{Bool, true, false, _||_, true≢false}
 use mathlib.Core.List.{List, [], _∷_, _++_, append-assoc}
-use Prim.Native.Nat.{ℕ, _-_, _*_, _≤_}
-use native.Mathlib.Nat.{mul-le-mul}
-use native.Mathlib.Omega.{arith}
+use Prim.Native.Nat.{ℕ, _-_, _*_}
 use lib.ListN.{length}
-use lib.Dec.{ltb, leb, eqb}
-use Rattle.gf2.specs.Operands.{maxWidth, bytesFor, choose, same}
-use Rattle.gf2.specs.Tables.{row, basis, onesIn}
+use lib.Dec.{ltb, eqb}
+use Rattle.gf2.specs.Operands.{bytesFor, choose}
+use Rattle.gf2.specs.Tables.{onesIn}
 use Rattle.judging.specs.declared.fault.Fault.{Fault}
 use Rattle.judging.specs.declared.fault.Fault.the-variants.{None, Length}
 use Rattle.judging.specs.Faults.{numberOf, isNone}
@@ -25,11 +23,11 @@ use Rattle.table.proofs.Theorems.{row-sums}
 use Rattle.card.specs.Numbers.{Read, refused, got}
 use Rattle.card.specs.Cards.{Table, lentFault, readCard}
 use Rattle.card.specs.Statements.{Bytes}
-use Rattle.card.proofs.Trips.{card-written}
 use Rattle.card.proofs.Refusals.{card-refusals}
 use Rattle.reporting.specs.Text.{ascii, line}
 use Rattle.reporting.specs.Report.{inputLimit, lent, refusal, tableReport, readReport, report, readVerdict, verdict}
 use Rattle.reporting.specs.Statements.{Not}
+use Rattle.reporting.proofs.Reports.{card-shaped}
 
 -- the numbers that can't come out
 unfoldable barred : Fault → Bool
@@ -75,9 +73,7 @@ read-apart : (s : List ℕ) → Bytes s → (x : Read Table) → readCard lent s
 unfolding barred
 read-apart s small (refused f) q =
     card-refusals barred lent (record { ends = refl; number = refl; form = refl; place = refl; tail = refl; lent = λ m h. lent-apart m }) s f q
-read-apart s small (got t rest) q =
-    let r = card-written lent s t rest small q in
-    check-apart (t .width) (t .bytes) (record { least = r .lent .least; greatest = r .lent .greatest; isTable = r .isTable })
+read-apart s small (got t rest) q = check-apart (t .width) (t .bytes) (card-shaped s t rest small q)
 
 verdict-apart : (s : List ℕ) → Bytes s → barred (verdict s) ≡ false
 unfolding verdict
@@ -119,6 +115,7 @@ pub report-ends : (s : List ℕ) → isNone (verdict s) ≡ false → EndsWith (
 unfolding report verdict
 report-ends s e = go (ltb inputLimit (length s)) e
   where
-    go : (b : Bool) → isNone (choose b Length (readVerdict (readCard lent s))) ≡ false → EndsWith (choose b (refusal Length) (readReport (readCard lent s))) (refusal (choose b Length (readVerdict (readCard lent s))))
+    go : (b : Bool) → let f = choose b Length (readVerdict (readCard lent s)) in
+        isNone f ≡ false → EndsWith (choose b (refusal Length) (readReport (readCard lent s))) (refusal f)
     go true h = ([], refl)
     go false h = read-ends (readCard lent s) h

@@ -1,4 +1,4 @@
--- What the code's steps make of a text, and what they take for granted of a table that was read.
+-- Inner: what the code's steps make of a text, and what they take for granted of a table that was read.
 use mathlib.Core.List.{List, [], _∷_}
 use Prim.Native.Nat.{ℕ, _+_, _*_, _≤_}
 use lib.ListN.{length, take, set}

@@ -11,8 +11,7 @@ use judging::Fault;
 use netlist::CountsAnswer;
 use operand::Operand;
 
-// Document 01's limit. A card of a table whose row 0 is right has 65,283 bytes at most; that of width 255 with every bit set has 65,538,
-// and is refused as too long.
+// Document 01's limit. A card of a table whose row 0 is right is shorter: docs/DECISIONS.md.
 pub const INPUT_LIMIT: usize = 65536;
 
 // The bytes of a table of the greatest width.

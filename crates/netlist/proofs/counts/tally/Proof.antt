@@ -12,7 +12,8 @@ numbers-requires c κs = table-passed _ _ (c .before .before .judge-symmetry .en
 returns-2 : tie.Need-returns-2
 returns-2 c =
     let a = c .before .before .before .before .args in
-    tally-refused (listBy (a .method) (a .width) (a .table .now)) (sharedBy (a .method) (a .width) (a .table .now)) (c .before .before .judge-symmetry .ensures) (sym (c .before .is-none .ensures) ∙ c .if1 .left)
+    tally-refused (listBy (a .method) (a .width) (a .table .now)) (sharedBy (a .method) (a .width) (a .table .now))
+    (c .before .before .judge-symmetry .ensures) (sym (c .before .is-none .ensures) ∙ c .if1 .left)
 
 pub tally-spec : {M : Type 1} → statement M
 tally-spec = tie.close (tie.spec (λ c κs. search needs) (λ c κs. search needs) numbers-requires (λ c. search needs) returns-2)
