@@ -15,7 +15,7 @@ use lib.Dec.{ltb, eqb}
 use borrow.Author.Tests.{lt-ltb, le-ltb, ltb-true, eq-eqb, ne-eqb, eqb-false}
 use Rattle.gf2.specs.Operands.{choose}
 use Rattle.judging.specs.declared.fault.Fault.{Fault}
-use Rattle.judging.specs.declared.fault.Fault.the-variants.{CardEnds, CardNumber}
+use Rattle.judging.specs.Faults.{cardEnds, cardNumber}
 use Rattle.card.specs.Numbers.{number, numberLimit, Read, refused, got, andThen, secondGroup, readNumber}
 use Rattle.card.specs.Statements.{Bytes}
 
@@ -88,13 +88,13 @@ written-read (g ∷ []) n rest small e = elim (decLt g 128) [
 written-read (g ∷ h ∷ s) n rest small e = elim (decLt g 128) [
   | yes l ↦ same-read (rw (lt-ltb g 128 l) at e) (one-group g (h ∷ s) l (λ b. small (suc b)))
   | no l ↦
-      let p = spared (eqb h 0) _ CardNumber (rw (le-ltb g 128 (omega arith)) at e) in
-      let q = passed (ltb h 128) _ CardNumber (p .1) in
+      let p = spared (eqb h 0) _ cardNumber (rw (le-ltb g 128 (omega arith)) at e) in
+      let q = passed (ltb h 128) _ cardNumber (p .1) in
       same-read (q .1) (two-groups g h s (omega arith) (small 0) (eqb-false h 0 (p .0)) (ltb-true h 128 (q .0)) (λ b. small (suc (suc b))))
 ]
 
 module _ (s : List ℕ) (at : ℕ) where
-  pub number-ends : length s ≤ at → readNumber (drop at s) ≡ refused CardEnds
+  pub number-ends : length s ≤ at → readNumber (drop at s) ≡ refused cardEnds
   unfolding readNumber
   number-ends h = rw (drop-of-length-le s h)
 
@@ -107,15 +107,15 @@ module _ (s : List ℕ) (at : ℕ) where
   number-long h l = rw (drop-cons s at 0 h, le-ltb (getD s at 0) 128 l, add-one)
 
 module _ (low : ℕ) (s : List ℕ) (at : ℕ) where
-  pub second-ends : length s ≤ at → secondGroup low (drop at s) ≡ refused CardEnds
+  pub second-ends : length s ≤ at → secondGroup low (drop at s) ≡ refused cardEnds
   unfolding secondGroup
   second-ends h = rw (drop-of-length-le s h)
 
-  pub second-zero : at < length s → getD s at 0 ≡ 0 → secondGroup low (drop at s) ≡ refused CardNumber
+  pub second-zero : at < length s → getD s at 0 ≡ 0 → secondGroup low (drop at s) ≡ refused cardNumber
   unfolding secondGroup
   second-zero h e = rw (drop-cons s at 0 h, eq-eqb (getD s at 0) 0 e)
 
-  pub second-third : at < length s → 128 ≤ getD s at 0 → secondGroup low (drop at s) ≡ refused CardNumber
+  pub second-third : at < length s → 128 ≤ getD s at 0 → secondGroup low (drop at s) ≡ refused cardNumber
   unfolding secondGroup
   second-third h l = rw (drop-cons s at 0 h, ne-eqb (getD s at 0) 0 (λ e. omega arith), le-ltb (getD s at 0) 128 l)
 

@@ -15,7 +15,7 @@ use Rattle.gf2.specs.Coordinates.{coord}
 use Rattle.gf2.specs.Operands.{bytesFor, IsOperand, choose}
 use Rattle.gf2.proofs.Coordinates.{coord-lt}
 use Rattle.gf2.proofs.Operands.{coord-from, from-eq}
-use Rattle.judging.specs.declared.fault.Fault.the-variants.{CardPlace}
+use Rattle.judging.specs.Faults.{cardPlace}
 use Rattle.card.specs.Numbers.{numberLimit, Read, refused, got, readNumber}
 use Rattle.card.specs.Rows.{places, steps, onesOf, rowCard, after, readPlaces, readRow, isPlace, rowOf}
 use Rattle.card.specs.Statements.{Bytes}
@@ -142,9 +142,9 @@ places-written m free zero s ps rest small e =
     let er : s ≡ rest = cc in
     rw (← ep, ← er) (record { areSteps = refl; counted = refl; ascending = none; bytes = small })
 places-written m free (suc count) s ps rest small e =
-    let (k, q, e1, e2) = parts (readNumber s) (λ step r. choose (ltb (free + step) m) (after ((free + step) ∷ []) (readPlaces m (free + step + 1) count r)) (refused CardPlace)) e in
+    let (k, q, e1, e2) = parts (readNumber s) (λ step r. choose (ltb (free + step) m) (after ((free + step) ∷ []) (readPlaces m (free + step + 1) count r)) (refused cardPlace)) e in
     let n = written-read s k q small e1 in
-    let t = passed (ltb (free + k) m) _ CardPlace e2 in
+    let t = passed (ltb (free + k) m) _ cardPlace e2 in
     let (w, e3, e4) = after-got ((free + k) ∷ []) (readPlaces m (free + k + 1) count q) (t .1) in
     let r = places-written m (free + k + 1) count q w rest (n .bytes) e3 in
     let step : free + k - free ≡ k = omega arith in
@@ -171,9 +171,9 @@ pub record RowRead (m : ℕ) (s ps rest : List ℕ) : Type 0 where
 pub row-written : (m : ℕ) (s ps rest : List ℕ) → Bytes s → readRow m s ≡ got ps rest → RowRead m s ps rest
 unfolding readRow rowCard
 row-written m s ps rest small e =
-    let (k, q, e1, e2) = parts (readNumber s) (λ count r. choose (leb count m) (readPlaces m 0 count r) (refused CardPlace)) e in
+    let (k, q, e1, e2) = parts (readNumber s) (λ count r. choose (leb count m) (readPlaces m 0 count r) (refused cardPlace)) e in
     let n = written-read s k q small e1 in
-    let t = passed (leb k m) _ CardPlace e2 in
+    let t = passed (leb k m) _ cardPlace e2 in
     let r = places-written m 0 k q ps rest (n .bytes) (t .1) in
     record {
       isRow = n .isNumber ∙ rw (ones-of-row (r .ascending), r .counted, append-assoc, ← r .areSteps);

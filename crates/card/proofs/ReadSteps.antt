@@ -23,8 +23,8 @@ use Rattle.gf2.proofs.Sums.{every-at}
 use Rattle.gf2.proofs.Coordinates.{length-tabulate, length-pack, pack-byte, coord-pack, pack-eq, pack-ext, xor-bit}
 use Rattle.gf2.proofs.Operands.{below-in, below-out, length-from}
 use Rattle.judging.specs.declared.fault.Fault.{Fault}
-use Rattle.judging.specs.declared.fault.Fault.the-variants.{None, CardPlace, CardForm, CardTail}
-use Rattle.judging.specs.Faults.{isNone}
+use Rattle.judging.specs.declared.fault.Fault.the-variants.{None}
+use Rattle.judging.specs.Faults.{isNone, cardForm, cardPlace, cardTail}
 use Rattle.card.specs.declared.CardAnswer.{CardAnswer}
 use Rattle.card.specs.declared.reading.Step.{Step}
 use Rattle.card.specs.declared.reading.Step.the-variants.{Got, Refused}
@@ -163,7 +163,7 @@ module _ {m free left : ℕ} {x : Read (List ℕ)} {s bytes : List ℕ} (to : Pl
   unfolding readPlaces
   places-refused h e = rw (rw (one-left h) at (to .reads), e)
 
-  pub places-far : {k : ℕ} {r : List ℕ} → 0 < left → readNumber s ≡ got k r → m - free ≤ k → refused CardPlace ≡ carriedPlaces m x
+  pub places-far : {k : ℕ} {r : List ℕ} → 0 < left → readNumber s ≡ got k r → m - free ≤ k → refused cardPlace ≡ carriedPlaces m x
   unfolding readPlaces
   places-far {k} h e far = let w = to .within in rw (rw (one-left h) at (to .reads), e, le-ltb (free + k) m (omega arith))
 
@@ -191,7 +191,7 @@ module _ (m : ℕ) (s : List ℕ) where
   unfolding readRow
   row-refused e = rw e
 
-  pub row-far : {k : ℕ} {r : List ℕ} → readNumber s ≡ got k r → m < k → refused CardPlace ≡ carriedPlaces m (readRow m s)
+  pub row-far : {k : ℕ} {r : List ℕ} → readNumber s ≡ got k r → m < k → refused cardPlace ≡ carriedPlaces m (readRow m s)
   unfolding readRow
   row-far {k} e h = rw (e, lt-leb k m h)
 
@@ -300,7 +300,7 @@ module _ (room : ℕ) (s : List ℕ) where
   unfolding readHead
   head-some {form = form} e o w = w ∙ rw (e, eq-eqb form 1 o)
 
-  pub head-form : {form : ℕ} {r : List ℕ} → readNumber s ≡ got form r → (form ≡ 1 → ⊥) → refused CardForm ≡ readHead room s
+  pub head-form : {form : ℕ} {r : List ℕ} → readNumber s ≡ got form r → (form ≡ 1 → ⊥) → refused cardForm ≡ readHead room s
   unfolding readHead
   head-form {form} e n = rw (e, ne-eqb form 1 n)
 
@@ -317,7 +317,7 @@ end-refused : (x : Read (List ℕ)) {f : Fault} → endOf x ≡ refused f → x 
 end-refused (refused f) e = cc
 end-refused (got t s) e = no-value (sym e)
 
-ended-more : (m end : ℕ) (t s : List ℕ) → end < length s → ended m (got t (drop end s)) ≡ refused CardTail
+ended-more : (m end : ℕ) (t s : List ℕ) → end < length s → ended m (got t (drop end s)) ≡ refused cardTail
 ended-more m end t s h = rw (drop-cons s end 0 h)
 
 ended-all : (m end : ℕ) (t s : List ℕ) → length s ≤ end → ended m (got t (drop end s)) ≡ got (record { width = m; bytes = t }) []
@@ -339,7 +339,7 @@ module _ (s old : List ℕ) where
     pub card-rows : {f : Fault} → endOf (readRows m m rows) ≡ refused f → Answered s old (record { fault = f; value = 0 }) old
     card-rows e = refusal (card-is (end-refused (readRows m m rows) e))
 
-    pub card-tail : {v end : ℕ} → endOf (readRows m m rows) ≡ got v (drop end s) → end < length s → Answered s old (record { fault = CardTail; value = 0 }) old
+    pub card-tail : {v end : ℕ} → endOf (readRows m m rows) ≡ got v (drop end s) → end < length s → Answered s old (record { fault = cardTail; value = 0 }) old
     card-tail {end = end} e h =
         let (t, q) = end-got (readRows m m rows) e in
         refusal (card-is q ∙ ended-more m end t s h)

@@ -7,19 +7,18 @@ use Prim.Native.Nat.{ℕ, zero, suc, _+_, _-_, _*_}
 use lib.Dec.{ltb, leb, eqb}
 use Rattle.gf2.specs.Operands.{choose}
 use Rattle.judging.specs.declared.fault.Fault.{Fault}
-use Rattle.judging.specs.declared.fault.Fault.the-variants.{CardEnds, CardNumber, CardForm, CardPlace, CardTail}
-use Rattle.judging.specs.Faults.{isNone}
+use Rattle.judging.specs.Faults.{isNone, cardEnds, cardNumber, cardForm, cardPlace, cardTail}
 use Rattle.card.specs.Numbers.{Read, refused, got, andThen, secondGroup, readNumber}
 use Rattle.card.specs.Rows.{after, readPlaces, readRow, rowOf, readRows}
 use Rattle.card.specs.Cards.{lentFault, readWidth, readHead, ended, readCard}
 
 -- the test is false of each fault that a card can have, where the lent table has `room` bytes
 pub record Apart (test : Fault → Bool) (room : ℕ) : Type 0 where
-  pub ends : test CardEnds ≡ false
-  pub number : test CardNumber ≡ false
-  pub form : test CardForm ≡ false
-  pub place : test CardPlace ≡ false
-  pub tail : test CardTail ≡ false
+  pub ends : test cardEnds ≡ false
+  pub number : test cardNumber ≡ false
+  pub form : test cardForm ≡ false
+  pub place : test cardPlace ≡ false
+  pub tail : test cardTail ≡ false
   pub lent : (m : ℕ) → isNone (lentFault room m) ≡ false → test (lentFault room m) ≡ false
 
 -- what was read is a refusal of which the test is true
@@ -45,7 +44,7 @@ module _ (test : Fault → Bool) (room : ℕ) (apart : Apart test room) where
   unfolding secondGroup
   second-apart low [] = apart .ends
   second-apart low (g ∷ s) =
-      pick-apart test (eqb g 0) (refused CardNumber) _ (apart .number) (pick-apart test (ltb g 128) (got (low + g * 128) s) (refused CardNumber) refl (apart .number))
+      pick-apart test (eqb g 0) (refused cardNumber) _ (apart .number) (pick-apart test (ltb g 128) (got (low + g * 128) s) (refused cardNumber) refl (apart .number))
 
   number-apart : (s : List ℕ) → meets test (readNumber s) ≡ false
   unfolding readNumber
@@ -56,11 +55,11 @@ module _ (test : Fault → Bool) (room : ℕ) (apart : Apart test room) where
   unfolding readPlaces
   places-apart m free zero s = refl
   places-apart m free (suc count) s = then-apart test (readNumber s) _ (number-apart s) (λ k r.
-      pick-apart test (ltb (free + k) m) _ (refused CardPlace) (after-apart test _ (readPlaces m (free + k + 1) count r) (places-apart m (free + k + 1) count r)) (apart .place))
+      pick-apart test (ltb (free + k) m) _ (refused cardPlace) (after-apart test _ (readPlaces m (free + k + 1) count r) (places-apart m (free + k + 1) count r)) (apart .place))
 
   row-apart : (m : ℕ) (s : List ℕ) → meets test (readRow m s) ≡ false
   unfolding readRow
-  row-apart m s = then-apart test (readNumber s) _ (number-apart s) (λ k r. pick-apart test (leb k m) _ (refused CardPlace) (places-apart m 0 k r) (apart .place))
+  row-apart m s = then-apart test (readNumber s) _ (number-apart s) (λ k r. pick-apart test (leb k m) _ (refused cardPlace) (places-apart m 0 k r) (apart .place))
 
   rows-apart : (m count : ℕ) (s : List ℕ) → meets test (readRows m count s) ≡ false
   unfolding readRows
@@ -83,7 +82,7 @@ module _ (test : Fault → Bool) (room : ℕ) (apart : Apart test room) where
   card-apart : (s : List ℕ) → meets test (readCard room s) ≡ false
   unfolding readCard readHead
   card-apart s = then-apart test (readHead room s) _
-      (then-apart test (readNumber s) _ (number-apart s) (λ f r. pick-apart test (eqb f 1) (readWidth room r) (refused CardForm) (width-apart r) (apart .form)))
+      (then-apart test (readNumber s) _ (number-apart s) (λ f r. pick-apart test (eqb f 1) (readWidth room r) (refused cardForm) (width-apart r) (apart .form)))
       (λ m r. ended-apart m (readRows m m r) (rows-apart m m r))
 
   pub card-refusals : (s : List ℕ) (f : Fault) → readCard room s ≡ refused f → test f ≡ false

@@ -16,8 +16,7 @@ use borrow.Author.Tests.{eqb-true}
 use Rattle.gf2.specs.Operands.{maxWidth, bytesFor, IsOperand, choose}
 use Rattle.gf2.specs.Tables.{row, IsTable}
 use Rattle.gf2.proofs.Operands.{from-operand, length-from}
-use Rattle.judging.specs.declared.fault.Fault.the-variants.{CardForm}
-use Rattle.judging.specs.Faults.{isNone}
+use Rattle.judging.specs.Faults.{isNone, cardForm}
 use Rattle.judging.proofs.CauseLaws.{fine, none-true, none-given}
 use Rattle.judging.proofs.Passed.{is-width, width-passes, has-room, room-passes}
 use Rattle.card.specs.Numbers.{number, Read, refused, got, readNumber}
@@ -211,8 +210,8 @@ pub record HeadParts (room : ℕ) (s : List ℕ) (m : ℕ) (rest : List ℕ) : T
 pub head-parts : (room : ℕ) (s : List ℕ) (m : ℕ) (rest : List ℕ) → readHead room s ≡ got m rest → HeadParts room s m rest
 unfolding readHead readWidth
 head-parts room s m rest e =
-    let (f, q, e1, e2) = parts (readNumber s) (λ form r. choose (eqb form 1) (readWidth room r) (refused CardForm)) e in
-    let t = passed (eqb f 1) _ CardForm e2 in
+    let (f, q, e1, e2) = parts (readNumber s) (λ form r. choose (eqb form 1) (readWidth room r) (refused cardForm)) e in
+    let t = passed (eqb f 1) _ cardForm e2 in
     let (k, r, e3, e4) = parts (readNumber q) (λ m rest. choose (isNone (lentFault room m)) (got m rest) (refused (lentFault room m))) (t .1) in
     let u = passed (isNone (lentFault room k)) (got k r) (lentFault room k) e4 in
     let em : k ≡ m = cc (u .1) in

@@ -5,8 +5,7 @@ use Prim.Native.Nat.{ℕ, _*_}
 use lib.Dec.{eqb}
 use Rattle.gf2.specs.Operands.{bytesFor, choose}
 use Rattle.judging.specs.declared.fault.Fault.{Fault}
-use Rattle.judging.specs.declared.fault.Fault.the-variants.{CardForm, CardTail}
-use Rattle.judging.specs.Faults.{isNone}
+use Rattle.judging.specs.Faults.{isNone, cardForm, cardTail}
 use Rattle.judging.specs.Causes.{Cause, faultOf}
 use Rattle.judging.specs.FaultTable.{badWidth, tooShort}
 use Rattle.card.specs.Numbers.{number, Read, refused, got, andThen, readNumber}
@@ -30,7 +29,7 @@ readWidth room s =
 
 -- 14: "form not 1"
 unfoldable pub readHead : ℕ → List ℕ → Read ℕ
-readHead room s = andThen (readNumber s) (λ form rest. choose (eqb form 1) (readWidth room rest) (refused CardForm))
+readHead room s = andThen (readNumber s) (λ form rest. choose (eqb form 1) (readWidth room rest) (refused cardForm))
 
 -- what a card holds
 pub record Table : Type 0 where
@@ -41,7 +40,7 @@ pub record Table : Type 0 where
 abbrev pub ended : ℕ → Read (List ℕ) → Read Table
 ended m (refused f) = refused f
 ended m (got t []) = got (record { width = m; bytes = t }) []
-ended m (got t (b ∷ rest)) = refused CardTail
+ended m (got t (b ∷ rest)) = refused cardTail
 
 -- "a card is judged in byte order, 11 following its width"
 unfoldable pub readCard : ℕ → List ℕ → Read Table

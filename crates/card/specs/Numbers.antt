@@ -4,7 +4,7 @@ use Prim.Native.Nat.{ℕ, _+_, _-_, _*_, _/_, _%_}
 use lib.Dec.{ltb, eqb}
 use Rattle.gf2.specs.Operands.{choose}
 use Rattle.judging.specs.declared.fault.Fault.{Fault}
-use Rattle.judging.specs.declared.fault.Fault.the-variants.{CardEnds, CardNumber}
+use Rattle.judging.specs.Faults.{cardEnds, cardNumber}
 
 -- "Numbers are in seven-bit groups, low group first, high bit set when another follows, shortest form, at most two groups"
 unfoldable pub number : ℕ → List ℕ
@@ -26,11 +26,11 @@ andThen (got a rest) next = next a rest
 
 -- 13: "card number not shortest, or third group"; "A second group with its high bit set is 13 at that byte, even where the card ends there"
 unfoldable pub secondGroup : ℕ → List ℕ → Read ℕ
-secondGroup low [] = refused CardEnds
+secondGroup low [] = refused cardEnds
 secondGroup low (g ∷ rest) =
-    choose (eqb g 0) (refused CardNumber) (choose (ltb g 128) (got (low + g * 128) rest) (refused CardNumber))
+    choose (eqb g 0) (refused cardNumber) (choose (ltb g 128) (got (low + g * 128) rest) (refused cardNumber))
 
 -- 12: "card ends early"; "low group first, high bit set when another follows"
 unfoldable pub readNumber : List ℕ → Read ℕ
-readNumber [] = refused CardEnds
+readNumber [] = refused cardEnds
 readNumber (g ∷ rest) = choose (ltb g 128) (got g rest) (secondGroup (g - 128) rest)

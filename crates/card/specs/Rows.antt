@@ -6,8 +6,8 @@ use lib.Dec.{ltb, leb, eqb}
 use Rattle.gf2.specs.Coordinates.{coord}
 use Rattle.gf2.specs.Operands.{bytesFor, choose, fromCoords}
 use Rattle.gf2.specs.Tables.{row}
-use Rattle.judging.specs.declared.fault.Fault.the-variants.{CardPlace}
 use Rattle.card.specs.Numbers.{number, Read, refused, got, andThen, readNumber}
+use Rattle.judging.specs.Faults.{cardPlace}
 
 -- the places where f isn't 0 among start, start + 1, .., `count` of them
 unfoldable pub places : (ℕ → ℕ) → ℕ → ℕ → List ℕ
@@ -47,11 +47,11 @@ unfoldable pub readPlaces : ℕ → ℕ → ℕ → List ℕ → Read (List ℕ)
 readPlaces m free zero s = got [] s
 readPlaces m free (suc count) s =
     andThen (readNumber s) (λ step rest.
-    choose (ltb (free + step) m) (after ((free + step) ∷ []) (readPlaces m (free + step + 1) count rest)) (refused CardPlace))
+    choose (ltb (free + step) m) (after ((free + step) ∷ []) (readPlaces m (free + step + 1) count rest)) (refused cardPlace))
 
 -- 15: "count above m"
 unfoldable pub readRow : ℕ → List ℕ → Read (List ℕ)
-readRow m s = andThen (readNumber s) (λ count rest. choose (leb count m) (readPlaces m 0 count rest) (refused CardPlace))
+readRow m s = andThen (readNumber s) (λ count rest. choose (leb count m) (readPlaces m 0 count rest) (refused cardPlace))
 
 -- 1 at the places of a list, 0 elsewhere
 unfoldable pub isPlace : List ℕ → ℕ → ℕ

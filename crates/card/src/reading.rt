@@ -10,6 +10,7 @@ ghost use Rattle.card.specs.Calls.{readCall, readTable};
 ghost use Rattle.card.specs.Inner.{told, toldRow, carriedPlaces, RowsRead};
 use crate::CardAnswer;
 use crate::store;
+use judging::CardFault;
 use judging::Fault;
 
 // A value and the place after it, or a fault.
@@ -28,7 +29,7 @@ fn number_at(card: &[u8], at: usize) -> Step
     ensures { λ r. ⌜ told (now (card .entry)) r ≡ readNumber (drop at (now (card .entry))) ⌝ }
 {
     if card.len() <= at {
-        return Step::Refused(Fault::CardEnds);
+        return Step::Refused(Fault::Card(CardFault::Ends));
     }
     let low = card[at] as usize;
     let next = at + 1;
@@ -36,16 +37,16 @@ fn number_at(card: &[u8], at: usize) -> Step
         return Step::Got(low, next);
     }
     if card.len() <= next {
-        return Step::Refused(Fault::CardEnds);
+        return Step::Refused(Fault::Card(CardFault::Ends));
     }
     let high = card[next] as usize;
     if high == 0 {
-        return Step::Refused(Fault::CardNumber);
+        return Step::Refused(Fault::Card(CardFault::Number));
     }
     if high < 128 {
         Step::Got(low - 128 + high * 128, next + 1)
     } else {
-        Step::Refused(Fault::CardNumber)
+        Step::Refused(Fault::Card(CardFault::Number))
     }
 }
 
@@ -70,7 +71,7 @@ fn places_at(card: &[u8], at: usize, width: usize, count: usize) -> Row
                 if width - free <= step {
                     return Row {
                         bytes,
-                        end: Step::Refused(Fault::CardPlace),
+                        end: Step::Refused(Fault::Card(CardFault::Place)),
                     };
                 }
                 let place = free + step;
@@ -101,7 +102,7 @@ fn row_at(card: &[u8], at: usize, width: usize) -> Row
         } else {
             Row {
                 bytes: [0u8; limbs::BYTES],
-                end: Step::Refused(Fault::CardPlace),
+                end: Step::Refused(Fault::Card(CardFault::Place)),
             }
         },
     }
@@ -182,7 +183,7 @@ fn head_at(card: &[u8], room: usize) -> Step
         Step::Got(form, then) => if form == 1 {
             width_at(card, then, room)
         } else {
-            Step::Refused(Fault::CardForm)
+            Step::Refused(Fault::Card(CardFault::Form))
         },
     }
 }
@@ -200,7 +201,7 @@ pub fn read(card: &[u8], table: &mut [u8]) -> CardAnswer
                 Step::Refused(f) => CardAnswer { fault: f, value: 0 },
                 Step::Got(_, end) => if end < card.len() {
                     CardAnswer {
-                        fault: Fault::CardTail,
+                        fault: Fault::Card(CardFault::Tail),
                         value: 0,
                     }
                 } else {

@@ -1,5 +1,5 @@
 -- The starred examples hold: each is computed.
-use mathlib.Core.Path.{_≡_, refl}
+use mathlib.Core.Path.{refl}
 use Rattle.gf2.specs.Sums.{sum, every}
 use Rattle.gf2.specs.Coordinates.{coord, value, tabulate, pack}
 use Rattle.gf2.specs.Operands.{minus, isClear, below, fromCoords, zeroes, ones, added, turned, squared, same}

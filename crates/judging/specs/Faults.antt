@@ -2,8 +2,18 @@
 use mathlib.Core.Bool.{Bool}
 use lib.Dec.{eqb}
 use Rattle.judging.specs.declared.fault.Fault.{Fault}
-use Rattle.judging.specs.declared.fault.Fault.the-variants.{None, Width, Length, HighBit, RowZero, RowPair, Triple, RowSum, TurnCount, InverseOfZero, TraceOne, OutputShort, CardEnds, CardNumber, CardForm, CardPlace, CardTail, NoType, BadGate}
+use Rattle.judging.specs.declared.fault.Fault.the-variants.{None, Width, Length, HighBit, RowZero, RowPair, Triple, RowSum, TurnCount, InverseOfZero, TraceOne, OutputShort, Card, NoType, BadGate}
+use Rattle.judging.specs.declared.fault.CardFault.{CardFault}
+use Rattle.judging.specs.declared.fault.CardFault.the-variants.{Ends, Number, Form, Place, Tail}
 use Rattle.judging.specs.declared.fault.FaultNumber.{FaultNumber}
+
+-- the same, of what is found in a card
+abbrev pub cardNumberOf : CardFault → FaultNumber
+cardNumberOf Ends = (12, 0, 0)
+cardNumberOf Number = (13, 0, 0)
+cardNumberOf Form = (14, 0, 0)
+cardNumberOf Place = (15, 0, 0)
+cardNumberOf Tail = (16, 0, 0)
 
 -- the columns Number and Returned of document 01's table of faults: the number, 0 where there is no fault, and what is returned beside it
 abbrev pub numberOf : Fault → FaultNumber
@@ -19,14 +29,26 @@ numberOf TurnCount = (8, 0, 0)
 numberOf InverseOfZero = (9, 0, 0)
 numberOf TraceOne = (10, 0, 0)
 numberOf OutputShort = (11, 0, 0)
-numberOf CardEnds = (12, 0, 0)
-numberOf CardNumber = (13, 0, 0)
-numberOf CardForm = (14, 0, 0)
-numberOf CardPlace = (15, 0, 0)
-numberOf CardTail = (16, 0, 0)
+numberOf (Card c) = cardNumberOf c
 numberOf NoType = (17, 0, 0)
 numberOf BadGate = (18, 0, 0)
 
 -- no number is given
 unfoldable pub isNone : Fault → Bool
 isNone f = eqb (numberOf f .0) 0
+
+-- 12 to 16, as the rules of a card name them
+abbrev pub cardEnds : Fault
+cardEnds = Card Ends
+
+abbrev pub cardNumber : Fault
+cardNumber = Card Number
+
+abbrev pub cardForm : Fault
+cardForm = Card Form
+
+abbrev pub cardPlace : Fault
+cardPlace = Card Place
+
+abbrev pub cardTail : Fault
+cardTail = Card Tail

@@ -1,8 +1,18 @@
 // The faults of document 01: the enum, and each one's number and values.
 ghost use mathlib.Core.Path.{_≡_};
-ghost use Rattle.judging.specs.Faults.{numberOf, isNone};
+ghost use Rattle.judging.specs.Faults.{cardNumberOf, numberOf, isNone};
 
-// A variant for each number of document 01's table, in its order, and one for none.
+// What is found in a card, byte by byte.
+pub enum CardFault {
+    Ends,
+    Number,
+    Form,
+    Place,
+    Tail,
+}
+
+// A variant for each number of document 01's table, in its order, and one for none. At most sixteen to an enum: a match on so many needs no
+// proof of its own.
 pub enum Fault {
     None,
     Width,
@@ -16,11 +26,7 @@ pub enum Fault {
     InverseOfZero,
     TraceOne,
     OutputShort,
-    CardEnds,
-    CardNumber,
-    CardForm,
-    CardPlace,
-    CardTail,
+    Card(CardFault),
     NoType,
     BadGate,
 }
@@ -28,8 +34,20 @@ pub enum Fault {
 // A fault's number, 0 for none, and the two values returned beside it.
 pub struct FaultNumber(pub usize, pub usize, pub usize);
 
+fn card_number(c: CardFault) -> FaultNumber
+    ensures { λ r. ⌜ (r .0 ≡ cardNumberOf c .0) × (r .1 ≡ cardNumberOf c .1) × (r .2 ≡ cardNumberOf c .2) ⌝ }
+{
+    match c {
+        CardFault::Ends => FaultNumber(12, 0, 0),
+        CardFault::Number => FaultNumber(13, 0, 0),
+        CardFault::Form => FaultNumber(14, 0, 0),
+        CardFault::Place => FaultNumber(15, 0, 0),
+        CardFault::Tail => FaultNumber(16, 0, 0),
+    }
+}
+
 pub fn number(f: Fault) -> FaultNumber
-    ensures { λ r. ⌜ r ≡ numberOf f ⌝ }
+    ensures { λ r. ⌜ (r .0 ≡ numberOf f .0) × (r .1 ≡ numberOf f .1) × (r .2 ≡ numberOf f .2) ⌝ }
 {
     match f {
         Fault::None => FaultNumber(0, 0, 0),
@@ -44,11 +62,7 @@ pub fn number(f: Fault) -> FaultNumber
         Fault::InverseOfZero => FaultNumber(9, 0, 0),
         Fault::TraceOne => FaultNumber(10, 0, 0),
         Fault::OutputShort => FaultNumber(11, 0, 0),
-        Fault::CardEnds => FaultNumber(12, 0, 0),
-        Fault::CardNumber => FaultNumber(13, 0, 0),
-        Fault::CardForm => FaultNumber(14, 0, 0),
-        Fault::CardPlace => FaultNumber(15, 0, 0),
-        Fault::CardTail => FaultNumber(16, 0, 0),
+        Fault::Card(c) => card_number(c),
         Fault::NoType => FaultNumber(17, 0, 0),
         Fault::BadGate => FaultNumber(18, 0, 0),
     }

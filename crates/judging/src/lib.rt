@@ -2,6 +2,7 @@
 mod fault;
 mod parts;
 
+pub use fault::CardFault;
 pub use fault::Fault;
 pub use fault::FaultNumber;
 pub use fault::is_none;

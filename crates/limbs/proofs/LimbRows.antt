@@ -3,8 +3,7 @@
 -- Counts: the ones of a limb, of limbs, of bytes.
 -- Rows: a row of a table, as far as the table goes.
 use mathlib.Core.Path.{_≡_, refl, sym, ap, ap₂, _∙_}
-use mathlib.Core.Bool.{true, false, _&&_}
-use mathlib.Core.List.{List, []}
+use mathlib.Core.List.{List}
 use Prim.Native.Nat.{ℕ, zero, suc, _+_, _-_, _*_, _/_, _%_, _^_, _<_, _≤_}
 use native.Mathlib.Nat.{add-zero, zero-div, lt-of-le-of-lt, mul-le-mul, mod-add-mod, mod-eq-of-lt, pow-suc}
 use native.Mathlib.Decide.{decLt, ℕ-discrete}

@@ -4,7 +4,7 @@ use mathlib.Core.List.{List, [], _∷_, _++_}
 use Prim.Native.Nat.{ℕ}
 use Rattle.gf2.specs.Operands.{bytesFor, carriedBytes}
 use Rattle.judging.specs.Causes.{Cause}
-use Rattle.judging.specs.FaultTable.{badWidth, badLength, notW, notTable, highBit, highBitInRow, isZero, rowPairCauses, ruleCauses}
+use Rattle.judging.specs.FaultTable.{badWidth, badLength, notW, notTable, highBit, highBitInRow, isZero, ruleCauses}
 use Rattle.operand.specs.declared.Operand.{Operand}
 
 -- a table and two operands: "An operand whose carried width isn't that of the table, or of the other operand, gets 2"

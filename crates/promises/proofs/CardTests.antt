@@ -10,10 +10,10 @@ use lib.Dec.{ltb, leb, eqb}
 use lib.ListN.{length}
 use borrow.Author.Tests.{ltb-true, ltb-false, lt-ltb, le-ltb, leb-true, leb-false, le-leb, lt-leb, eqb-true, eqb-false, eq-eqb, ne-eqb}
 use Rattle.judging.specs.declared.fault.Fault.{Fault}
-use Rattle.judging.specs.declared.fault.Fault.the-variants.{None, Width, OutputShort, CardNumber, CardForm, CardPlace, CardTail}
+use Rattle.judging.specs.declared.fault.Fault.the-variants.{None, Width, OutputShort}
 use Rattle.gf2.specs.Operands.{maxWidth, bytesFor, choose}
 use Rattle.gf2.proofs.Operands.{from-operand}
-use Rattle.judging.specs.Faults.{isNone}
+use Rattle.judging.specs.Faults.{isNone, cardNumber, cardForm, cardPlace, cardTail}
 use Rattle.card.specs.Numbers.{Read, refused, got, andThen, secondGroup, readNumber}
 use Rattle.card.specs.Rows.{steps, onesOf, after, readPlaces, readRow, isPlace, rowOf, readRows}
 use Rattle.card.specs.Cards.{lentCauses, lentFault, readWidth, readHead, Table, ended, readCard}
@@ -44,7 +44,7 @@ unfolding secondGroup
 second-refused low [] f l e = noSecond low l refl (refused-is e)
 second-refused low (high ∷ rest) f l e = go (eqb high 0) (ltb high 128) refl refl e
   where
-    go : (z t : Bool) → eqb high 0 ≡ z → ltb high 128 ≡ t → choose z (refused CardNumber) (choose t (got (low - 128 + high * 128) rest) (refused CardNumber)) ≡ refused f → BadNumber (low ∷ high ∷ rest) f
+    go : (z t : Bool) → eqb high 0 ≡ z → ltb high 128 ≡ t → choose z (refused cardNumber) (choose t (got (low - 128 + high * 128) rest) (refused cardNumber)) ≡ refused f → BadNumber (low ∷ high ∷ rest) f
     go true t p q e = badSecond low high rest l refl (inl (eqb-true high 0 p)) (refused-is e)
     go false true p q e = no-fault e
     go false false p q e = badSecond low high rest l refl (inr (ltb-false high 128 q)) (refused-is e)
@@ -101,13 +101,13 @@ places-refused : (m free count : ℕ) (s : List ℕ) (f : Fault) → Bytes s →
 unfolding readPlaces steps
 places-refused m free zero s f small e = no-fault e
 places-refused m free (suc count) s f small e =
-    elim (fails (readNumber s) (λ step r. choose (ltb (free + step) m) (after ((free + step) ∷ []) (readPlaces m (free + step + 1) count r)) (refused CardPlace)) e) [
+    elim (fails (readNumber s) (λ step r. choose (ltb (free + step) m) (after ((free + step) ∷ []) (readPlaces m (free + step + 1) count r)) (refused cardPlace)) e) [
       | inl q ↦ record { ps = []; rest = s; fewer = omega arith; ordered = tt; areSteps = refl; bad = noPlace (number-refused s f q) }
       | inr w ↦
           let k = w .0 in
           let r = w .1 in
           let n = number-got k s r small (w .2) in
-          elim (unpassed (ltb (free + k) m) (after ((free + k) ∷ []) (readPlaces m (free + k + 1) count r)) CardPlace (w .3)) [
+          elim (unpassed (ltb (free + k) m) (after ((free + k) ∷ []) (readPlaces m (free + k + 1) count r)) cardPlace (w .3)) [
             | inl t ↦
                 let h = places-refused m (free + k + 1) count r f (n .1) (after-refused ((free + k) ∷ []) _ (t .1)) in
                 let few = h .fewer in
@@ -144,13 +144,13 @@ places-bad m free (suc count) (p ∷ ps) s rest f w l o e b =
 row-refused : (m : ℕ) (s : List ℕ) (f : Fault) → Bytes s → readRow m s ≡ refused f → BadRow m s f
 unfolding readRow
 row-refused m s f small e =
-    elim (fails (readNumber s) (λ count r. choose (leb count m) (readPlaces m 0 count r) (refused CardPlace)) e) [
+    elim (fails (readNumber s) (λ count r. choose (leb count m) (readPlaces m 0 count r) (refused cardPlace)) e) [
       | inl q ↦ noCount (number-refused s f q)
       | inr w ↦
           let k = w .0 in
           let r = w .1 in
           let n = number-got k s r small (w .2) in
-          elim (unpassed (leb k m) (readPlaces m 0 k r) CardPlace (w .3)) [
+          elim (unpassed (leb k m) (readPlaces m 0 k r) cardPlace (w .3)) [
             | inl t ↦
                 let h = places-refused m 0 k r f (n .1) (t .1) in
                 atPlace k r (h .ps) (h .rest) (n .0) (leb-true k m (t .0)) (h .fewer) (h .ordered) (h .areSteps) (h .bad)
@@ -247,13 +247,13 @@ lent-short room m least greatest short = go (decides (lentCauses room m) (lentFa
 head-refused : (room : ℕ) (s : List ℕ) (f : Fault) → Bytes s → readHead room s ≡ refused f → BadCard room s f
 unfolding readHead readWidth
 head-refused room s f small e =
-    elim (fails (readNumber s) (λ form r. choose (eqb form 1) (readWidth room r) (refused CardForm)) e) [
+    elim (fails (readNumber s) (λ form r. choose (eqb form 1) (readWidth room r) (refused cardForm)) e) [
       | inl q ↦ noForm (number-refused s f q)
       | inr w ↦
           let form = w .0 in
           let middle = w .1 in
           let n = number-got form s middle small (w .2) in
-          elim (unpassed (eqb form 1) (readWidth room middle) CardForm (w .3)) [
+          elim (unpassed (eqb form 1) (readWidth room middle) cardForm (w .3)) [
             | inl t ↦
                 let one : Stands 1 s middle = rw (eqb-true form 1 (t .0)) at (n .0) in
                 elim (fails (readNumber middle) (λ m r. choose (isNone (lentFault room m)) (got m r) (refused (lentFault room m))) (t .1)) [
@@ -291,7 +291,7 @@ head-stands room s m rest h = rw (
 
 -- the whole card
 ended-refused : (m : ℕ) (x : Read (List ℕ)) {f : Fault} → ended m x ≡ refused f →
-    (x ≡ refused f) ⊎ ((t : List ℕ) × (b : ℕ) × (rest : List ℕ) × (x ≡ got t (b ∷ rest)) × (f ≡ CardTail))
+    (x ≡ refused f) ⊎ ((t : List ℕ) × (b : ℕ) × (rest : List ℕ) × (x ≡ got t (b ∷ rest)) × (f ≡ cardTail))
 ended-refused m (refused g) e = inl (ap refused (sym (refused-is e)))
 ended-refused m (got t []) e = no-fault e
 ended-refused m (got t (b ∷ rest)) e = inr (t, b, rest, refl, refused-is e)

@@ -8,11 +8,12 @@ use lib.ListN.{length}
 use Rattle.gf2.specs.Operands.{maxWidth, bytesFor, IsOperand}
 use Rattle.gf2.specs.Tables.{IsTable}
 use Rattle.judging.specs.declared.fault.Fault.{Fault}
-use Rattle.judging.specs.declared.fault.Fault.the-variants.{None, Width, OutputShort, CardEnds, CardNumber, CardForm, CardPlace, CardTail}
+use Rattle.judging.specs.declared.fault.Fault.the-variants.{None, Width, OutputShort}
 use Rattle.card.specs.Numbers.{number, numberLimit}
 use Rattle.card.specs.Rows.{steps, rowCard}
 use Rattle.card.specs.Cards.{card}
 use Rattle.judging.specs.FaultTable.{BadWidth}
+use Rattle.judging.specs.Faults.{cardEnds, cardNumber, cardForm, cardPlace, cardTail}
 
 -- "Numbers are in seven-bit groups, .. shortest form, at most two groups": the number n stands in s before the rest
 pub record Stands (n : ℕ) (s rest : List ℕ) : Type 0 where
@@ -22,11 +23,11 @@ pub record Stands (n : ℕ) (s rest : List ℕ) : Type 0 where
 -- no number stands in front of s, and f is the fault
 pub data BadNumber (s : List ℕ) (f : Fault) : Type 0 where
   -- 12: "card ends early"
-  noGroup : s ≡ [] → f ≡ CardEnds → BadNumber s f
+  noGroup : s ≡ [] → f ≡ cardEnds → BadNumber s f
   -- 12: "high bit set when another follows", and none does
-  noSecond : (low : ℕ) → 128 ≤ low → s ≡ low ∷ [] → f ≡ CardEnds → BadNumber s f
+  noSecond : (low : ℕ) → 128 ≤ low → s ≡ low ∷ [] → f ≡ cardEnds → BadNumber s f
   -- 13: "card number not shortest, or third group"
-  badSecond : (low high : ℕ) (rest : List ℕ) → 128 ≤ low → s ≡ low ∷ high ∷ rest → (high ≡ 0) ⊎ (128 ≤ high) → f ≡ CardNumber → BadNumber s f
+  badSecond : (low high : ℕ) (rest : List ℕ) → 128 ≤ low → s ≡ low ∷ high ∷ rest → (high ≡ 0) ⊎ (128 ≤ high) → f ≡ cardNumber → BadNumber s f
 
 -- places of a row, each `free` or above and above those before it, all below m
 abbrev pub Ordered : ℕ → ℕ → List ℕ → Type 0
@@ -42,13 +43,13 @@ freeAfter free (p ∷ ps) = freeAfter (p + 1) ps
 pub data BadPlace (m free : ℕ) (s : List ℕ) (f : Fault) : Type 0 where
   noPlace : BadNumber s f → BadPlace m free s f
   -- 15: "place m or above"
-  placeAbove : (gap : ℕ) (rest : List ℕ) → Stands gap s rest → m ≤ free + gap → f ≡ CardPlace → BadPlace m free s f
+  placeAbove : (gap : ℕ) (rest : List ℕ) → Stands gap s rest → m ≤ free + gap → f ≡ cardPlace → BadPlace m free s f
 
 -- no row stands in front of s: "its number of ones, the first place, and for each further one its place minus the previous minus 1"
 pub data BadRow (m : ℕ) (s : List ℕ) (f : Fault) : Type 0 where
   noCount : BadNumber s f → BadRow m s f
   -- 15: "count above m"
-  countAbove : (n : ℕ) (rest : List ℕ) → Stands n s rest → m < n → f ≡ CardPlace → BadRow m s f
+  countAbove : (n : ℕ) (rest : List ℕ) → Stands n s rest → m < n → f ≡ cardPlace → BadRow m s f
   -- some places stand, fewer than were counted, and the next does not
   atPlace : (n : ℕ) (middle : List ℕ) (ps rest : List ℕ) → Stands n s middle → n ≤ m → length ps < n → Ordered m 0 ps →
       middle ≡ steps 0 ps ++ rest → BadPlace m (freeAfter 0 ps) rest f → BadRow m s f
@@ -72,7 +73,7 @@ pub record HeadStands (room : ℕ) (s : List ℕ) (m : ℕ) (rest : List ℕ) : 
 pub data BadCard (room : ℕ) (s : List ℕ) (f : Fault) : Type 0 where
   noForm : BadNumber s f → BadCard room s f
   -- 14: "form not 1"
-  otherForm : (form : ℕ) (rest : List ℕ) → Stands form s rest → ¬ (form ≡ 1) → f ≡ CardForm → BadCard room s f
+  otherForm : (form : ℕ) (rest : List ℕ) → Stands form s rest → ¬ (form ≡ 1) → f ≡ cardForm → BadCard room s f
   noWidth : (rest : List ℕ) → Stands 1 s rest → BadNumber rest f → BadCard room s f
   -- 1: "width not 2..255"
   badWidth : (m : ℕ) (middle rest : List ℕ) → Stands 1 s middle → Stands m middle rest → BadWidth m → f ≡ Width → BadCard room s f
@@ -82,7 +83,7 @@ pub data BadCard (room : ℕ) (s : List ℕ) (f : Fault) : Type 0 where
   -- some rows stand, fewer than m, and the next does not
   atRow : (m d : ℕ) (middle rest : List ℕ) → HeadStands room s m middle → d < m → RowsStand m d middle rest → BadRow m rest f → BadCard room s f
   -- 16: "bytes after the card"
-  bytesAfter : (m b : ℕ) (middle rest : List ℕ) → HeadStands room s m middle → RowsStand m m middle (b ∷ rest) → f ≡ CardTail → BadCard room s f
+  bytesAfter : (m b : ℕ) (middle rest : List ℕ) → HeadStands room s m middle → RowsStand m m middle (b ∷ rest) → f ≡ cardTail → BadCard room s f
 
 -- s is the card of a table of width m that has room
 pub record GoodCard (room : ℕ) (s : List ℕ) (m : ℕ) (table : List ℕ) : Type 0 where

@@ -12,7 +12,7 @@ use Rattle.gf2.specs.Products.{product, reduced}
 use Rattle.gf2.specs.Inverse.{inverse, productsMade}
 use Rattle.judging.specs.declared.fault.Fault.the-variants.{None}
 use Rattle.judging.specs.Causes.{faultOf}
-use Rattle.judging.specs.FaultTable.{shapeCauses, ruleCauses, symmetryCauses, checkCauses}
+use Rattle.judging.specs.FaultTable.{shapeCauses, symmetryCauses, checkCauses}
 use Rattle.operand.specs.Causes.{bytesCauses, constantCauses, turnBytesCauses, sumBytesCauses, solveBytesCauses}
 use Rattle.operand.specs.Calls.{zeroInto, oneInto, turnInto, sumInto, solveInto}
 use Rattle.product.specs.Causes.{productBytesCauses, reducedBytesCauses, inverseBytesCauses}

@@ -38,6 +38,4 @@ returns-2 c =
     (s .judge-draw .ensures, rw (judged (drawCauses _ _) [] (fault-drawn _ _ (s .judge-draw .ensures)) (c .before .is-none .ensures) (c .if1 .left)))
 
 pub draw-spec : {M : Type 1} → statement M
-draw-spec =
-    tie.close
-    (tie.spec (λ c κs. search needs) (λ c κs. search needs) fill-requires (λ c. search needs) returns returns-2)
+draw-spec = tie.close (tie.spec (λ c κs. search needs) (λ c κs. search needs) fill-requires (λ c. search needs) returns returns-2)

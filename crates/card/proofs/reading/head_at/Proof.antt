@@ -14,13 +14,4 @@ returns-3 : tie.Need-returns-3
 returns-3 c = head-form _ _ (got-of _ (c .before .before .before .before .number-at .ensures) (c .before .before .form .given .1)) (c .if1 .left)
 
 pub head-at-spec : {M : Type 1} → statement M
-head-at-spec =
-    tie.close
-    (tie.spec
-    (λ c κs. search needs)
-    (λ c. search needs)
-    (λ c. search needs)
-    (λ c κs. search needs)
-    returns
-    returns-2
-    returns-3)
+head-at-spec = tie.close (tie.spec (λ c κs. search needs) (λ c. search needs) (λ c. search needs) (λ c κs. search needs) returns returns-2 returns-3)

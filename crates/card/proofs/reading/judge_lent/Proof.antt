@@ -39,13 +39,4 @@ returns-3 c =
     (sym (none-given (short ∷ []) (room-passes _ _ (rw (c .before .bytes-for .ensures) at (c .if2 .left)), tt)))
 
 pub judge-lent-spec : {M : Type 1} → statement M
-judge-lent-spec =
-    tie.close
-    (tie.spec
-    (λ c κs. search needs)
-    (λ c κs. search needs)
-    returns
-    (λ c κs. search needs)
-    mul-if2
-    returns-2
-    returns-3)
+judge-lent-spec = tie.close (tie.spec (λ c κs. search needs) (λ c κs. search needs) returns (λ c κs. search needs) mul-if2 returns-2 returns-3)

@@ -37,18 +37,5 @@ returns-6 c = sym (number-long _ _ (c .before .before .before .before .before .b
 pub number-at-spec : {M : Type 1} → statement M
 number-at-spec =
     tie.close
-    (tie.spec
-    returns
-    (λ c. search needs)
-    cast-low
-    (λ c. search needs)
-    returns-2
-    returns-3
-    (λ c. search needs)
-    cast-high
-    returns-4
-    (λ c. search needs)
-    add-t17
-    (λ c. search needs)
-    returns-5
-    returns-6)
+    (tie.spec returns (λ c. search needs) cast-low (λ c. search needs) returns-2 returns-3 (λ c. search needs) cast-high returns-4 (λ c. search needs) add-t17
+    (λ c. search needs) returns-5 returns-6)

@@ -50,17 +50,5 @@ returns-4 c =
 pub read-spec : {M : Type 1} → statement M
 read-spec =
     tie.close
-    (tie.spec
-    (λ c κs. search needs)
-    (λ c. search needs)
-    (λ c. search needs)
-    (λ c. search needs)
-    rows-at-requires
-    (λ c. search needs)
-    (λ c. search needs)
-    rows-at-requires-2
-    returns
-    returns-2
-    returns-3
-    (λ c. search needs)
-    returns-4)
+    (tie.spec (λ c κs. search needs) (λ c. search needs) (λ c. search needs) (λ c. search needs) rows-at-requires (λ c. search needs) (λ c. search needs)
+    rows-at-requires-2 returns returns-2 returns-3 (λ c. search needs) returns-4)

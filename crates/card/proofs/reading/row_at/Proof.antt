@@ -15,13 +15,4 @@ returns-3 : tie.Need-returns-3
 returns-3 c = row-far _ _ (got-of _ (c .before .before .before .before .number-at .ensures) (c .before .before .count .given .1)) (omega arith)
 
 pub row-at-spec : {M : Type 1} → statement M
-row-at-spec =
-    tie.close
-    (tie.spec
-    (λ c κs. search needs)
-    (λ c. search needs)
-    (λ c. search needs)
-    (λ c κs. search needs)
-    returns
-    returns-2
-    returns-3)
+row-at-spec = tie.close (tie.spec (λ c κs. search needs) (λ c. search needs) (λ c. search needs) (λ c κs. search needs) returns returns-2 returns-3)

@@ -62,21 +62,5 @@ returns-2 c = rows-done (c .before .loop .inv) (c .loop-test .left)
 pub rows-at-spec : {M : Type 1} → statement M
 rows-at-spec =
     tie.close
-    (tie.spec
-    Inv-loop
-    μ-loop
-    (λ c κs. search needs)
-    mul-from
-    loop-holds
-    (λ c κs. search needs)
-    (λ c. search needs)
-    same-length
-    returns
-    (λ c. search needs)
-    put-bytes-requires
-    add-from
-    (λ c. search needs)
-    (λ c. search needs)
-    loop-again
-    same-length-2
-    returns-2)
+    (tie.spec Inv-loop μ-loop (λ c κs. search needs) mul-from loop-holds (λ c κs. search needs) (λ c. search needs) same-length returns (λ c. search needs)
+    put-bytes-requires add-from (λ c. search needs) (λ c. search needs) loop-again same-length-2 returns-2)

@@ -26,6 +26,4 @@ returns c =
     card-put _ _ (f .put-number .ensures) (w .put-number2 .ensures) (r .put-rows .ensures)
 
 pub put-card-spec : {M : Type 1} → statement M
-put-card-spec =
-    tie.close
-    (tie.spec (λ c κs. search needs) put-number-requires-2 put-rows-requires (λ c. search needs) returns)
+put-card-spec = tie.close (tie.spec (λ c κs. search needs) put-number-requires-2 put-rows-requires (λ c. search needs) returns)

@@ -43,16 +43,5 @@ returns c = steps-done (c .before .loop .inv) (c .loop-test .left)
 pub put-places-spec : {M : Type 1} → statement M
 put-places-spec =
     tie.close
-    (tie.spec
-    Inv-loop
-    μ-loop
-    loop-holds
-    (λ c κs. search needs)
-    sub-put-number
-    put-number-requires
-    add-free
-    (λ c. search needs)
-    (λ c. search needs)
-    loop-again
-    same-length
-    returns)
+    (tie.spec Inv-loop μ-loop loop-holds (λ c κs. search needs) sub-put-number put-number-requires add-free (λ c. search needs) (λ c. search needs) loop-again
+    same-length returns)

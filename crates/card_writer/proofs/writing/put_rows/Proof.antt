@@ -35,14 +35,4 @@ returns c = rows-done (c .before .loop .inv) (c .loop-test .left)
 pub put-rows-spec : {M : Type 1} → statement M
 put-rows-spec =
     tie.close
-    (tie.spec
-    Inv-loop
-    μ-loop
-    loop-holds
-    (λ c. search needs)
-    put-row-requires
-    (λ c. search needs)
-    (λ c. search needs)
-    loop-again
-    same-length
-    returns)
+    (tie.spec Inv-loop μ-loop loop-holds (λ c. search needs) put-row-requires (λ c. search needs) (λ c. search needs) loop-again same-length returns)

@@ -50,13 +50,5 @@ returns-3 c =
 pub write-spec : {M : Type 1} → statement M
 write-spec =
     tie.close
-    (tie.spec
-    (λ c κs. search needs)
-    (λ c κs. search needs)
-    returns
-    (λ c. search needs)
-    put-card-requires
-    returns-2
-    put-card-requires-2
-    (λ c. search needs)
+    (tie.spec (λ c κs. search needs) (λ c κs. search needs) returns (λ c. search needs) put-card-requires returns-2 put-card-requires-2 (λ c. search needs)
     returns-3)

@@ -32,14 +32,5 @@ returns-4 c =
 pub add-image-spec : {M : Type 1} → statement M
 add-image-spec =
     tie.close
-    (tie.spec
-    (λ c κs. search needs)
-    (λ c. search needs)
-    returns
-    returns-2
-    (λ c κs. search needs)
-    (λ c. search needs)
-    flip-requires
-    (λ c. search needs)
-    returns-3
-    returns-4)
+    (tie.spec (λ c κs. search needs) (λ c. search needs) returns returns-2 (λ c κs. search needs) (λ c. search needs) flip-requires (λ c. search needs)
+    returns-3 returns-4)

@@ -55,18 +55,5 @@ returns c = term-done (c .before .loop .inv) (omega arith)
 pub add-images-spec : {M : Type 1} → statement M
 add-images-spec =
     tie.close
-    (tie.spec
-    Inv-loop
-    μ-loop
-    modulus-requires
-    loop-holds
-    add-add-image
-    rem-add-image
-    add-image-requires
-    mul-y
-    rem-y
-    (λ c. search needs)
-    (λ c. search needs)
-    loop-again
-    same-length
-    returns)
+    (tie.spec Inv-loop μ-loop modulus-requires loop-holds add-add-image rem-add-image add-image-requires mul-y rem-y (λ c. search needs) (λ c. search needs)
+    loop-again same-length returns)

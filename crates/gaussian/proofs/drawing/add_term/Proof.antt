@@ -16,6 +16,4 @@ returns-2 : tie.Need-returns-2
 returns-2 c = term-out _ _ _ _ _ (rw (c .before .before .modulus .ensures) at (c .before .power .ensures)) (c .if1 .left)
 
 pub add-term-spec : {M : Type 1} → statement M
-add-term-spec =
-    tie.close
-    (tie.spec (λ c κs. search needs) power-requires (λ c κs. search needs) (λ c. search needs) returns returns-2)
+add-term-spec = tie.close (tie.spec (λ c κs. search needs) power-requires (λ c κs. search needs) (λ c. search needs) returns returns-2)

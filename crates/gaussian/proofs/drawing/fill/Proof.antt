@@ -65,17 +65,5 @@ returns c = sum-done _ _ _ (c .before .loop .inv .0) (omega (arith, c .before .b
 pub fill-spec : {M : Type 1} → statement M
 fill-spec =
     tie.close
-    (tie.spec
-    Inv-loop
-    μ-loop
-    (λ c κs. search needs)
-    modulus-requires
-    logarithms-requires
-    loop-holds
-    (λ c. search needs)
-    add-term-requires
-    add-w
-    loop-less
-    loop-again
-    same-length
-    returns)
+    (tie.spec Inv-loop μ-loop (λ c κs. search needs) modulus-requires logarithms-requires loop-holds (λ c. search needs) add-term-requires add-w loop-less
+    loop-again same-length returns)

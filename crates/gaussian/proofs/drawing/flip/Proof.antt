@@ -33,13 +33,4 @@ returns c =
 pub flip-spec : {M : Type 1} → statement M
 flip-spec =
     tie.close
-    (tie.spec
-    (λ c κs. search needs)
-    mul-at
-    add-at
-    slice-read-table
-    (λ c. search needs)
-    (λ c. search needs)
-    slice-write-table
-    (λ c. search needs)
-    returns)
+    (tie.spec (λ c κs. search needs) mul-at add-at slice-read-table (λ c. search needs) (λ c. search needs) slice-write-table (λ c. search needs) returns)

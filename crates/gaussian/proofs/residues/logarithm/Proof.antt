@@ -33,12 +33,4 @@ returns : tie.Need-returns
 returns c = ap (λ y. getD (c .before .before .before .before .args .logs .now) y 0) (rw (c .before .before .modulus .ensures) at (c .before .power .ensures))
 
 pub logarithm-spec : {M : Type 1} → statement M
-logarithm-spec =
-    tie.close
-    (tie.spec
-    modulus-requires
-    power-requires
-    mul-result
-    shared-slice-read-result
-    cast-result
-    returns)
+logarithm-spec = tie.close (tie.spec modulus-requires power-requires mul-result shared-slice-read-result cast-result returns)

@@ -53,19 +53,5 @@ returns c = log-done (c .before .before .before .before .pre) (c .before .loop .
 pub logarithms-spec : {M : Type 1} → statement M
 logarithms-spec =
     tie.close
-    (tie.spec
-    Inv-loop
-    μ-loop
-    modulus-requires
-    power-requires
-    loop-holds
-    add-logs
-    cast-logs
-    mul-logs
-    array-write-logs
-    mul-y
-    rem-y
-    (λ c. search needs)
-    (λ c. search needs)
-    loop-again
-    returns)
+    (tie.spec Inv-loop μ-loop modulus-requires power-requires loop-holds add-logs cast-logs mul-logs array-write-logs mul-y rem-y (λ c. search needs)
+    (λ c. search needs) loop-again returns)

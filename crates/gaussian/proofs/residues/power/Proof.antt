@@ -30,15 +30,4 @@ returns : tie.Need-returns Inv-loop μ-loop
 returns c = power-done (c .before .loop .inv) (omega arith)
 
 pub power-spec : {M : Type 1} → statement M
-power-spec =
-    tie.close
-    (tie.spec
-    Inv-loop
-    μ-loop
-    loop-holds
-    digit-requires
-    mul-square
-    rem-square
-    (λ c. search needs)
-    loop-again
-    returns)
+power-spec = tie.close (tie.spec Inv-loop μ-loop loop-holds digit-requires mul-square rem-square (λ c. search needs) loop-again returns)

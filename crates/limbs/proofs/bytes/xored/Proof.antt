@@ -19,6 +19,4 @@ returns c =
     ∙ ap₂ (λ f g. pack carriedBytes (λ i. f i + g i)) (limbs-same (s .args .x) (c .before .before .before .to-limbs .ensures) sx) (limbs-same (s .args .y) (c .before .before .to-limbs2 .ensures) sy)
 
 pub xored-spec : {M : Type 1} → statement M
-xored-spec =
-    tie.close
-    (tie.spec (λ c κs. search needs) (λ c κs. search needs) (λ c κs. search needs) (λ c κs. search needs) returns)
+xored-spec = tie.close (tie.spec (λ c κs. search needs) (λ c κs. search needs) (λ c κs. search needs) (λ c κs. search needs) returns)

@@ -31,15 +31,4 @@ returns : tie.Need-returns Inv-loop μ-loop
 returns c = let done = c .before .loop .inv .1 in cleared-all done (omega (arith, done .size))
 
 pub clear-rest-spec : {M : Type 1} → statement M
-clear-rest-spec =
-    tie.close
-    (tie.spec
-    Inv-loop
-    μ-loop
-    loop-holds
-    (λ c. search needs)
-    (λ c. search needs)
-    loop-less
-    loop-again
-    same-length
-    returns)
+clear-rest-spec = tie.close (tie.spec Inv-loop μ-loop loop-holds (λ c. search needs) (λ c. search needs) loop-less loop-again same-length returns)

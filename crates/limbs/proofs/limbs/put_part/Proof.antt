@@ -37,16 +37,4 @@ returns : tie.Need-returns Inv-loop μ-loop
 returns c = let done = c .before .loop .inv .1 in put-past done (omega (arith, done .size))
 
 pub put-part-spec : {M : Type 1} → statement M
-put-part-spec =
-    tie.close
-    (tie.spec
-    Inv-loop
-    μ-loop
-    loop-holds
-    byte-of-requires
-    slice-write-out
-    (λ c. search needs)
-    loop-less
-    loop-again
-    same-length
-    returns)
+put-part-spec = tie.close (tie.spec Inv-loop μ-loop loop-holds byte-of-requires slice-write-out (λ c. search needs) loop-less loop-again same-length returns)

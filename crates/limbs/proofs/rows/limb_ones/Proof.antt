@@ -2,7 +2,6 @@
 use native.Mathlib.Omega.{arith}
 use lib.Count.{ones-le}
 use Rattle.limbs.proofs.LimbRows.{count-bits}
-use borrow.Author.Needs.{needs}
 use Rattle.limbs.proofs.rows.limb_ones.Statement.{statement}
 use Rattle.limbs.proofs.rows.limb_ones.Tie as tie
 

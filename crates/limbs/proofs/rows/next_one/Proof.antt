@@ -1,7 +1,6 @@
 -- `limbs::rows::next_one` meets its contract.
 use mathlib.Core.Path.{_≡_, refl, _∙_}
 use Prim.Native.Nat.{_-_, _*_}
-use native.Mathlib.Omega.{arith}
 use Rattle.limbs.specs.Limbs.{carriedLimbs, nextOne}
 use Rattle.limbs.proofs.LimbRows.{next-none, next-some, next-past}
 use borrow.Author.Needs.{needs}
@@ -30,18 +29,5 @@ returns-2 c = next-past _ (c .before .loop .i) (c .loop-test .left) ∙ c .befor
 pub next-one-spec : {M : Type 1} → statement M
 next-one-spec =
     tie.close
-    (tie.spec
-    Inv-loop
-    μ-loop
-    (λ c. refl)
-    (λ c. search needs)
-    (λ c. search needs)
-    (λ c κs. search needs)
-    (λ c. search needs)
-    (λ c. search needs)
-    returns
-    (λ c. search needs)
-    (λ c. search needs)
-    (λ c. search needs)
-    loop-again
-    returns-2)
+    (tie.spec Inv-loop μ-loop (λ c. refl) (λ c. search needs) (λ c. search needs) (λ c κs. search needs) (λ c. search needs) (λ c. search needs) returns
+    (λ c. search needs) (λ c. search needs) (λ c. search needs) loop-again returns-2)

@@ -28,15 +28,5 @@ returns c = ones-all (c .before .loop .inv) (c .loop-test .left)
 pub ones-in-spec : {M : Type 1} → statement M
 ones-in-spec =
     tie.close
-    (tie.spec
-    Inv-loop
-    μ-loop
-    loop-holds
-    (λ c. search needs)
-    (λ c. search needs)
-    (λ c κs. search needs)
-    add-total
-    (λ c. search needs)
-    (λ c. search needs)
-    loop-again
-    returns)
+    (tie.spec Inv-loop μ-loop loop-holds (λ c. search needs) (λ c. search needs) (λ c κs. search needs) add-total (λ c. search needs) (λ c. search needs)
+    loop-again returns)

@@ -20,13 +20,4 @@ returns-2 : tie.Need-returns-2
 returns-2 c = let s = c .before .before in first-here (s .args .columns .now) (s .args .k) (c .before .shared-slice-known .given (s .args .k) .fits) (s .pre .0) (c .if1 .left)
 
 pub first-from-spec : {M : Type 1} → statement M
-first-from-spec =
-    tie.close
-    (tie.spec
-    (λ c. search needs)
-    (λ c. search needs)
-    returns
-    (λ c. search needs)
-    cast-result
-    add-result
-    returns-2)
+first-from-spec = tie.close (tie.spec (λ c. search needs) (λ c. search needs) returns (λ c. search needs) cast-result add-result returns-2)

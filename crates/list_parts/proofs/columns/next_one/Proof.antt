@@ -59,19 +59,5 @@ returns-4 c =
 pub next-one-spec : {M : Type 1} → statement M
 next-one-spec =
     tie.close
-    (tie.spec
-    (λ c. search needs)
-    (λ c. search needs)
-    (λ c. search needs)
-    (λ c. search needs)
-    cast-one
-    add-one
-    returns
-    returns-2
-    (λ c. search needs)
-    (λ c. search needs)
-    cast-one-2
-    mul-one-2
-    sub-one
-    returns-3
-    returns-4)
+    (tie.spec (λ c. search needs) (λ c. search needs) (λ c. search needs) (λ c. search needs) cast-one add-one returns returns-2 (λ c. search needs)
+    (λ c. search needs) cast-one-2 mul-one-2 sub-one returns-3 returns-4)

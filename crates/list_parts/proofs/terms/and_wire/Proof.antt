@@ -18,12 +18,4 @@ cast-result : tie.Need-cast-result
 cast-result c = omega (arith, width-square (c .args .i) (c .args .width) (omega (arith, c .pre .0)) (c .pre .0))
 
 pub and-wire-spec : {M : Type 1} → statement M
-and-wire-spec =
-    tie.close
-    (tie.spec
-    (λ c. search needs)
-    mul-result-2
-    add-result
-    add-result-2
-    cast-result
-    (λ c. search needs))
+and-wire-spec = tie.close (tie.spec (λ c. search needs) mul-result-2 add-result add-result-2 cast-result (λ c. search needs))

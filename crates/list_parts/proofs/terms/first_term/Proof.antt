@@ -20,10 +20,4 @@ returns-2 c =
     (refl, λ out. push-only (not-false (a .square) (c .before .before .if1 .left)) (c .and-wire .ensures ∙ ap₂ (andWire (a .width)) (c .before .minus .ensures .0) (c .before .minus .ensures .0)) (push-first (a .width) (fresh (a .n)) _ out refl))
 
 pub first-term-spec : {M : Type 1} → statement M
-first-term-spec =
-    tie.close
-    (tie.spec
-    returns
-    (λ c κs. search needs)
-    (λ c κs. search needs)
-    returns-2)
+first-term-spec = tie.close (tie.spec returns (λ c κs. search needs) (λ c κs. search needs) returns-2)

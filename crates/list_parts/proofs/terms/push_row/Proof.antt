@@ -58,17 +58,5 @@ returns-2 c =
 pub push-row-spec : {M : Type 1} → statement M
 push-row-spec =
     tie.close
-    (tie.spec
-    (λ c κs. search needs)
-    (λ c. search needs)
-    (λ c κs. search needs)
-    add-start
-    (λ c. search needs)
-    push-run-requires
-    (λ c. search needs)
-    returns
-    sub-push-run
-    push-run-requires-2
-    push-run-requires-3
-    (λ c. search needs)
-    returns-2)
+    (tie.spec (λ c κs. search needs) (λ c. search needs) (λ c κs. search needs) add-start (λ c. search needs) push-run-requires (λ c. search needs) returns
+    sub-push-run push-run-requires-2 push-run-requires-3 (λ c. search needs) returns-2)

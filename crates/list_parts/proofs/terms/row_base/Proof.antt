@@ -33,19 +33,5 @@ returns-2 c = rw (c .if1 .left)
 pub row-base-spec : {M : Type 1} → statement M
 row-base-spec =
     tie.close
-    (tie.spec
-    (λ c. search needs)
-    mul-result-2
-    add-result
-    (λ c. search needs)
-    (λ c. search needs)
-    (λ c. search needs)
-    mul-result-4
-    add-result-2
-    (λ c. search needs)
-    (λ c. search needs)
-    (λ c. search needs)
-    mul-result-6
-    add-result-3
-    returns
-    returns-2)
+    (tie.spec (λ c. search needs) mul-result-2 add-result (λ c. search needs) (λ c. search needs) (λ c. search needs) mul-result-4 add-result-2
+    (λ c. search needs) (λ c. search needs) (λ c. search needs) mul-result-6 add-result-3 returns returns-2)

@@ -79,16 +79,5 @@ returns-3 c =
 pub list-by-spec : {M : Type 1} → statement M
 list-by-spec =
     tie.close
-    (tie.spec
-    (λ c κs. search needs)
-    (λ c κs. search needs)
-    (λ c κs. search needs)
-    returns
-    mul-q
-    add-q
-    add-if2
-    (λ c κs. search needs)
-    returns-2
-    put-list-requires
-    (λ c. search needs)
-    returns-3)
+    (tie.spec (λ c κs. search needs) (λ c κs. search needs) (λ c κs. search needs) returns mul-q add-q add-if2 (λ c κs. search needs) returns-2
+    put-list-requires (λ c. search needs) returns-3)

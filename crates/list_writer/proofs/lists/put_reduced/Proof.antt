@@ -12,6 +12,4 @@ returns c =
     reduced-written (p .before .before .before .before .before .pre) (p .put-pairs .ensures) (q .put-pairs2 .ensures) (f .put-folds .ensures)
 
 pub put-reduced-spec : {M : Type 1} → statement M
-put-reduced-spec =
-    tie.close
-    (tie.spec (λ c κs. search needs) (λ c κs. search needs) (λ c κs. search needs) (λ c. search needs) (λ c. search needs) returns)
+put-reduced-spec = tie.close (tie.spec (λ c κs. search needs) (λ c κs. search needs) (λ c κs. search needs) (λ c. search needs) (λ c. search needs) returns)

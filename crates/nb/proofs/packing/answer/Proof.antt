@@ -1,8 +1,7 @@
 -- `nb::packing::answer` meets its contract.
-use mathlib.Core.Path.{sym, ap, _∙_}
+use mathlib.Core.Path.{sym, _∙_}
 use native.Mathlib.Omega.{arith}
-use Rattle.judging.specs.declared.fault.FaultNumber.{FaultNumber}
-use Rattle.nb.specs.Packing.{packed, packedFault, packedAnswer}
+use Rattle.nb.specs.Packing.{packedFault, packedAnswer}
 use Rattle.nb.proofs.PackLaws.{small-of}
 use borrow.Author.Needs.{needs}
 use Rattle.nb.proofs.packing.answer.Statement.{statement}
@@ -19,13 +18,14 @@ pack-requires-2 : tie.Need-pack-requires-2
 pack-requires-2 c κs =
     let s = c .before .before .before in
     let room = small-of (s .args .fault) (s .pre .0) in
-    rw (c .number .ensures) (room .number, room .first, room .second)
+    let e = c .number .ensures in
+    (rw (e .0) (room .number), rw (e .1) (room .first), rw (e .2) (room .second))
 
 returns-2 : tie.Need-returns-2
 unfolding packedAnswer packedFault
-returns-2 c = rw (sym (c .before .before .before .is-none .ensures) ∙ c .before .before .if1 .left) (c .pack2 .ensures ∙ ap (λ (n : FaultNumber). packed (n .0) (n .1) (n .2)) (c .before .number .ensures))
+returns-2 c =
+    let e = c .before .number .ensures in
+    rw (sym (c .before .before .before .is-none .ensures) ∙ c .before .before .if1 .left, c .pack2 .ensures, e .0, e .1, e .2)
 
 pub answer-spec : {M : Type 1} → statement M
-answer-spec =
-    tie.close
-    (tie.spec (λ c κs. search needs) pack-requires returns (λ c κs. search needs) pack-requires-2 returns-2)
+answer-spec = tie.close (tie.spec (λ c κs. search needs) pack-requires returns (λ c κs. search needs) pack-requires-2 returns-2)

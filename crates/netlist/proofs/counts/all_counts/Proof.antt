@@ -24,11 +24,5 @@ returns-2 c =
 pub all-counts-spec : {M : Type 1} → statement M
 all-counts-spec =
     tie.close
-    (tie.spec
-    (λ c κs. search needs)
-    (λ c κs. search needs)
-    (λ c κs. passed c)
-    (λ c κs. passed (c .before))
-    (λ c κs. passed (c .before .before))
-    returns
+    (tie.spec (λ c κs. search needs) (λ c κs. search needs) (λ c κs. passed c) (λ c κs. passed (c .before)) (λ c κs. passed (c .before .before)) returns
     returns-2)

@@ -29,6 +29,4 @@ returns-2 c =
     rw (judged (operandCauses _) [] (s .before .judge-operand .ensures) (s .is-none .ensures) (c .if1 .left), s .before .judge-operand .ensures)
 
 pub trace-spec : {M : Type 1} → statement M
-trace-spec =
-    tie.close
-    (tie.spec (λ c κs. search needs) (λ c κs. search needs) (λ c κs. search needs) (λ c. search needs) returns returns-2)
+trace-spec = tie.close (tie.spec (λ c κs. search needs) (λ c κs. search needs) (λ c κs. search needs) (λ c. search needs) returns returns-2)

@@ -67,15 +67,5 @@ returns-3 c =
 pub turn-into-spec : {M : Type 1} → statement M
 turn-into-spec =
     tie.close
-    (tie.spec
-    (λ c κs. search needs)
-    (λ c κs. search needs)
-    returns
-    (λ c κs. search needs)
-    (λ c κs. search needs)
-    (λ c κs. search needs)
-    turned-requires
-    (λ c κs. search needs)
-    (λ c. search needs)
-    returns-2
-    returns-3)
+    (tie.spec (λ c κs. search needs) (λ c κs. search needs) returns (λ c κs. search needs) (λ c κs. search needs) (λ c κs. search needs) turned-requires
+    (λ c κs. search needs) (λ c. search needs) returns-2 returns-3)

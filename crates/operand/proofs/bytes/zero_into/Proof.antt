@@ -31,6 +31,4 @@ returns-2 c =
     (s .before .judge-size .ensures, kept (faultOf cs) (zeroes (bytesFor m) m) (a .result .now) (judged cs [] (s .before .judge-size .ensures) (s .is-none .ensures) (c .if1 .left)))
 
 pub zero-into-spec : {M : Type 1} → statement M
-zero-into-spec =
-    tie.close
-    (tie.spec (λ c κs. search needs) (λ c κs. search needs) (λ c κs. search needs) (λ c. search needs) returns returns-2)
+zero-into-spec = tie.close (tie.spec (λ c κs. search needs) (λ c κs. search needs) (λ c κs. search needs) (λ c. search needs) returns returns-2)

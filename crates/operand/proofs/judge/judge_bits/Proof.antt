@@ -16,6 +16,4 @@ returns-2 c =
     follows (highBit _ _ ∷ []) (highBit _ _ ∷ []) (s .before .judge-high .ensures) (s .is-none .ensures) (not-false _ (c .before .if1 .left)) (c .judge-high2 .ensures)
 
 pub judge-bits-spec : {M : Type 1} → statement M
-judge-bits-spec =
-    tie.close
-    (tie.spec (λ c κs. search needs) (λ c κs. search needs) returns (λ c κs. search needs) returns-2)
+judge-bits-spec = tie.close (tie.spec (λ c κs. search needs) (λ c κs. search needs) returns (λ c κs. search needs) returns-2)

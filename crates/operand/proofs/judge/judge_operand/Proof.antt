@@ -16,6 +16,4 @@ returns-2 c =
     follows (badWidth _ ∷ []) (highBit _ _ ∷ []) (s .before .judge-width .ensures) (s .is-none .ensures) (not-false _ (c .before .if1 .left)) (c .judge-high .ensures)
 
 pub judge-operand-spec : {M : Type 1} → statement M
-judge-operand-spec =
-    tie.close
-    (tie.spec (λ c. search needs) (λ c κs. search needs) (λ c κs. search needs) returns (λ c κs. search needs) returns-2)
+judge-operand-spec = tie.close (tie.spec (λ c. search needs) (λ c κs. search needs) (λ c κs. search needs) returns (λ c κs. search needs) returns-2)

@@ -29,6 +29,4 @@ returns-3 c =
     (rw (ne-eqb _ 1 (λ e. c .if2 .left (c .before .trace .ensures ∙ e))))
 
 pub judge-solve-spec : {M : Type 1} → statement M
-judge-solve-spec =
-    tie.close
-    (tie.spec (λ c κs. search needs) (λ c κs. search needs) returns (λ c κs. search needs) returns-2 returns-3)
+judge-solve-spec = tie.close (tie.spec (λ c κs. search needs) (λ c κs. search needs) returns (λ c κs. search needs) returns-2 returns-3)

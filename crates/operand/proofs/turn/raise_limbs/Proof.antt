@@ -25,13 +25,4 @@ returns c = let s = c .before .before in moved-all (moves-up carriedLimbs (s .ar
 pub raise-limbs-spec : {M : Type 1} → statement M
 raise-limbs-spec =
     tie.close
-    (tie.spec
-    Inv-loop
-    μ-loop
-    loop-holds
-    (λ c. search needs)
-    (λ c κs. search needs)
-    (λ c. search needs)
-    (λ c. search needs)
-    loop-again
-    returns)
+    (tie.spec Inv-loop μ-loop loop-holds (λ c. search needs) (λ c κs. search needs) (λ c. search needs) (λ c. search needs) loop-again returns)

@@ -24,11 +24,4 @@ returns c =
 pub doubling-step-spec : {M : Type 1} → statement M
 doubling-step-spec =
     tie.close
-    (tie.spec
-    (λ c κs. search needs)
-    (λ c κs. search needs)
-    times-requires
-    (λ c. search needs)
-    (λ c. search needs)
-    (λ c. search needs)
-    returns)
+    (tie.spec (λ c κs. search needs) (λ c κs. search needs) times-requires (λ c. search needs) (λ c. search needs) (λ c. search needs) returns)

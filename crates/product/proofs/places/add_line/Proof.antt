@@ -40,15 +40,5 @@ returns c =
 pub add-line-spec : {M : Type 1} → statement M
 add-line-spec =
     tie.close
-    (tie.spec
-    (λ c κs. search needs)
-    mul-from
-    add-carried
-    (λ c. search needs)
-    (λ c. search needs)
-    part-carried-end
-    (λ c κs. search needs)
-    (λ c κs. search needs)
-    (λ c κs. search needs)
-    (λ c. search needs)
-    returns)
+    (tie.spec (λ c κs. search needs) mul-from add-carried (λ c. search needs) (λ c. search needs) part-carried-end (λ c κs. search needs)
+    (λ c κs. search needs) (λ c κs. search needs) (λ c. search needs) returns)

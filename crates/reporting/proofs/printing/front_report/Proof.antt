@@ -31,11 +31,4 @@ returns c =
     c .table-report .ensures ∙ ap (λ n. appended (textOf []) (tableReport (a .width) (take (a .width * n) (a .lent .now)))) (c .before .before .bytes-for .ensures)
 
 pub front-report-spec : {M : Type 1} → statement M
-front-report-spec =
-    tie.close
-    (tie.spec
-    (λ c κs. search needs)
-    mul-size
-    slice-aggregate-table-report
-    table-report-requires
-    returns)
+front-report-spec = tie.close (tie.spec (λ c κs. search needs) mul-size slice-aggregate-table-report table-report-requires returns)

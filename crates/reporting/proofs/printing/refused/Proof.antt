@@ -10,7 +10,7 @@ use Rattle.reporting.proofs.printing.refused.Tie as tie
 
 returns : tie.Need-returns
 unfolding refusal
-returns c = c .append-line .ensures ∙ ap (λ n. appended (c .before .before .before .args .text) (line (ascii "refused") (n ∷ []))) (ap (λ f. f .0) (c .before .before .number .ensures))
+returns c = c .append-line .ensures ∙ ap (λ n. appended (c .before .before .before .args .text) (line (ascii "refused") (n ∷ []))) (c .before .before .number .ensures .0)
 
 pub refused-spec : {M : Type 1} → statement M
 refused-spec =

@@ -60,15 +60,4 @@ returns c = ones-all _ _ _ (c .loop-test .left) (c .before .loop .inv .1)
 pub add-limb-spec : {M : Type 1} → statement M
 add-limb-spec =
     tie.close
-    (tie.spec
-    Inv-loop
-    μ-loop
-    loop-holds
-    cast-zeros
-    add-add-at
-    add-at-requires
-    (λ c. search needs)
-    loop-less
-    loop-again
-    same-length
-    returns)
+    (tie.spec Inv-loop μ-loop loop-holds cast-zeros add-add-at add-at-requires (λ c. search needs) loop-less loop-again same-length returns)

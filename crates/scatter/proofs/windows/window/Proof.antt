@@ -57,23 +57,5 @@ returns-2 c =
 pub window-spec : {M : Type 1} → statement M
 window-spec =
     tie.close
-    (tie.spec
-    Inv-loop
-    μ-loop
-    (λ c. search needs)
-    returns
-    loop-holds
-    add-low
-    (λ c. search needs)
-    shared-slice-read-low
-    add-high
-    add-high-2
-    (λ c. search needs)
-    shared-slice-read-high
-    (λ c κs. search needs)
-    (λ c. search needs)
-    (λ c. search needs)
-    (λ c. search needs)
-    (λ c. search needs)
-    loop-again
-    returns-2)
+    (tie.spec Inv-loop μ-loop (λ c. search needs) returns loop-holds add-low (λ c. search needs) shared-slice-read-low add-high add-high-2 (λ c. search needs)
+    shared-slice-read-high (λ c κs. search needs) (λ c. search needs) (λ c. search needs) (λ c. search needs) (λ c. search needs) loop-again returns-2)

@@ -46,13 +46,5 @@ returns c =
 pub acts-twice-spec : {M : Type 1} → statement M
 acts-twice-spec =
     tie.close
-    (tie.spec
-    (λ c. search needs)
-    (λ c. search needs)
-    (λ c κs. search needs)
-    row-bytes-requires
-    turned-requires
-    row-bytes-requires-2
-    times-first-requires
-    (λ c κs. search needs)
-    returns)
+    (tie.spec (λ c. search needs) (λ c. search needs) (λ c κs. search needs) row-bytes-requires turned-requires row-bytes-requires-2 times-first-requires
+    (λ c κs. search needs) returns)

@@ -37,15 +37,4 @@ returns-2 c =
     sym (ap (λ n. every n (associates (a .width) (a .table .now) 0)) (sym e) ∙ l .inv .1)
 
 pub all-act-twice-spec : {M : Type 1} → statement M
-all-act-twice-spec =
-    tie.close
-    (tie.spec
-    Inv-loop
-    μ-loop
-    loop-holds
-    acts-twice-requires
-    returns
-    (λ c. search needs)
-    (λ c. search needs)
-    loop-again
-    returns-2)
+all-act-twice-spec = tie.close (tie.spec Inv-loop μ-loop loop-holds acts-twice-requires returns (λ c. search needs) (λ c. search needs) loop-again returns-2)

@@ -68,19 +68,5 @@ returns-3 c =
 pub judge-ends-spec : {M : Type 1} → statement M
 judge-ends-spec =
     tie.close
-    (tie.spec
-    Inv-loop
-    μ-loop
-    returns
-    (λ c κs. search needs)
-    loop-holds
-    mul-all
-    add-all
-    shared-slice-read-all
-    (λ c. search needs)
-    (λ c. search needs)
-    loop-again
-    (λ c. search needs)
-    (λ c. search needs)
-    returns-2
-    returns-3)
+    (tie.spec Inv-loop μ-loop returns (λ c κs. search needs) loop-holds mul-all add-all shared-slice-read-all (λ c. search needs) (λ c. search needs)
+    loop-again (λ c. search needs) (λ c. search needs) returns-2 returns-3)

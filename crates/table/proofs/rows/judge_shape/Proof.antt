@@ -26,6 +26,4 @@ returns-2 c =
     follows (sizeCauses (a .width) (a .table .now)) (highBitInRow (a .width) (a .table .now) ∷ []) (s .before .judge-table-size .ensures) (s .is-none .ensures) (not-false _ (c .before .if1 .left)) (c .judge-ends .ensures)
 
 pub judge-shape-spec : {M : Type 1} → statement M
-judge-shape-spec =
-    tie.close
-    (tie.spec (λ c κs. search needs) (λ c κs. search needs) returns judge-ends-requires returns-2)
+judge-shape-spec = tie.close (tie.spec (λ c κs. search needs) (λ c κs. search needs) returns judge-ends-requires returns-2)

@@ -34,12 +34,4 @@ returns c =
 pub row-bytes-spec : {M : Type 1} → statement M
 row-bytes-spec =
     tie.close
-    (tie.spec
-    (λ c κs. search needs)
-    mul-from
-    add-carried
-    (λ c. search needs)
-    (λ c. search needs)
-    part-carried-end
-    (λ c κs. search needs)
-    returns)
+    (tie.spec (λ c κs. search needs) mul-from add-carried (λ c. search needs) (λ c. search needs) part-carried-end (λ c κs. search needs) returns)

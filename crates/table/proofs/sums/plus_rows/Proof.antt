@@ -61,16 +61,4 @@ returns : tie.Need-returns Inv-loop μ-loop
 returns c = let l = c .before .loop in ones-none _ _ _ (l .inv .2) (c .loop-test .left) ∙ l .inv .3
 
 pub plus-rows-spec : {M : Type 1} → statement M
-plus-rows-spec =
-    tie.close
-    (tie.spec
-    Inv-loop
-    μ-loop
-    loop-holds
-    cast-zeros
-    add-plus-row
-    plus-row-requires
-    (λ c. search needs)
-    loop-less
-    loop-again
-    returns)
+plus-rows-spec = tie.close (tie.spec Inv-loop μ-loop loop-holds cast-zeros add-plus-row plus-row-requires (λ c. search needs) loop-less loop-again returns)

@@ -48,14 +48,5 @@ returns c =
 pub sum-of-rows-spec : {M : Type 1} → statement M
 sum-of-rows-spec =
     tie.close
-    (tie.spec
-    Inv-loop
-    μ-loop
-    (λ c κs. search needs)
-    loop-holds
-    row-at-requires
-    (λ c κs. search needs)
-    (λ c. search needs)
-    (λ c. search needs)
-    loop-again
+    (tie.spec Inv-loop μ-loop (λ c κs. search needs) loop-holds row-at-requires (λ c κs. search needs) (λ c. search needs) (λ c. search needs) loop-again
     returns)

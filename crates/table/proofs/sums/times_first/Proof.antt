@@ -35,17 +35,5 @@ returns c =
 pub times-first-spec : {M : Type 1} → statement M
 times-first-spec =
     tie.close
-    (tie.spec
-    Inv-loop
-    μ-loop
-    (λ c κs. search needs)
-    loop-holds
-    (λ c. search needs)
-    (λ c. search needs)
-    (λ c. search needs)
-    plus-rows-requires
-    (λ c. search needs)
-    (λ c. search needs)
-    loop-again
-    (λ c κs. search needs)
-    returns)
+    (tie.spec Inv-loop μ-loop (λ c κs. search needs) loop-holds (λ c. search needs) (λ c. search needs) (λ c. search needs) plus-rows-requires
+    (λ c. search needs) (λ c. search needs) loop-again (λ c κs. search needs) returns)

@@ -47,15 +47,4 @@ returns-2 c =
     sym (l .inv .1 ∙ half-search (c .before .before .before .pre) _ (omega (arith, c .loop-test .left)) (l .inv .2))
 
 pub judge-row-pairs-spec : {M : Type 1} → statement M
-judge-row-pairs-spec =
-    tie.close
-    (tie.spec
-    Inv-loop
-    μ-loop
-    loop-holds
-    mirrored-requires
-    returns
-    (λ c. search needs)
-    (λ c. search needs)
-    loop-again
-    returns-2)
+judge-row-pairs-spec = tie.close (tie.spec Inv-loop μ-loop loop-holds mirrored-requires returns (λ c. search needs) (λ c. search needs) loop-again returns-2)

@@ -33,6 +33,4 @@ returns-2 : tie.Need-returns-2
 returns-2 c = sym (head-holds (rowZeroWrong _ _) [] (ap not (sym (tested (c .before)) ∙ c .if1 .left)))
 
 pub judge-row-zero-spec : {M : Type 1} → statement M
-judge-row-zero-spec =
-    tie.close
-    (tie.spec row-bytes-requires basis-bytes-requires (λ c κs. search needs) returns returns-2)
+judge-row-zero-spec = tie.close (tie.spec row-bytes-requires basis-bytes-requires (λ c κs. search needs) returns returns-2)

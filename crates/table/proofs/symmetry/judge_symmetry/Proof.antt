@@ -45,12 +45,5 @@ returns-3 c =
 pub judge-symmetry-spec : {M : Type 1} → statement M
 judge-symmetry-spec =
     tie.close
-    (tie.spec
-    (λ c κs. search needs)
-    (λ c κs. search needs)
-    returns
-    judge-row-zero-requires
-    (λ c κs. search needs)
-    returns-2
-    judge-row-pairs-requires
+    (tie.spec (λ c κs. search needs) (λ c κs. search needs) returns judge-row-zero-requires (λ c κs. search needs) returns-2 judge-row-pairs-requires
     returns-3)

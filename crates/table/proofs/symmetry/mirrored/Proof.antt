@@ -34,12 +34,4 @@ returns c =
     ∙ same-carried short (p .0 .isTable .rows (a .d) (p .2)) (turned-is has (a .d))
 
 pub mirrored-spec : {M : Type 1} → statement M
-mirrored-spec =
-    tie.close
-    (tie.spec
-    row-bytes-requires
-    (λ c. search needs)
-    row-bytes-requires-2
-    turned-requires
-    (λ c κs. search needs)
-    returns)
+mirrored-spec = tie.close (tie.spec row-bytes-requires (λ c. search needs) row-bytes-requires-2 turned-requires (λ c κs. search needs) returns)

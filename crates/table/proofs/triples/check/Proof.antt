@@ -45,12 +45,4 @@ returns-3 c =
 pub check-spec : {M : Type 1} → statement M
 check-spec =
     tie.close
-    (tie.spec
-    (λ c κs. search needs)
-    (λ c κs. search needs)
-    returns
-    judge-triples-requires
-    (λ c κs. search needs)
-    returns-2
-    judge-row-sum-requires
-    returns-3)
+    (tie.spec (λ c κs. search needs) (λ c κs. search needs) returns judge-triples-requires (λ c κs. search needs) returns-2 judge-row-sum-requires returns-3)

@@ -37,11 +37,4 @@ returns-2 : tie.Need-returns-2
 returns-2 c = sym (head-holds (rowSumWrong _ _) [] (ap not (sym (tested (c .before)) ∙ c .if1 .left)))
 
 pub judge-row-sum-spec : {M : Type 1} → statement M
-judge-row-sum-spec =
-    tie.close
-    (tie.spec
-    sum-of-rows-requires
-    basis-bytes-requires
-    (λ c κs. search needs)
-    returns
-    returns-2)
+judge-row-sum-spec = tie.close (tie.spec sum-of-rows-requires basis-bytes-requires (λ c κs. search needs) returns returns-2)

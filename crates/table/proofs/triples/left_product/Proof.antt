@@ -54,11 +54,4 @@ returns c =
 pub left-product-spec : {M : Type 1} → statement M
 left-product-spec =
     tie.close
-    (tie.spec
-    (λ c. search needs)
-    wrapped-requires
-    row-bytes-requires
-    turned-requires
-    times-first-requires
-    turned-requires-2
-    returns)
+    (tie.spec (λ c. search needs) wrapped-requires row-bytes-requires turned-requires times-first-requires turned-requires-2 returns)

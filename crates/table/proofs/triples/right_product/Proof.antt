@@ -47,13 +47,4 @@ returns c =
     c .times-first .ensures ∙ ap (rowsAt (a .width) (a .table .now)) (factor (c .before) ∙ row) ∙ right-sum (p .0) (a .i) (a .j) (p .1) (p .2)
 
 pub right-product-spec : {M : Type 1} → statement M
-right-product-spec =
-    tie.close
-    (tie.spec
-    (λ c. search needs)
-    add-wrapped
-    wrapped-requires
-    row-bytes-requires
-    turned-requires
-    times-first-requires
-    returns)
+right-product-spec = tie.close (tie.spec (λ c. search needs) add-wrapped wrapped-requires row-bytes-requires turned-requires times-first-requires returns)

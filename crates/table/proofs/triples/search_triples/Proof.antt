@@ -65,19 +65,5 @@ returns-2 c =
 pub search-triples-spec : {M : Type 1} → statement M
 search-triples-spec =
     tie.close
-    (tie.spec
-    Inv-loop
-    μ-loop
-    Inv-search
-    μ-search
-    search-holds
-    loop-holds
-    associative-requires
-    (λ c. search needs)
-    (λ c. search needs)
-    loop-again
-    (λ c. search needs)
-    (λ c. search needs)
-    search-again
-    returns
-    returns-2)
+    (tie.spec Inv-loop μ-loop Inv-search μ-search search-holds loop-holds associative-requires (λ c. search needs) (λ c. search needs) loop-again
+    (λ c. search needs) (λ c. search needs) search-again returns returns-2)

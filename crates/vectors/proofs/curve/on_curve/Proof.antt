@@ -9,11 +9,4 @@ unfolding onCurve
 returns c = rw (c .is-zero .ensures, c .before .sum .ensures, c .before .before .right-side .ensures, c .before .before .before .left-side .ensures)
 
 pub on-curve-spec : {M : Type 1} → statement M
-on-curve-spec =
-    tie.close
-    (tie.spec
-    (λ c κs. search needs)
-    (λ c κs. search needs)
-    (λ c κs. search needs)
-    (λ c κs. search needs)
-    returns)
+on-curve-spec = tie.close (tie.spec (λ c κs. search needs) (λ c κs. search needs) (λ c κs. search needs) (λ c κs. search needs) returns)

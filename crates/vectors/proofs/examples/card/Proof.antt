@@ -10,13 +10,5 @@ slice-aggregate-card : tie.Need-slice-aggregate-card
 slice-aggregate-card c = sym (length-take-le _ _ (omega arith))
 
 pub card-spec : {M : Type 1} → statement M
-card-spec =
-    tie.close
-    (tie.spec
-    (λ c. search needs)
-    (λ c. search needs)
-    (λ c. search needs)
-    slice-aggregate-card
-    (λ c κs. search needs)
-    (λ c κs. search needs)
+card-spec = tie.close (tie.spec (λ c. search needs) (λ c. search needs) (λ c. search needs) slice-aggregate-card (λ c κs. search needs) (λ c κs. search needs)
     (λ c. search needs))

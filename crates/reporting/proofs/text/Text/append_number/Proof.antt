@@ -11,12 +11,4 @@ returns c =
     c .append .ensures ∙ number-put _ _ (d .result) (c .before .before .push .ensures) (d .ensures .1 .0) (d .ensures .1 .1)
 
 pub append-number-spec : {M : Type 1} → statement M
-append-number-spec =
-    tie.close
-    (tie.spec
-    (λ c κs. search needs)
-    (λ c κs. search needs)
-    (λ c. search needs)
-    (λ c. search needs)
-    (λ c κs. search needs)
-    returns)
+append-number-spec = tie.close (tie.spec (λ c κs. search needs) (λ c κs. search needs) (λ c. search needs) (λ c. search needs) (λ c κs. search needs) returns)

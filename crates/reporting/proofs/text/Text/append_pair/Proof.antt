@@ -17,11 +17,4 @@ returns c =
     c .push .ensures ∙ ap (λ t. pushed t 10) second ∙ line-put _ _ _
 
 pub append-pair-spec : {M : Type 1} → statement M
-append-pair-spec =
-    tie.close
-    (tie.spec
-    (λ c κs. search needs)
-    (λ c κs. search needs)
-    (λ c κs. search needs)
-    (λ c κs. search needs)
-    returns)
+append-pair-spec = tie.close (tie.spec (λ c κs. search needs) (λ c κs. search needs) (λ c κs. search needs) (λ c κs. search needs) returns)
