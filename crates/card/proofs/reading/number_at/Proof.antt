@@ -25,8 +25,8 @@ cast-high c = omega (arith, c .shared-slice-known2 .given (c .before .before .be
 returns-4 : tie.Need-returns-4
 returns-4 c = sym (number-long _ _ (c .before .before .before .before .before .if1 .left) (c .before .before .before .if2 .left) ∙ second-zero _ _ _ (c .before .before .if3 .left) (c .if4 .taken))
 
-add-t17 : tie.Need-add-t17
-add-t17 c = let s = c .before .before .before .before .before in omega (arith, s .shared-slice-known .given (s .before .before .args .at))
+add-t20 : tie.Need-add-t20
+add-t20 c = let s = c .before .before .before .before .before in omega (arith, s .shared-slice-known .given (s .before .before .args .at))
 
 returns-5 : tie.Need-returns-5
 returns-5 c = sym (number-long _ _ (c .before .before .before .before .before .before .if1 .left) (c .before .before .before .before .if2 .left) ∙ second-last _ _ _ (c .before .before .before .if3 .left) (c .before .if4 .left) (c .if5 .taken))
@@ -37,5 +37,5 @@ returns-6 c = sym (number-long _ _ (c .before .before .before .before .before .b
 pub number-at-spec : {M : Type 1} → statement M
 number-at-spec =
     tie.close
-    (tie.spec returns (λ c. search needs) cast-low (λ c. search needs) returns-2 returns-3 (λ c. search needs) cast-high returns-4 (λ c. search needs) add-t17
+    (tie.spec returns (λ c. search needs) cast-low (λ c. search needs) returns-2 returns-3 (λ c. search needs) cast-high returns-4 (λ c. search needs) add-t20
     (λ c. search needs) returns-5 returns-6)
