@@ -10,6 +10,7 @@ ghost use Rattle.card.specs.Calls.{readCall, readTable};
 ghost use Rattle.card.specs.Inner.{told, toldRow, carriedPlaces, RowsRead};
 use crate::CardAnswer;
 use crate::store;
+use judging::CallFault;
 use judging::CardFault;
 use judging::Fault;
 
@@ -152,7 +153,7 @@ fn judge_lent(room: usize, width: usize) -> Fault
         return fault;
     }
     if room < width * limbs::bytes_for(width) {
-        Fault::OutputShort
+        Fault::Call(CallFault::OutputShort)
     } else {
         Fault::None
     }

@@ -24,7 +24,8 @@ use Rattle.limbs.specs.Limbs.{carriedLimbs, limbCoord, nextOne, rowLimbs}
 use Rattle.limbs.proofs.LimbCoords.{limb-lt, limb-past, limb-pack, length-limbs}
 use Rattle.limbs.proofs.LimbRows.{next-known, sum-bits, row-limbs}
 use Rattle.judging.specs.declared.fault.Fault.{Fault}
-use Rattle.judging.specs.declared.fault.Fault.the-variants.{None, OutputShort}
+use Rattle.judging.specs.declared.fault.Fault.the-variants.{None, Call}
+use Rattle.judging.specs.declared.fault.CallFault.the-variants.{OutputShort}
 use Rattle.judging.specs.Faults.{isNone}
 use Rattle.judging.specs.Causes.{Cause}
 use Rattle.judging.specs.FaultTable.{tooShort, shapeCauses}
@@ -283,7 +284,7 @@ module _ (m : ℕ) (table old : List ℕ) where
     wrote-shape q = wrote-fault (ends (shapeCauses m table) (short ∷ []) e t q) (sym t ∙ q)
 
     module _ (q : b ≡ true) {n : ℕ} (size : n ≡ 0 + length (card m table)) where
-      pub wrote-short : length old < n → Wrote m table old (record { fault = OutputShort; value = 0 }) old
+      pub wrote-short : length old < n → Wrote m table old (record { fault = Call OutputShort; value = 0 }) old
       wrote-short h =
           wrote-fault (follows (shapeCauses m table) (short ∷ []) e t q (sym (head-holds short [] (lt-ltb (length old) (length (card m table)) (omega arith))))) (some short)
 

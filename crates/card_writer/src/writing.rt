@@ -10,6 +10,7 @@ ghost use Rattle.card.specs.Cards.{card};
 ghost use Rattle.card_writer.specs.Calls.{longest, writeCall, writeCard};
 ghost use Rattle.card_writer.specs.Inner.{Put, InCard, limbOnes, Writable};
 use card::CardAnswer;
+use judging::CallFault;
 use judging::Fault;
 
 fn put_number(out: &mut [u8], at: usize, n: usize) -> usize
@@ -102,7 +103,7 @@ pub fn write(width: usize, table: &[u8], out: &mut [u8]) -> CardAnswer
     let size = put_card(&mut spare, width, table);
     if out.len() < size {
         return CardAnswer {
-            fault: Fault::OutputShort,
+            fault: Fault::Call(CallFault::OutputShort),
             value: 0,
         };
     }

@@ -6,7 +6,8 @@ use Prim.Native.Nat.{ℕ, _*_, _≤_}
 use borrow.Author.Tests.{eq-eqb, ne-eqb, eqb-false}
 use Rattle.gf2.specs.Operands.{maxWidth, bytesFor}
 use Rattle.judging.specs.declared.fault.Fault.{Fault}
-use Rattle.judging.specs.declared.fault.Fault.the-variants.{None, NoType}
+use Rattle.judging.specs.declared.fault.Fault.the-variants.{None, Call}
+use Rattle.judging.specs.declared.fault.CallFault.the-variants.{NoType}
 use Rattle.judging.specs.Faults.{isNone}
 use Rattle.judging.specs.Causes.{Cause, faultOf}
 use Rattle.judging.proofs.CauseLaws.{fine, judged, ends, ends-some, goes-on}
@@ -36,7 +37,7 @@ module _ (m : ℕ) (cs ds : List Cause) {f : Fault} {b : Bool} (e : f ≡ faultO
 
 -- the entry of the list
 module _ (m : ℕ) {t : ℕ} (e : t ≡ typeOf m) where
-  pub type-refused : t ≡ 0 → given NoType 0 ≡ answer (faultOf (typeZero m ∷ [])) m
+  pub type-refused : t ≡ 0 → given (Call NoType) 0 ≡ answer (faultOf (typeZero m ∷ [])) m
   unfolding answer isNone faultOf
   type-refused z = rw (eq-eqb (typeOf m) 0 (sym e ∙ z))
 

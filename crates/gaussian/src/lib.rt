@@ -7,6 +7,7 @@ ghost use Rattle.gf2.specs.Operands.{maxWidth};
 ghost use Rattle.judging.specs.Causes.{faultOf};
 ghost use Rattle.gaussian.specs.Causes.{typeZero};
 ghost use Rattle.gaussian.specs.Calls.{answer, typeCall, drawCall, drawnInto};
+use judging::CallFault;
 use judging::Fault;
 
 mod drawing;
@@ -27,7 +28,7 @@ fn listed_type(width: usize) -> TypeAnswer
     let t = types::listed(width);
     if t == 0 {
         return TypeAnswer {
-            fault: Fault::NoType,
+            fault: Fault::Call(CallFault::NoType),
             t: 0,
         };
     }

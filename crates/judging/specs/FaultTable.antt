@@ -12,7 +12,8 @@ use Rattle.gf2.specs.Tables.{row, basis}
 use Rattle.gf2.specs.Products.{product}
 use Rattle.gf2.specs.Check.{Rule4, Rule5, Rule6, Rule7, rowSum}
 use Rattle.gf2.proofs.Decisions.{width-decides, other-decides, less-decides, most-decides, equal-decides, high-decides, rows-decide, same-decides, unlike-decides}
-use Rattle.judging.specs.declared.fault.Fault.the-variants.{Width, Length, HighBit, RowZero, RowPair, Triple, RowSum, TurnCount, InverseOfZero, TraceOne, OutputShort}
+use Rattle.judging.specs.declared.fault.Fault.the-variants.{Width, Length, HighBit, RowZero, RowPair, Triple, RowSum, Call}
+use Rattle.judging.specs.declared.fault.CallFault.the-variants.{TurnCount, InverseOfZero, TraceOne, OutputShort}
 use Rattle.judging.specs.Causes.{Cause, from}
 
 -- "width not 2..255"
@@ -103,22 +104,22 @@ rowSumWrong m table =
 
 -- 8: "turn count m or more"
 abbrev pub turnTooFar : ℕ → ℕ → Cause
-turnTooFar m k = record { Holds = m ≤ k; test = leb m k; exact = most-decides m k; fault = TurnCount; numbered = refl }
+turnTooFar m k = record { Holds = m ≤ k; test = leb m k; exact = most-decides m k; fault = Call TurnCount; numbered = refl }
 
 -- 9: "inverse of zero", of an operand of n bytes
 abbrev pub isZero : ℕ → ℕ → List ℕ → Cause
 isZero n m a =
-    record { Holds = a ≡ zeroes n m; test = same a (zeroes n m); exact = same-decides a (zeroes n m); fault = InverseOfZero; numbered = refl }
+    record { Holds = a ≡ zeroes n m; test = same a (zeroes n m); exact = same-decides a (zeroes n m); fault = Call InverseOfZero; numbered = refl }
 
 -- 10: "trace of c is 1"
 abbrev pub traceIsOne : ℕ → List ℕ → Cause
 traceIsOne m c =
-    record { Holds = trace m c ≡ 1; test = eqb (trace m c) 1; exact = equal-decides (trace m c) 1; fault = TraceOne; numbered = refl }
+    record { Holds = trace m c ≡ 1; test = eqb (trace m c) 1; exact = equal-decides (trace m c) 1; fault = Call TraceOne; numbered = refl }
 
 -- 11: "lent output shorter than needed"
 abbrev pub tooShort : ℕ → ℕ → Cause
 tooShort given needed =
-    record { Holds = given < needed; test = ltb given needed; exact = less-decides given needed; fault = OutputShort; numbered = refl }
+    record { Holds = given < needed; test = ltb given needed; exact = less-decides given needed; fault = Call OutputShort; numbered = refl }
 
 -- 1 to 3 of a table: "A table is m rows, each an operand of W bytes, m·W in all"
 abbrev pub shapeCauses : ℕ → List ℕ → List Cause

@@ -2,10 +2,21 @@
 use mathlib.Core.Bool.{Bool}
 use lib.Dec.{eqb}
 use Rattle.judging.specs.declared.fault.Fault.{Fault}
-use Rattle.judging.specs.declared.fault.Fault.the-variants.{None, Width, Length, HighBit, RowZero, RowPair, Triple, RowSum, TurnCount, InverseOfZero, TraceOne, OutputShort, Card, NoType, BadGate}
+use Rattle.judging.specs.declared.fault.Fault.the-variants.{None, Width, Length, HighBit, RowZero, RowPair, Triple, RowSum, Call, Card}
+use Rattle.judging.specs.declared.fault.CallFault.{CallFault}
+use Rattle.judging.specs.declared.fault.CallFault.the-variants.{TurnCount, InverseOfZero, TraceOne, OutputShort, NoType, BadGate}
 use Rattle.judging.specs.declared.fault.CardFault.{CardFault}
 use Rattle.judging.specs.declared.fault.CardFault.the-variants.{Ends, Number, Form, Place, Tail}
 use Rattle.judging.specs.declared.fault.FaultNumber.{FaultNumber}
+
+-- the columns Number and Returned of document 01's table of faults, of what a call finds wrong beside widths, lengths, bits and rules
+abbrev pub callNumberOf : CallFault → FaultNumber
+callNumberOf TurnCount = (8, 0, 0)
+callNumberOf InverseOfZero = (9, 0, 0)
+callNumberOf TraceOne = (10, 0, 0)
+callNumberOf OutputShort = (11, 0, 0)
+callNumberOf NoType = (17, 0, 0)
+callNumberOf BadGate = (18, 0, 0)
 
 -- the same, of what is found in a card
 abbrev pub cardNumberOf : CardFault → FaultNumber
@@ -25,13 +36,8 @@ numberOf RowZero = (4, 0, 0)
 numberOf (RowPair d) = (5, d, 0)
 numberOf (Triple i j) = (6, i, j)
 numberOf RowSum = (7, 0, 0)
-numberOf TurnCount = (8, 0, 0)
-numberOf InverseOfZero = (9, 0, 0)
-numberOf TraceOne = (10, 0, 0)
-numberOf OutputShort = (11, 0, 0)
+numberOf (Call c) = callNumberOf c
 numberOf (Card c) = cardNumberOf c
-numberOf NoType = (17, 0, 0)
-numberOf BadGate = (18, 0, 0)
 
 -- no number is given
 unfoldable pub isNone : Fault → Bool

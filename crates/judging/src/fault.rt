@@ -1,6 +1,16 @@
 // The faults of document 01: the enum, and each one's number and values.
 ghost use mathlib.Core.Path.{_≡_};
-ghost use Rattle.judging.specs.Faults.{cardNumberOf, numberOf, isNone};
+ghost use Rattle.judging.specs.Faults.{callNumberOf, cardNumberOf, numberOf, isNone};
+
+// What a call finds wrong beside widths, lengths, bits and the rules of a table.
+pub enum CallFault {
+    TurnCount,
+    InverseOfZero,
+    TraceOne,
+    OutputShort,
+    NoType,
+    BadGate,
+}
 
 // What is found in a card, byte by byte.
 pub enum CardFault {
@@ -11,8 +21,8 @@ pub enum CardFault {
     Tail,
 }
 
-// A variant for each number of document 01's table, in its order, and one for none. At most sixteen to an enum: a match on so many needs no
-// proof of its own.
+// A variant for each number of document 01's table and one for none. Those of a call and of a card are enums of their own: a match needs
+// no proof of its own as long as an enum has at most a dozen variants.
 pub enum Fault {
     None,
     Width,
@@ -22,17 +32,25 @@ pub enum Fault {
     RowPair(usize),
     Triple(usize, usize),
     RowSum,
-    TurnCount,
-    InverseOfZero,
-    TraceOne,
-    OutputShort,
+    Call(CallFault),
     Card(CardFault),
-    NoType,
-    BadGate,
 }
 
 // A fault's number, 0 for none, and the two values returned beside it.
 pub struct FaultNumber(pub usize, pub usize, pub usize);
+
+fn call_number(c: CallFault) -> FaultNumber
+    ensures { λ r. ⌜ (r .0 ≡ callNumberOf c .0) × (r .1 ≡ callNumberOf c .1) × (r .2 ≡ callNumberOf c .2) ⌝ }
+{
+    match c {
+        CallFault::TurnCount => FaultNumber(8, 0, 0),
+        CallFault::InverseOfZero => FaultNumber(9, 0, 0),
+        CallFault::TraceOne => FaultNumber(10, 0, 0),
+        CallFault::OutputShort => FaultNumber(11, 0, 0),
+        CallFault::NoType => FaultNumber(17, 0, 0),
+        CallFault::BadGate => FaultNumber(18, 0, 0),
+    }
+}
 
 fn card_number(c: CardFault) -> FaultNumber
     ensures { λ r. ⌜ (r .0 ≡ cardNumberOf c .0) × (r .1 ≡ cardNumberOf c .1) × (r .2 ≡ cardNumberOf c .2) ⌝ }
@@ -58,13 +76,8 @@ pub fn number(f: Fault) -> FaultNumber
         Fault::RowPair(d) => FaultNumber(5, d, 0),
         Fault::Triple(i, j) => FaultNumber(6, i, j),
         Fault::RowSum => FaultNumber(7, 0, 0),
-        Fault::TurnCount => FaultNumber(8, 0, 0),
-        Fault::InverseOfZero => FaultNumber(9, 0, 0),
-        Fault::TraceOne => FaultNumber(10, 0, 0),
-        Fault::OutputShort => FaultNumber(11, 0, 0),
+        Fault::Call(c) => call_number(c),
         Fault::Card(c) => card_number(c),
-        Fault::NoType => FaultNumber(17, 0, 0),
-        Fault::BadGate => FaultNumber(18, 0, 0),
     }
 }
 

@@ -2,6 +2,7 @@
 mod fault;
 mod parts;
 
+pub use fault::CallFault;
 pub use fault::CardFault;
 pub use fault::Fault;
 pub use fault::FaultNumber;

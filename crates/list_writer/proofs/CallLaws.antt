@@ -8,7 +8,8 @@ use lib.ListN.{length, drop}
 use borrow.Author.Tests.{lt-ltb, le-ltb}
 use Rattle.gf2.specs.Operands.{choose}
 use Rattle.judging.specs.declared.fault.Fault.{Fault}
-use Rattle.judging.specs.declared.fault.Fault.the-variants.{None, OutputShort}
+use Rattle.judging.specs.declared.fault.Fault.the-variants.{None, Call}
+use Rattle.judging.specs.declared.fault.CallFault.the-variants.{OutputShort}
 use Rattle.judging.specs.Faults.{isNone}
 use Rattle.judging.specs.Causes.{faultOf}
 use Rattle.judging.specs.FaultTable.{tooShort, symmetryCauses}
@@ -95,13 +96,13 @@ module _ (m : ℕ) (table : List ℕ) (list : Netlist) (old : List ℕ) where
     second : listFault m table list old ≡ faultOf (tooShort (length old) (length (words m list)) ∷ [])
     second = goes-on (symmetryCauses m table) (tooShort (length old) (length (words m list)) ∷ []) n
 
-    pub list-short : {r : CountsAnswer} → length old < length (words m list) → r ≡ refusedWith OutputShort → Answered r old
+    pub list-short : {r : CountsAnswer} → length old < length (words m list) → r ≡ refusedWith (Call OutputShort) → Answered r old
     list-short l e = (e ∙ sym none, sym buffer)
       where
-        fault : listFault m table list old ≡ OutputShort
+        fault : listFault m table list old ≡ (Call OutputShort)
         fault = second ∙ head-holds (tooShort (length old) (length (words m list))) [] (lt-ltb (length old) (length (words m list)) l)
 
-        none : listCall m table list old ≡ refusedWith OutputShort
+        none : listCall m table list old ≡ refusedWith (Call OutputShort)
         none = unfold answer isNone in rw fault
 
         buffer : listBuffer m table list old ≡ old

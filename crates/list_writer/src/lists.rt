@@ -9,6 +9,7 @@ ghost use Rattle.netlist.specs.Lists.{plain, reduced, sharing, common};
 ghost use Rattle.netlist.specs.Calls.{refusedWith, listCall, listBuffer};
 ghost use Rattle.netlist.specs.Methods.{listBy};
 ghost use Rattle.list_writer.specs.Inner.{Written, Told, listed};
+use judging::CallFault;
 use judging::Fault;
 use list_parts::Rows;
 use list_parts::Terms;
@@ -136,7 +137,7 @@ fn list_by(width: usize, table: &[u8], out: &mut [u32], method: Method) -> Count
     let g = all.gates;
     let q = 2 + 3 * g;
     if out.len() < q + width {
-        return refused(Fault::OutputShort);
+        return refused(Fault::Call(CallFault::OutputShort));
     }
     put_list(out, width, table, method, all.full, g);
     let ands = all.ands;

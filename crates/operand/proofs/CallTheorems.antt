@@ -15,7 +15,8 @@ use Rattle.gf2.proofs.Coordinates.{pack-eq, pack-byte, length-pack, coord-lt, c
 use Rattle.gf2.proofs.Operands.{from-operand, clear-at}
 use Rattle.gf2.proofs.Carrying.{coord-repacked}
 use Rattle.operand.specs.declared.Operand.{Operand}
-use Rattle.judging.specs.declared.fault.Fault.the-variants.{None, TraceOne}
+use Rattle.judging.specs.declared.fault.Fault.the-variants.{None, Call}
+use Rattle.judging.specs.declared.fault.CallFault.the-variants.{TraceOne}
 use Rattle.judging.specs.Faults.{isNone}
 use Rattle.judging.specs.Causes.{faultOf}
 use Rattle.judging.specs.FaultTable.{traceIsOne}
@@ -45,14 +46,14 @@ module _ (c : Operand) (h : IsCarried c) where
   unfolding root
   root-operand = rw (h .operand .size) (from-operand carriedBytes (c .width) _)
 
-  forth : solveCall c .fault ≡ TraceOne → Unsolvable
+  forth : solveCall c .fault ≡ (Call TraceOne) → Unsolvable
   forth e z oz q =
       let t : faultOf (traceIsOne (c .width) (c .bytes) ∷ []) ≡ None = none-given (traceIsOne (c .width) (c .bytes) ∷ []) (ne-eqb (trace (c .width) (c .bytes)) 1 (λ u. let v = laws .traceless (c .bytes) z (h .operand) oz q in omega (arith, u, v)), tt) in
       let f = fault-is in
       let impossible : _≡_ {A = ℕ} 0 1 = cc in
       omega arith
 
-  back : Unsolvable → solveCall c .fault ≡ TraceOne
+  back : Unsolvable → solveCall c .fault ≡ (Call TraceOne)
   unfolding trace
   back n = fault-is ∙ elim (ℕ-discrete (trace (c .width) (c .bytes)) 1) [
     | yes e ↦ head-holds (traceIsOne (c .width) (c .bytes)) [] (eq-eqb _ 1 e)

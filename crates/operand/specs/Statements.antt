@@ -12,7 +12,8 @@ use Rattle.gf2.specs.Coordinates.{coord}
 use Rattle.gf2.specs.Operands.{maxWidth, bytesFor, carriedBytes, IsOperand, zeroes, added, turned, squared}
 use Rattle.gf2.specs.Quadratic.{trace, root}
 use Rattle.operand.specs.declared.Operand.{Operand}
-use Rattle.judging.specs.declared.fault.Fault.the-variants.{None, TraceOne}
+use Rattle.judging.specs.declared.fault.Fault.the-variants.{None, Call}
+use Rattle.judging.specs.declared.fault.CallFault.the-variants.{TraceOne}
 use Rattle.operand.specs.Calls.{solveCall, readCall, writeCall}
 
 -- f applied k times
@@ -57,7 +58,7 @@ pub record IsCarried (a : Operand) : Type 0 where
 pub record CallLaws : Type 0 where
   -- 10 is given exactly when no z solves the equation
   pub unsolvable : (c : Operand) → IsCarried c →
-      (solveCall c .fault ≡ TraceOne) ↔ ((z : List ℕ) → IsOperand carriedBytes (c .width) z → ¬ (quadratic (c .width) z ≡ c .bytes))
+      (solveCall c .fault ≡ (Call TraceOne)) ↔ ((z : List ℕ) → IsOperand carriedBytes (c .width) z → ¬ (quadratic (c .width) z ≡ c .bytes))
   -- writing an operand and reading it gives it back
   pub readWritten : (a : Operand) (old : List ℕ) → IsCarried a → length old ≡ bytesFor (a .width) →
       readCall (a .width) (writeCall a old) ≡ (record { fault = None; value = a })

@@ -9,6 +9,7 @@ ghost use Rattle.judging.specs.FaultTable.{highBit, turnTooFar, traceIsOne};
 ghost use Rattle.operand.specs.Causes.{operandCauses, pairCauses};
 use crate::Operand;
 use crate::quadratic;
+use judging::CallFault;
 use judging::Fault;
 use judging::is_none;
 use judging::judge_high;
@@ -65,7 +66,7 @@ pub(crate) fn judge_turn(x: [u8; Operand::BYTES], m: usize, k: usize) -> Fault
         return first;
     }
     if m <= k {
-        return Fault::TurnCount;
+        return Fault::Call(CallFault::TurnCount);
     }
     Fault::None
 }
@@ -79,7 +80,7 @@ pub(crate) fn judge_solve(x: [u8; Operand::BYTES], m: usize) -> Fault
         return first;
     }
     if quadratic::trace(x) == 1 {
-        return Fault::TraceOne;
+        return Fault::Call(CallFault::TraceOne);
     }
     Fault::None
 }

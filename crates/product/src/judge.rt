@@ -5,6 +5,7 @@ ghost use Rattle.judging.specs.Causes.{faultOf};
 ghost use Rattle.table.specs.Rows.{Shaped};
 ghost use Rattle.product.specs.Inner.{IsWidth, tableCauses, rulesBy, factorCauses, unitCauses};
 use crate::kernel::Method;
+use judging::CallFault;
 use judging::Fault;
 use judging::is_none;
 use judging::judge_high;
@@ -65,7 +66,7 @@ pub(crate) fn judge_unit(width: usize, table: &[u8], x: [u8; Operand::BYTES]) ->
         return first;
     }
     if limbs::is_clear(x, 0) {
-        return Fault::InverseOfZero;
+        return Fault::Call(CallFault::InverseOfZero);
     }
     Fault::None
 }

@@ -10,7 +10,8 @@ use lib.Dec.{ltb, leb, eqb}
 use lib.ListN.{length}
 use borrow.Author.Tests.{ltb-true, ltb-false, lt-ltb, le-ltb, leb-true, leb-false, le-leb, lt-leb, eqb-true, eqb-false, eq-eqb, ne-eqb}
 use Rattle.judging.specs.declared.fault.Fault.{Fault}
-use Rattle.judging.specs.declared.fault.Fault.the-variants.{None, Width, OutputShort}
+use Rattle.judging.specs.declared.fault.Fault.the-variants.{None, Width, Call}
+use Rattle.judging.specs.declared.fault.CallFault.the-variants.{OutputShort}
 use Rattle.gf2.specs.Operands.{maxWidth, bytesFor, choose}
 use Rattle.gf2.proofs.Operands.{from-operand}
 use Rattle.judging.specs.Faults.{isNone, cardNumber, cardForm, cardPlace, cardTail}
@@ -220,11 +221,11 @@ rows-stand m (suc count) s t rest small e =
 
 -- the head
 lent-causes : (room m : ℕ) (f : Fault) → isNone (lentFault room m) ≡ false → f ≡ lentFault room m →
-    (BadWidth m × (f ≡ Width)) ⊎ ((2 ≤ m) × (m ≤ maxWidth) × (room < m * bytesFor m) × (f ≡ OutputShort))
+    (BadWidth m × (f ≡ Width)) ⊎ ((2 ≤ m) × (m ≤ maxWidth) × (room < m * bytesFor m) × (f ≡ (Call OutputShort)))
 unfolding isNone
 lent-causes room m f some e = go (decides (lentCauses room m) (lentFault room m) refl)
   where
-    go : Decides (wrongWidth m ∷ tooShort room (m * bytesFor m) ∷ []) (lentFault room m) → (BadWidth m × (f ≡ Width)) ⊎ ((2 ≤ m) × (m ≤ maxWidth) × (room < m * bytesFor m) × (f ≡ OutputShort))
+    go : Decides (wrongWidth m ∷ tooShort room (m * bytesFor m) ∷ []) (lentFault room m) → (BadWidth m × (f ≡ Width)) ⊎ ((2 ≤ m) × (m ≤ maxWidth) × (room < m * bytesFor m) × (f ≡ (Call OutputShort)))
     go (inl h) = inl (h .0, e ∙ h .1)
     go (inr (n, inl h)) = let r = wide n in inr (r .0, r .1, h .0, e ∙ h .1)
     go (inr (n, inr h)) = absurd (true≢false (sym (ap isNone (h .1)) ∙ some))
@@ -236,10 +237,10 @@ lent-bad room m b = go (decides (lentCauses room m) (lentFault room m) refl)
     go (inl h) = h .1
     go (inr h) = absurd (h .0 b)
 
-lent-short : (room m : ℕ) → 2 ≤ m → m ≤ maxWidth → room < m * bytesFor m → lentFault room m ≡ OutputShort
+lent-short : (room m : ℕ) → 2 ≤ m → m ≤ maxWidth → room < m * bytesFor m → lentFault room m ≡ (Call OutputShort)
 lent-short room m least greatest short = go (decides (lentCauses room m) (lentFault room m) refl)
   where
-    go : Decides (wrongWidth m ∷ tooShort room (m * bytesFor m) ∷ []) (lentFault room m) → lentFault room m ≡ OutputShort
+    go : Decides (wrongWidth m ∷ tooShort room (m * bytesFor m) ∷ []) (lentFault room m) → lentFault room m ≡ (Call OutputShort)
     go (inl h) = absurd (h .0 (least, greatest))
     go (inr (n, inl h)) = h .1
     go (inr (n, inr h)) = absurd (h .0 short)

@@ -8,7 +8,8 @@ use lib.ListN.{length}
 use Rattle.gf2.specs.Operands.{maxWidth, bytesFor, IsOperand}
 use Rattle.gf2.specs.Tables.{IsTable}
 use Rattle.judging.specs.declared.fault.Fault.{Fault}
-use Rattle.judging.specs.declared.fault.Fault.the-variants.{None, Width, OutputShort}
+use Rattle.judging.specs.declared.fault.Fault.the-variants.{None, Width, Call}
+use Rattle.judging.specs.declared.fault.CallFault.the-variants.{OutputShort}
 use Rattle.card.specs.Numbers.{number, numberLimit}
 use Rattle.card.specs.Rows.{steps, rowCard}
 use Rattle.card.specs.Cards.{card}
@@ -79,7 +80,7 @@ pub data BadCard (room : ℕ) (s : List ℕ) (f : Fault) : Type 0 where
   badWidth : (m : ℕ) (middle rest : List ℕ) → Stands 1 s middle → Stands m middle rest → BadWidth m → f ≡ Width → BadCard room s f
   -- 11: "lent output shorter than needed"
   noRoom : (m : ℕ) (middle rest : List ℕ) → Stands 1 s middle → Stands m middle rest → (2 ≤ m) × (m ≤ maxWidth) →
-      room < m * bytesFor m → f ≡ OutputShort → BadCard room s f
+      room < m * bytesFor m → f ≡ (Call OutputShort) → BadCard room s f
   -- some rows stand, fewer than m, and the next does not
   atRow : (m d : ℕ) (middle rest : List ℕ) → HeadStands room s m middle → d < m → RowsStand m d middle rest → BadRow m rest f → BadCard room s f
   -- 16: "bytes after the card"

@@ -7,7 +7,8 @@ use Rattle.gf2.specs.Sums.{every}
 use Rattle.gf2.specs.Operands.{carriedBy}
 use Rattle.gf2.proofs.Parity.{and-both}
 use Rattle.gf2.proofs.Carrying.{HasBytes}
-use Rattle.judging.specs.declared.fault.Fault.the-variants.{None, BadGate}
+use Rattle.judging.specs.declared.fault.Fault.the-variants.{None, Call}
+use Rattle.judging.specs.declared.fault.CallFault.the-variants.{BadGate}
 use Rattle.judging.specs.Faults.{isNone}
 use Rattle.judging.specs.Causes.{Cause, faultOf}
 use Rattle.judging.specs.FaultTable.{highBit}
@@ -20,10 +21,10 @@ use Rattle.runner.specs.Causes.{badGates}
 use Rattle.runner.specs.Inner.{wordCauses, bitCauses, listCauses}
 
 module _ (m : ℕ) (list : List ℕ) where
-  pub gates-bad : every (gateCount list) (isGate m list) ≡ false → BadGate ≡ faultOf (badGates m list ∷ [])
+  pub gates-bad : every (gateCount list) (isGate m list) ≡ false → (Call BadGate) ≡ faultOf (badGates m list ∷ [])
   gates-bad e = sym (head-holds (badGates m list) [] (rw e))
 
-  pub outputs-bad : every m (isOutput m list) ≡ false → BadGate ≡ faultOf (badGates m list ∷ [])
+  pub outputs-bad : every m (isOutput m list) ≡ false → (Call BadGate) ≡ faultOf (badGates m list ∷ [])
   outputs-bad e = sym (head-holds (badGates m list) [] (rw (e, and-false)))
 
   pub gates-pass : every (gateCount list) (isGate m list) ≡ true → every m (isOutput m list) ≡ true → badGates m list .test ≡ false

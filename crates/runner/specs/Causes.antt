@@ -8,7 +8,8 @@ use lib.ListN.{length, getD}
 use Rattle.gf2.specs.Sums.{every}
 use Rattle.gf2.specs.Operands.{bytesFor}
 use Rattle.gf2.proofs.Decisions.{less-decides}
-use Rattle.judging.specs.declared.fault.Fault.the-variants.{Length, BadGate}
+use Rattle.judging.specs.declared.fault.Fault.the-variants.{Length, Call}
+use Rattle.judging.specs.declared.fault.CallFault.the-variants.{BadGate}
 use Rattle.judging.specs.Causes.{Cause}
 use Rattle.judging.specs.FaultTable.{badWidth, badLength, notW, highBit}
 use Rattle.operand.specs.declared.Operand.{Operand}
@@ -40,7 +41,7 @@ badGates m list =
       Holds = HasBadGate m list;
       test = not (every (gateCount list) (isGate m list) && every m (isOutput m list));
       exact = gates-decide m list;
-      fault = BadGate;
+      fault = Call BadGate;
       numbered = refl;
     }
 

@@ -13,6 +13,7 @@ ghost use Rattle.netlist.specs.Judgements.{isGate, isOutput};
 ghost use Rattle.runner.specs.Causes.{badGates};
 ghost use Rattle.runner.specs.Inner.{widthCauses, lengthCauses, carriedCauses, wordCauses, listCauses};
 use crate::words;
+use judging::CallFault;
 use judging::Fault;
 use judging::is_none;
 use judging::judge_high;
@@ -130,12 +131,12 @@ fn judge_gates(width: usize, list: &[u32]) -> Fault
 {
     let g = words::word(list, 1);
     if !are_gates(width, list, g) {
-        return Fault::BadGate;
+        return Fault::Call(CallFault::BadGate);
     }
     if are_outputs(width, list, g) {
         Fault::None
     } else {
-        Fault::BadGate
+        Fault::Call(CallFault::BadGate)
     }
 }
 
