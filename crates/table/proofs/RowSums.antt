@@ -25,9 +25,8 @@ use Rattle.judging.specs.Faults.{isNone}
 use Rattle.operand.specs.Calls.{answer, zeroCall}
 use Rattle.judging.specs.FaultTable.{badWidth}
 use Rattle.judging.proofs.CauseLaws.{none-given}
-use Rattle.judging.proofs.Passed.{width-passes}
+use Rattle.judging.proofs.Passed.{width-passes, IsWidth}
 use Rattle.operand.proofs.FaultFree.{done}
-use Rattle.judging.proofs.Passed.{IsWidth}
 use Rattle.gf2.proofs.Carrying.{coord-carried, carried-from}
 use Rattle.table.specs.Rows.{Shaped, carriedRow, rowsAt, leftProduct, rightProduct}
 use Rattle.table.proofs.Shapes.{sized, row-short}

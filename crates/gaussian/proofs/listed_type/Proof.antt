@@ -4,11 +4,6 @@ use borrow.Author.Needs.{needs}
 use Rattle.gaussian.proofs.listed_type.Statement.{statement}
 use Rattle.gaussian.proofs.listed_type.Tie as tie
 
-returns : tie.Need-returns
-returns c = type-refused _ (c .before .listed .ensures) (c .if1 .taken)
-
-returns-2 : tie.Need-returns-2
-returns-2 c = type-given _ (c .before .listed .ensures) (c .if1 .left)
-
 pub listed-type-spec : {M : Type 1} → statement M
-listed-type-spec = tie.close (tie.spec (λ c κs. search needs) returns returns-2)
+listed-type-spec = tie.close (tie.spec (λ c κs. search needs) (λ c. type-refused _ (c .before .listed .ensures) (c .if1 .taken))
+    (λ c. type-given _ (c .before .listed .ensures) (c .if1 .left)))

@@ -7,9 +7,6 @@ use borrow.Author.Needs.{needs}
 use Rattle.card.proofs.reading.number_at.Statement.{statement}
 use Rattle.card.proofs.reading.number_at.Tie as tie
 
-returns : tie.Need-returns
-returns c = sym (number-ends _ _ (c .if1 .taken))
-
 cast-low : tie.Need-cast-low
 cast-low c = omega (arith, c .shared-slice-known .given (c .before .before .args .at))
 
@@ -37,5 +34,5 @@ returns-6 c = sym (number-long _ _ (c .before .before .before .before .before .b
 pub number-at-spec : {M : Type 1} → statement M
 number-at-spec =
     tie.close
-    (tie.spec returns (λ c. search needs) cast-low (λ c. search needs) returns-2 returns-3 (λ c. search needs) cast-high returns-4 (λ c. search needs) add-t20
-    (λ c. search needs) returns-5 returns-6)
+    (tie.spec (λ c. sym (number-ends _ _ (c .if1 .taken))) (λ c. search needs) cast-low (λ c. search needs) returns-2 returns-3 (λ c. search needs) cast-high
+    returns-4 (λ c. search needs) add-t20 (λ c. search needs) returns-5 returns-6)

@@ -12,9 +12,6 @@ Inv-loop card at width count bytes₀ next₀ free₀ left₀ bytes next free le
 abbrev μ-loop : tie.MeasureT-loop
 μ-loop card at width count bytes₀ next₀ free₀ left₀ bytes next free left = left
 
-loop-holds : tie.Need-loop-holds Inv-loop μ-loop
-loop-holds c = places-none _ _ _
-
 returns : tie.Need-returns Inv-loop μ-loop
 returns c =
     let n = c .before .before .before in
@@ -31,12 +28,9 @@ loop-again c =
     let l = n .before .before in
     rw bit-value (places-more (l .loop .inv) (l .before .before .pre) (n .before .loop-test .taken) (got-of _ (n .number-at .ensures) (c .before .before .step .given .1)) (c .if1 .left))
 
-returns-3 : tie.Need-returns-3 Inv-loop μ-loop
-returns-3 c = places-done (c .before .loop .inv) (c .loop-test .left)
-
 pub places-at-spec : {M : Type 1} → statement M
 places-at-spec =
     tie.close
-    (tie.spec Inv-loop μ-loop loop-holds (λ c κs. search needs) (λ c. search needs) returns (λ c. search needs) (λ c. search needs) returns-2
+    (tie.spec Inv-loop μ-loop (λ c. places-none _ _ _) (λ c κs. search needs) (λ c. search needs) returns (λ c. search needs) (λ c. search needs) returns-2
     (λ c. search needs) (λ c. search needs) (λ c. search needs) (λ c. search needs) (λ c. search needs) (λ c. search needs) (λ c. search needs)
-    (λ c. search needs) loop-again returns-3)
+    (λ c. search needs) loop-again (λ c. places-done (c .before .loop .inv) (c .loop-test .left)))

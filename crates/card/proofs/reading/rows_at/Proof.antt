@@ -22,9 +22,6 @@ mul-from c =
 loop-holds : tie.Need-loop-holds Inv-loop μ-loop
 loop-holds c = let s = c .before .before .before in rows-none _ _ _ _ _ _ (s .pre .0) (s .pre .1) (c .bytes-for .ensures)
 
-same-length : tie.Need-same-length Inv-loop μ-loop
-same-length c = c .before .before .before .before .before .loop .inv .kept
-
 returns : tie.Need-returns Inv-loop μ-loop
 returns c =
     let s = c .before .before .before in
@@ -53,14 +50,9 @@ loop-again c =
     rw size
     (rows-more (l .loop .inv) (l .before .before .before .before .pre .0) (s .before .loop-test .taken) (row .1) (row .2) (rw size at (put .put-bytes .ensures)) (put .put-bytes .kept .0))
 
-same-length-2 : tie.Need-same-length-2 Inv-loop μ-loop
-same-length-2 c = c .before .loop .inv .kept
-
-returns-2 : tie.Need-returns-2 Inv-loop μ-loop
-returns-2 c = rows-done (c .before .loop .inv) (c .loop-test .left)
-
 pub rows-at-spec : {M : Type 1} → statement M
 rows-at-spec =
     tie.close
-    (tie.spec Inv-loop μ-loop (λ c κs. search needs) mul-from loop-holds (λ c κs. search needs) (λ c. search needs) same-length returns (λ c. search needs)
-    put-bytes-requires add-from (λ c. search needs) (λ c. search needs) loop-again same-length-2 returns-2)
+    (tie.spec Inv-loop μ-loop (λ c κs. search needs) mul-from loop-holds (λ c κs. search needs) (λ c. search needs)
+    (λ c. c .before .before .before .before .before .loop .inv .kept) returns (λ c. search needs) put-bytes-requires add-from (λ c. search needs)
+    (λ c. search needs) loop-again (λ c. c .before .loop .inv .kept) (λ c. rows-done (c .before .loop .inv) (c .loop-test .left)))

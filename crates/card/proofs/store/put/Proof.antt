@@ -5,8 +5,5 @@ use borrow.Author.Needs.{needs}
 use Rattle.card.proofs.store.put.Statement.{statement}
 use Rattle.card.proofs.store.put.Tie as tie
 
-returns-2 : tie.Need-returns-2
-returns-2 c = sym (set-out _ _ _ (c .if1 .left))
-
 pub put-spec : {M : Type 1} → statement M
-put-spec = tie.close (tie.spec (λ c. search needs) (λ c. search needs) (λ c. search needs) returns-2)
+put-spec = tie.close (tie.spec (λ c. search needs) (λ c. search needs) (λ c. search needs) (λ c. sym (set-out _ _ _ (c .if1 .left))))

@@ -16,9 +16,6 @@ Inv-loop out₀ at size row b₀ out b = (b ≤ size) × (out ≡ sets out₀ at
 abbrev μ-loop : tie.MeasureT-loop
 μ-loop out₀ at size row b₀ out b = size - b
 
-loop-holds : tie.Need-loop-holds Inv-loop μ-loop
-loop-holds c = (omega arith, refl, refl)
-
 loop-again : tie.Need-loop-again Inv-loop μ-loop
 loop-again c =
     let l = c .before .before .before .before .before in
@@ -27,14 +24,11 @@ loop-again c =
     let len : length (a .t3) ≡ carriedBytes = search needs in
     (omega arith, c .before .before .put .ensures ∙ rw (w .inv .1) (sets-one (a .out .now) (a .t3) (a .at) (w .b) (omega arith)), c .before .before .put .kept .0 ∙ w .inv .2)
 
-same-length : tie.Need-same-length Inv-loop μ-loop
-same-length c = c .before .loop .inv .2
-
 returns : tie.Need-returns Inv-loop μ-loop
 returns c = let e : c .before .loop .b ≡ c .before .before .before .args .size = omega arith in rw e at (c .before .loop .inv .1)
 
 pub put-bytes-spec : {M : Type 1} → statement M
 put-bytes-spec =
     tie.close
-    (tie.spec Inv-loop μ-loop loop-holds (λ c. search needs) (λ c. search needs) (λ c κs. search needs) (λ c. search needs) (λ c. search needs) loop-again
-    same-length returns)
+    (tie.spec Inv-loop μ-loop (λ c. (omega arith, refl, refl)) (λ c. search needs) (λ c. search needs) (λ c κs. search needs) (λ c. search needs)
+    (λ c. search needs) loop-again (λ c. c .before .loop .inv .2) returns)

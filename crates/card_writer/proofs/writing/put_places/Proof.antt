@@ -11,9 +11,6 @@ Inv-loop out₀ at row count next₀ free₀ left₀ out next free left = StepsT
 abbrev μ-loop : tie.MeasureT-loop
 μ-loop out₀ at row count next₀ free₀ left₀ out next free left = left
 
-loop-holds : tie.Need-loop-holds Inv-loop μ-loop
-loop-holds c = steps-none _ _ _ (c .before .pre .0)
-
 sub-put-number : tie.Need-sub-put-number Inv-loop μ-loop
 sub-put-number c = steps-next (c .before .before .before .loop .inv) (c .before .before .loop-test .taken) (c .before .next-one .ensures) .above
 
@@ -34,14 +31,9 @@ loop-again c =
     let n = c .before .before .before .before in
     steps-more (n .before .before .loop .inv) (n .before .loop-test .taken) (n .next-one .ensures) (c .before .before .put-number .ensures)
 
-same-length : tie.Need-same-length Inv-loop μ-loop
-same-length c = left-kept (c .before .loop .inv .remains)
-
-returns : tie.Need-returns Inv-loop μ-loop
-returns c = steps-done (c .before .loop .inv) (c .loop-test .left)
-
 pub put-places-spec : {M : Type 1} → statement M
 put-places-spec =
     tie.close
-    (tie.spec Inv-loop μ-loop loop-holds (λ c κs. search needs) sub-put-number put-number-requires add-free (λ c. search needs) (λ c. search needs) loop-again
-    same-length returns)
+    (tie.spec Inv-loop μ-loop (λ c. steps-none _ _ _ (c .before .pre .0)) (λ c κs. search needs) sub-put-number put-number-requires add-free
+    (λ c. search needs) (λ c. search needs) loop-again (λ c. left-kept (c .before .loop .inv .remains))
+    (λ c. steps-done (c .before .loop .inv) (c .loop-test .left)))

@@ -12,9 +12,6 @@ Inv-loop out₀ at table width start count next₀ d₀ out next d = RowsPut wid
 abbrev μ-loop : tie.MeasureT-loop
 μ-loop out₀ at table width start count next₀ d₀ out next d = start + count - d
 
-loop-holds : tie.Need-loop-holds Inv-loop μ-loop
-loop-holds c = rows-none _ _ _ _ _ _
-
 put-row-requires : tie.Need-put-row-requires Inv-loop μ-loop
 put-row-requires c κs =
     let l = c .before .before in
@@ -26,13 +23,8 @@ loop-again c =
     let l = c .before .before .before .before in
     rows-more (l .before .loop .inv) (l .loop-test .taken) (c .before .before .put-row .ensures)
 
-same-length : tie.Need-same-length Inv-loop μ-loop
-same-length c = left-kept (c .before .loop .inv .remains)
-
-returns : tie.Need-returns Inv-loop μ-loop
-returns c = rows-done (c .before .loop .inv) (c .loop-test .left)
-
 pub put-rows-spec : {M : Type 1} → statement M
 put-rows-spec =
     tie.close
-    (tie.spec Inv-loop μ-loop loop-holds (λ c. search needs) put-row-requires (λ c. search needs) (λ c. search needs) loop-again same-length returns)
+    (tie.spec Inv-loop μ-loop (λ c. rows-none _ _ _ _ _ _) (λ c. search needs) put-row-requires (λ c. search needs) (λ c. search needs) loop-again
+    (λ c. left-kept (c .before .loop .inv .remains)) (λ c. rows-done (c .before .loop .inv) (c .loop-test .left)))

@@ -23,9 +23,6 @@ writable t =
     let a = t .before .before .before .before .before .args in
     shape-writable _ (a .table .now) (judged (shapeCauses _ (a .table .now)) [] (t .before .before .judge-shape .ensures) (t .before .is-none .ensures) (not-false _ (t .if1 .left)))
 
-put-card-requires : tie.Need-put-card-requires
-put-card-requires c κs = writable (c .before)
-
 returns-2 : tie.Need-returns-2
 returns-2 c =
     let p = c .before .before in
@@ -34,9 +31,6 @@ returns-2 c =
     let old = j .before .before .before .args .out .now in
     let x = wrote-short _ _ old (j .judge-shape .ensures) (t .before .is-none .ensures) (not-false _ (t .if1 .left)) (p .put-card .ensures .ends) (omega (arith, c .if2 .taken)) in
     (x .answers, x .leaves)
-
-put-card-requires-2 : tie.Need-put-card-requires-2
-put-card-requires-2 c κs = writable (c .before .before .before .before .before)
 
 returns-3 : tie.Need-returns-3
 returns-3 c =
@@ -50,5 +44,5 @@ returns-3 c =
 pub write-spec : {M : Type 1} → statement M
 write-spec =
     tie.close
-    (tie.spec (λ c κs. search needs) (λ c κs. search needs) returns (λ c. search needs) put-card-requires returns-2 put-card-requires-2 (λ c. search needs)
-    returns-3)
+    (tie.spec (λ c κs. search needs) (λ c κs. search needs) returns (λ c. search needs) (λ c κs. writable (c .before)) returns-2
+    (λ c κs. writable (c .before .before .before .before .before)) (λ c. search needs) returns-3)

@@ -15,12 +15,6 @@ Inv-loop table₀ logs m t w p y₀ d₀ table y d = TermLoop m t (modulus m t) 
 abbrev μ-loop : tie.MeasureT-loop
 μ-loop table₀ logs m t w p y₀ d₀ table y d = m - d
 
-modulus-requires : tie.Need-modulus-requires Inv-loop μ-loop
-modulus-requires c κs = c .before .before .pre .0
-
-loop-holds : tie.Need-loop-holds Inv-loop μ-loop
-loop-holds c = term-start _ (c .before .before .before .pre .3)
-
 add-add-image : tie.Need-add-add-image Inv-loop μ-loop
 add-add-image c = omega (arith, c .before .before .loop .inv .less .small, c .before .before .loop .inv .less .less)
 
@@ -46,14 +40,9 @@ loop-again c =
     let s = c .before .before .before .before .before in
     term-more (s .loop .inv) (s .before .modulus .ensures) (c .before .before .add-image .ensures) (omega arith)
 
-same-length : tie.Need-same-length Inv-loop μ-loop
-same-length c = c .before .loop .inv .size
-
-returns : tie.Need-returns Inv-loop μ-loop
-returns c = term-done (c .before .loop .inv) (omega arith)
-
 pub add-images-spec : {M : Type 1} → statement M
 add-images-spec =
     tie.close
-    (tie.spec Inv-loop μ-loop modulus-requires loop-holds add-add-image rem-add-image add-image-requires mul-y rem-y (λ c. search needs) (λ c. search needs)
-    loop-again same-length returns)
+    (tie.spec Inv-loop μ-loop (λ c κs. c .before .before .pre .0) (λ c. term-start _ (c .before .before .before .pre .3)) add-add-image rem-add-image
+    add-image-requires mul-y rem-y (λ c. search needs) (λ c. search needs) loop-again (λ c. c .before .loop .inv .size)
+    (λ c. term-done (c .before .loop .inv) (omega arith)))

@@ -14,17 +14,12 @@ Inv-loop table₀ b₀ table b = Filled (length table₀) (λ k. 0) table₀ tab
 abbrev μ-loop : tie.MeasureT-loop
 μ-loop table₀ b₀ table b = length table₀ - b
 
-loop-holds : tie.Need-loop-holds Inv-loop μ-loop
-loop-holds c = (filled-none _ _ _, refl)
-
 loop-again : tie.Need-loop-again Inv-loop μ-loop
 loop-again c = (filled-more (c .before .loop .inv .0) (omega arith) (omega arith) refl, simp length-set (c .before .loop .inv .1))
-
-same-length : tie.Need-same-length Inv-loop μ-loop
-same-length c = c .before .loop .inv .1
 
 returns : tie.Need-returns Inv-loop μ-loop
 returns c = filled-all (c .before .loop .inv .0) (omega arith) (omega arith)
 
 pub clear-spec : {M : Type 1} → statement M
-clear-spec = tie.close (tie.spec Inv-loop μ-loop loop-holds (λ c. search needs) (λ c. search needs) (λ c. search needs) loop-again same-length returns)
+clear-spec = tie.close (tie.spec Inv-loop μ-loop (λ c. (filled-none _ _ _, refl)) (λ c. search needs) (λ c. search needs) (λ c. search needs) loop-again
+    (λ c. c .before .loop .inv .1) returns)

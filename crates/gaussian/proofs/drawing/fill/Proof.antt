@@ -19,12 +19,6 @@ Inv-loop table₀ m t p logs w₀ table w = (table ≡ partial m t w) × (length
 abbrev μ-loop : tie.MeasureT-loop
 μ-loop table₀ m t p logs w₀ table w = p - w
 
-modulus-requires : tie.Need-modulus-requires Inv-loop μ-loop
-modulus-requires c κs = c .before .before .before .before .before .pre .0
-
-logarithms-requires : tie.Need-logarithms-requires Inv-loop μ-loop
-logarithms-requires c κs = c .before .before .before .before .before .before .pre .0
-
 loop-holds : tie.Need-loop-holds Inv-loop μ-loop
 loop-holds c =
     let s = c .before .before .before .before in
@@ -45,9 +39,6 @@ add-term-requires c κs =
 add-w : tie.Need-add-w Inv-loop μ-loop
 add-w c = let s = c .before .before .before .before .before .before in omega (arith, s .before .before .modulus .ensures)
 
-loop-less : tie.Need-loop-less Inv-loop μ-loop
-loop-less c = omega arith
-
 loop-again : tie.Need-loop-again Inv-loop μ-loop
 loop-again c =
     let s = c .before .before .before .before .before .before in (
@@ -65,5 +56,6 @@ returns c = sum-done _ _ _ (c .before .loop .inv .0) (omega (arith, c .before .b
 pub fill-spec : {M : Type 1} → statement M
 fill-spec =
     tie.close
-    (tie.spec Inv-loop μ-loop (λ c κs. search needs) modulus-requires logarithms-requires loop-holds (λ c. search needs) add-term-requires add-w loop-less
-    loop-again same-length returns)
+    (tie.spec Inv-loop μ-loop (λ c κs. search needs) (λ c κs. c .before .before .before .before .before .pre .0)
+    (λ c κs. c .before .before .before .before .before .before .pre .0) loop-holds (λ c. search needs) add-term-requires add-w (λ c. omega arith) loop-again
+    same-length returns)

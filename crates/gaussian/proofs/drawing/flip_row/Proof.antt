@@ -32,11 +32,9 @@ loop-again c =
       omega (arith, s .inv .1),
     )
 
-same-length : tie.Need-same-length Inv-loop μ-loop
-same-length c = c .before .loop .inv .1
-
 returns : tie.Need-returns Inv-loop μ-loop
 returns c = row-same _ _ _ _ (c .before .loop .inv .0) (λ i l. rw (lt-ltb i (c .before .loop .s) (lt-of-lt-of-le l (omega arith))))
 
 pub flip-row-spec : {M : Type 1} → statement M
-flip-row-spec = tie.close (tie.spec Inv-loop μ-loop loop-holds flip-requires (λ c. search needs) (λ c. search needs) loop-again same-length returns)
+flip-row-spec = tie.close (tie.spec Inv-loop μ-loop loop-holds flip-requires (λ c. search needs) (λ c. search needs) loop-again (λ c. c .before .loop .inv .1)
+    returns)

@@ -8,11 +8,6 @@ use Rattle.gaussian.proofs.residues.digit.Tie as tie
 mul-result : tie.Need-mul-result
 mul-result c = omega (arith, product-small (c .before .pre .0) (c .before .pre .1))
 
-returns : tie.Need-returns
-returns c = digit-zero _ _ (c .before .pre .0) (c .if1 .taken)
-
-returns-2 : tie.Need-returns-2
-returns-2 c = digit-one _ _ _ _ (c .if1 .left)
-
 pub digit-spec : {M : Type 1} → statement M
-digit-spec = tie.close (tie.spec mul-result (λ c. search needs) returns returns-2)
+digit-spec = tie.close (tie.spec mul-result (λ c. search needs) (λ c. digit-zero _ _ (c .before .pre .0) (c .if1 .taken))
+    (λ c. digit-one _ _ _ _ (c .if1 .left)))

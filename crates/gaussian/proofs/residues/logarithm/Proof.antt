@@ -12,15 +12,6 @@ use Rattle.gaussian.proofs.residues.logarithm.Tie as tie
 less : (c : tie.After-power) → let a = c .before .before .before .args in Residue (modulus (a .m) (a .t)) (c .power .result)
 less c = residue-of _ (rw (c .before .modulus .ensures) at (c .power .ensures)) (c .before .before .before .pre .2)
 
-modulus-requires : tie.Need-modulus-requires
-modulus-requires c κs = c .before .pre .0
-
-power-requires : tie.Need-power-requires
-power-requires c κs = rw (c .modulus .ensures) (c .before .before .pre .2)
-
-mul-result : tie.Need-mul-result
-mul-result c = let r = less c in omega (arith, r .small, r .less)
-
 shared-slice-read-result : tie.Need-shared-slice-read-result
 shared-slice-read-result c =
     let r = less (c .before) in
@@ -33,4 +24,5 @@ returns : tie.Need-returns
 returns c = ap (λ y. getD (c .before .before .before .before .args .logs .now) y 0) (rw (c .before .before .modulus .ensures) at (c .before .power .ensures))
 
 pub logarithm-spec : {M : Type 1} → statement M
-logarithm-spec = tie.close (tie.spec modulus-requires power-requires mul-result shared-slice-read-result cast-result returns)
+logarithm-spec = tie.close (tie.spec (λ c κs. c .before .pre .0) (λ c κs. rw (c .modulus .ensures) (c .before .before .pre .2))
+    (λ c. let r = less c in omega (arith, r .small, r .less)) shared-slice-read-result cast-result returns)

@@ -13,14 +13,8 @@ Inv-loop m t p base logs₀ y₀ s₀ logs y s = LogLoop m t logs y s
 abbrev μ-loop : tie.MeasureT-loop
 μ-loop m t p base logs₀ y₀ s₀ logs y s = m - s
 
-modulus-requires : tie.Need-modulus-requires Inv-loop μ-loop
-modulus-requires c κs = c .pre
-
 power-requires : tie.Need-power-requires Inv-loop μ-loop
 power-requires c κs = rw (c .modulus .ensures) (residue 2 (c .before .pre) (two-less (c .before .pre)))
-
-loop-holds : tie.Need-loop-holds Inv-loop μ-loop
-loop-holds c = log-start (c .before .before .pre)
 
 add-logs : tie.Need-add-logs Inv-loop μ-loop
 add-logs c = omega (arith, c .before .before .before .before .pre .greatest)
@@ -53,5 +47,5 @@ returns c = log-done (c .before .before .before .before .pre) (c .before .loop .
 pub logarithms-spec : {M : Type 1} → statement M
 logarithms-spec =
     tie.close
-    (tie.spec Inv-loop μ-loop modulus-requires power-requires loop-holds add-logs cast-logs mul-logs array-write-logs mul-y rem-y (λ c. search needs)
-    (λ c. search needs) loop-again returns)
+    (tie.spec Inv-loop μ-loop (λ c κs. c .pre) power-requires (λ c. log-start (c .before .before .pre)) add-logs cast-logs mul-logs array-write-logs mul-y
+    rem-y (λ c. search needs) (λ c. search needs) loop-again returns)

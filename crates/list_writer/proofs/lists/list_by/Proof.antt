@@ -38,15 +38,6 @@ few c =
     let a = t .before .before .before .args in
     told-few (told (a .method) (a .width) (a .table .now) (t .tally .ensures) (passed c)) (tally-gates (a .method) (a .width) (a .table .now) (t .tally .ensures) (passed c))
 
-mul-q : tie.Need-mul-q
-mul-q c = omega (arith, few c)
-
-add-q : tie.Need-add-q
-add-q c = omega (arith, few c)
-
-add-if2 : tie.Need-add-if2
-add-if2 c = omega (arith, few c)
-
 returns-2 : tie.Need-returns-2
 returns-2 c =
     let p = c .before .before in
@@ -79,5 +70,5 @@ returns-3 c =
 pub list-by-spec : {M : Type 1} → statement M
 list-by-spec =
     tie.close
-    (tie.spec (λ c κs. search needs) (λ c κs. search needs) (λ c κs. search needs) returns mul-q add-q add-if2 (λ c κs. search needs) returns-2
-    put-list-requires (λ c. search needs) returns-3)
+    (tie.spec (λ c κs. search needs) (λ c κs. search needs) (λ c κs. search needs) returns (λ c. omega (arith, few c)) (λ c. omega (arith, few c))
+    (λ c. omega (arith, few c)) (λ c κs. search needs) returns-2 put-list-requires (λ c. search needs) returns-3)

@@ -6,11 +6,8 @@ use borrow.Author.Needs.{needs}
 use Rattle.nb.proofs.drawing.nb_draw.Statement.{statement}
 use Rattle.nb.proofs.drawing.nb_draw.Tie as tie
 
-answer-requires : tie.Need-answer-requires
-answer-requires c κs = draw-packs _ _ (c .before .before .draw .ensures .0)
-
 returns : tie.Need-returns
 returns c = (c .answer .ensures ∙ ap typeAnswer (c .before .before .before .draw .ensures .0), c .before .before .before .draw .ensures .1)
 
 pub nb-draw-spec : {M : Type 1} → statement M
-nb-draw-spec = tie.close (tie.spec (λ c κs. search needs) answer-requires (λ c. search needs) returns)
+nb-draw-spec = tie.close (tie.spec (λ c κs. search needs) (λ c κs. draw-packs _ _ (c .before .before .draw .ensures .0)) (λ c. search needs) returns)

@@ -6,11 +6,8 @@ use borrow.Author.Needs.{needs}
 use Rattle.nb.proofs.drawing.nb_type.Statement.{statement}
 use Rattle.nb.proofs.drawing.nb_type.Tie as tie
 
-answer-requires : tie.Need-answer-requires
-answer-requires c κs = type-answer-packs _ (c .type-of .ensures)
-
 returns : tie.Need-returns
 returns c = c .answer .ensures ∙ ap typeAnswer (c .before .type-of .ensures)
 
 pub nb-type-spec : {M : Type 1} → statement M
-nb-type-spec = tie.close (tie.spec (λ c κs. search needs) answer-requires returns)
+nb-type-spec = tie.close (tie.spec (λ c κs. search needs) (λ c κs. type-answer-packs _ (c .type-of .ensures)) returns)

@@ -35,8 +35,6 @@ sub-result-2 c =
     let a = c .before .args in
     omega (arith, mul-pos {m = a .width} {n = a .full} (omega (arith, c .before .pre .least)) (omega (arith, c .if1 .left)))
 
-returns-2 : tie.Need-returns-2
-returns-2 c = if-some _ _ _ (c .if1 .left)
-
 pub common-gates-spec : {M : Type 1} → statement M
-common-gates-spec = tie.close (tie.spec (λ c κs. search needs) returns (λ c. search needs) add-result (λ c. search needs) mul-result add-result-2 sub-result-2 returns-2)
+common-gates-spec = tie.close (tie.spec (λ c κs. search needs) returns (λ c. search needs) add-result (λ c. search needs) mul-result add-result-2 sub-result-2
+    (λ c. if-some _ _ _ (c .if1 .left)))

@@ -29,8 +29,6 @@ sub-result-2 c =
     let a = c .before .args in
     omega (arith, mul-pos {m = a .width} {n = a .full} (omega (arith, c .before .pre .least)) (omega (arith, c .if1 .left)))
 
-returns-2 : tie.Need-returns-2
-returns-2 c = if-some _ _ _ (c .if1 .left)
-
 pub common-xors-spec : {M : Type 1} → statement M
-common-xors-spec = tie.close (tie.spec (λ c κs. search needs) returns (λ c. search needs) (λ c. search needs) mul-result add-result sub-result-2 returns-2)
+common-xors-spec = tie.close (tie.spec (λ c κs. search needs) returns (λ c. search needs) (λ c. search needs) mul-result add-result sub-result-2
+    (λ c. if-some _ _ _ (c .if1 .left)))

@@ -18,9 +18,6 @@ Inv-loop width table n₀ d₀ n d = (d ≤ width) × (n ≤ d) × (n ≡ sum d 
 abbrev μ-loop : tie.MeasureT-loop
 μ-loop width table n₀ d₀ n d = width - d
 
-loop-holds : tie.Need-loop-holds Inv-loop μ-loop
-loop-holds c = (omega arith, omega arith, sym (sum-zero _))
-
 loop-again : tie.Need-loop-again Inv-loop μ-loop
 loop-again c =
     let a = c .before .before .before .before .before .args in
@@ -42,4 +39,5 @@ returns c =
 pub full-rows-spec : {M : Type 1} → statement M
 full-rows-spec =
     tie.close
-    (tie.spec Inv-loop μ-loop loop-holds (λ c κs. search needs) (λ c. search needs) (λ c. search needs) (λ c. search needs) loop-again returns)
+    (tie.spec Inv-loop μ-loop (λ c. (omega arith, omega arith, sym (sum-zero _))) (λ c κs. search needs) (λ c. search needs) (λ c. search needs)
+    (λ c. search needs) loop-again returns)

@@ -1,12 +1,11 @@
 -- `operand::judge::judge_solve` meets its contract.
 use mathlib.Core.List.{[], _∷_}
-use borrow.Author.Tests.{not-true, not-false}
+use borrow.Author.Tests.{not-true, not-false, eq-eqb, ne-eqb}
 use Rattle.judging.specs.FaultTable.{highBit, traceIsOne}
 use Rattle.judging.proofs.CauseLaws.{ends, follows}
 use mathlib.Core.Path.{sym, _∙_}
 use Rattle.judging.specs.Causes.{faultOf}
 use Rattle.gf2.specs.Quadratic.{trace}
-use borrow.Author.Tests.{eq-eqb, ne-eqb}
 use borrow.Author.Needs.{needs}
 use Rattle.operand.proofs.judge.judge_solve.Statement.{statement}
 use Rattle.operand.proofs.judge.judge_solve.Tie as tie

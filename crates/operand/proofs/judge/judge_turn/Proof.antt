@@ -1,10 +1,9 @@
 -- `operand::judge::judge_turn` meets its contract.
 use mathlib.Core.List.{[], _∷_}
-use borrow.Author.Tests.{not-true, not-false}
+use borrow.Author.Tests.{not-true, not-false, le-leb, lt-leb}
 use Rattle.judging.specs.FaultTable.{highBit, turnTooFar}
 use Rattle.judging.proofs.CauseLaws.{ends, follows}
 use Rattle.judging.specs.Causes.{faultOf}
-use borrow.Author.Tests.{le-leb, lt-leb}
 use borrow.Author.Needs.{needs}
 use Rattle.operand.proofs.judge.judge_turn.Statement.{statement}
 use Rattle.operand.proofs.judge.judge_turn.Tie as tie

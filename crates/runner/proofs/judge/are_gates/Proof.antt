@@ -17,12 +17,6 @@ Inv-loop width list g k₀ k = (k ≤ g) × (every k (isGate width list) ≡ tru
 abbrev μ-loop : tie.MeasureT-loop
 μ-loop width list g k₀ k = g - k
 
-loop-holds : tie.Need-loop-holds Inv-loop μ-loop
-loop-holds c = (omega arith, every-none _)
-
-is-gate-requires : tie.Need-is-gate-requires Inv-loop μ-loop
-is-gate-requires c κs = omega arith
-
 returns : tie.Need-returns Inv-loop μ-loop
 returns c = sym (every-not _ _ (c .before .before .before .loop .k) (c .before .before .loop-test .taken) (sym (c .before .is-gate .ensures) ∙ not-true _ (c .if1 .taken)))
 
@@ -36,4 +30,5 @@ returns-2 c =
     sym (rw e at (w .inv .1))
 
 pub are-gates-spec : {M : Type 1} → statement M
-are-gates-spec = tie.close (tie.spec Inv-loop μ-loop loop-holds is-gate-requires returns (λ c. search needs) (λ c. search needs) loop-again returns-2)
+are-gates-spec = tie.close (tie.spec Inv-loop μ-loop (λ c. (omega arith, every-none _)) (λ c κs. omega arith) returns (λ c. search needs) (λ c. search needs)
+    loop-again returns-2)

@@ -17,9 +17,6 @@ use Rattle.runner.proofs.judge.judge_gates.Tie as tie
 counted : (m : ℕ) (list : List ℕ) {g : ℕ} {b v : Bool} → g ≡ gateCount list → b ≡ every g (isGate m list) → b ≡ v → every (gateCount list) (isGate m list) ≡ v
 counted m list e h q = ap (λ g. every g (isGate m list)) (sym e) ∙ sym h ∙ q
 
-are-gates-requires : tie.Need-are-gates-requires
-are-gates-requires c κs = (c .before .before .pre, omega (arith, c .word .ensures .1))
-
 returns : tie.Need-returns
 returns c =
     let a = c .before .before .before .before .args in
@@ -42,4 +39,5 @@ returns-3 : tie.Need-returns-3
 returns-3 c = let a = c .before .before .before .before .before .before .args in outputs-bad (a .width) (a .list .now) (sym (c .before .are-outputs .ensures) ∙ c .if2 .left)
 
 pub judge-gates-spec : {M : Type 1} → statement M
-judge-gates-spec = tie.close (tie.spec (λ c κs. search needs) are-gates-requires returns are-outputs-requires returns-2 returns-3)
+judge-gates-spec = tie.close (tie.spec (λ c κs. search needs) (λ c κs. (c .before .before .pre, omega (arith, c .word .ensures .1))) returns
+    are-outputs-requires returns-2 returns-3)

@@ -17,27 +17,15 @@ Inv-loop width list wires result₀ b₀ result b = Filled (bytesFor width) (λ 
 abbrev μ-loop : tie.MeasureT-loop
 μ-loop width list wires result₀ b₀ result b = length result₀ - b
 
-loop-holds : tie.Need-loop-holds Inv-loop μ-loop
-loop-holds c = (filled-none _ _ _, refl)
-
 output-byte-requires : tie.Need-output-byte-requires Inv-loop μ-loop
 output-byte-requires c κs =
     let s = c .before .before .before .before .before in
     (s .pre .0, omega (arith, s .pre .1, c .before .loop .inv .1))
 
-slice-write-result : tie.Need-slice-write-result Inv-loop μ-loop
-slice-write-result c = omega (arith, c .before .before .loop .inv .1)
-
-loop-less : tie.Need-loop-less Inv-loop μ-loop
-loop-less c = omega (arith, c .before .before .loop .inv .1)
-
 loop-again : tie.Need-loop-again Inv-loop μ-loop
 loop-again c =
     let s = c .before .before .before .before .before .before in
     (filled-more (c .before .before .loop .inv .0) (omega (arith, s .pre .1, c .before .before .loop .inv .1)) (omega (arith, s .pre .1)) (c .output-byte .ensures), simp length-set (c .before .before .loop .inv .1))
-
-same-length : tie.Need-same-length Inv-loop μ-loop
-same-length c = c .before .loop .inv .1
 
 returns : tie.Need-returns Inv-loop μ-loop
 unfolding fromCoords pack
@@ -46,4 +34,5 @@ returns c = filled-all (c .before .loop .inv .0) (omega (arith, c .before .befor
 pub fill-result-spec : {M : Type 1} → statement M
 fill-result-spec =
     tie.close
-    (tie.spec Inv-loop μ-loop loop-holds output-byte-requires slice-write-result (λ c. search needs) loop-less loop-again same-length returns)
+    (tie.spec Inv-loop μ-loop (λ c. (filled-none _ _ _, refl)) output-byte-requires (λ c. omega (arith, c .before .before .loop .inv .1)) (λ c. search needs)
+    (λ c. omega (arith, c .before .before .loop .inv .1)) loop-again (λ c. c .before .loop .inv .1) returns)

@@ -21,9 +21,6 @@ loop-holds : tie.Need-loop-holds Inv-loop μ-loop
 unfolding value sum
 loop-holds c = (omega arith, omega arith)
 
-output-bit-requires : tie.Need-output-bit-requires Inv-loop μ-loop
-output-bit-requires c κs = c .before .before .before .before .pre .0
-
 add-byte : tie.Need-add-byte Inv-loop μ-loop
 add-byte c =
     let s = c .before .before .before .before .before .args in
@@ -48,5 +45,5 @@ returns c =
 pub output-byte-spec : {M : Type 1} → statement M
 output-byte-spec =
     tie.close
-    (tie.spec Inv-loop μ-loop loop-holds (λ c. search needs) (λ c. search needs) output-bit-requires (λ c. search needs) (λ c. search needs) add-byte
-    (λ c. search needs) (λ c. search needs) loop-again returns)
+    (tie.spec Inv-loop μ-loop loop-holds (λ c. search needs) (λ c. search needs) (λ c κs. c .before .before .before .before .pre .0) (λ c. search needs)
+    (λ c. search needs) add-byte (λ c. search needs) (λ c. search needs) loop-again returns)

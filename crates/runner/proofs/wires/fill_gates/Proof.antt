@@ -65,9 +65,6 @@ loop-again c =
       sym (ap (λ i. getD (set (w .wires) (2 * m + w .k) (c .gate-at .result)) i 0) n ∙ getD-set-same (w .wires) (2 * m + w .k) (c .gate-at .result) 0 (omega (arith, w .inv .2, size))),
     )
 
-same-length : tie.Need-same-length Inv-loop μ-loop
-same-length c = c .before .loop .inv .2
-
 returns : tie.Need-returns Inv-loop μ-loop
 unfolding filledTo ranTo
 returns c =
@@ -82,4 +79,4 @@ pub fill-gates-spec : {M : Type 1} → statement M
 fill-gates-spec =
     tie.close
     (tie.spec Inv-loop μ-loop (λ c. search needs) (λ c. search needs) slice-read-last loop-holds gate-at-requires (λ c. search needs) (λ c. search needs)
-    slice-write-wires (λ c. search needs) (λ c. search needs) loop-again same-length returns)
+    slice-write-wires (λ c. search needs) (λ c. search needs) loop-again (λ c. c .before .loop .inv .2) returns)

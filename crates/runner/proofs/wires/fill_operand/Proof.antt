@@ -20,17 +20,11 @@ loop-holds : tie.Need-loop-holds Inv-loop μ-loop
 unfolding tabulate
 loop-holds c = (omega arith, refl, refl)
 
-slice-write-wires : tie.Need-slice-write-wires Inv-loop μ-loop
-slice-write-wires c = omega arith
-
 loop-again : tie.Need-loop-again Inv-loop μ-loop
 loop-again c =
     let a = c .before .before .before .before .before .args in
     let w = c .before .before .loop in
     (omega arith, rw (w .inv .1) (stored-more (a .wires .now) (a .at) (w .i) (coord (a .bytes .now)) _ (c .coordinate .ensures)), simp length-set (w .inv .2))
-
-same-length : tie.Need-same-length Inv-loop μ-loop
-same-length c = c .before .loop .inv .2
 
 returns : tie.Need-returns Inv-loop μ-loop
 returns c =
@@ -41,5 +35,5 @@ returns c =
 pub fill-operand-spec : {M : Type 1} → statement M
 fill-operand-spec =
     tie.close
-    (tie.spec Inv-loop μ-loop loop-holds (λ c κs. search needs) (λ c. search needs) slice-write-wires (λ c. search needs) (λ c. search needs) loop-again
-    same-length returns)
+    (tie.spec Inv-loop μ-loop loop-holds (λ c κs. search needs) (λ c. search needs) (λ c. omega arith) (λ c. search needs) (λ c. search needs) loop-again
+    (λ c. c .before .loop .inv .2) returns)

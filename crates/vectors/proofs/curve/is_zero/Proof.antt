@@ -7,8 +7,5 @@ use Rattle.vectors.proofs.curve.is_zero.Tie as tie
 returns : tie.Need-returns
 returns c = rw (sym (c .before .before .before .is-none .ensures) ∙ c .before .before .if1 .taken) (c .is-clear .ensures)
 
-returns-2 : tie.Need-returns-2
-returns-2 c = rw (sym (c .before .is-none .ensures) ∙ c .if1 .left)
-
 pub is-zero-spec : {M : Type 1} → statement M
-is-zero-spec = tie.close (tie.spec (λ c κs. search needs) (λ c κs. search needs) returns returns-2)
+is-zero-spec = tie.close (tie.spec (λ c κs. search needs) (λ c κs. search needs) returns (λ c. rw (sym (c .before .is-none .ensures) ∙ c .if1 .left)))

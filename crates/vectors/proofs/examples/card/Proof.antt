@@ -6,9 +6,6 @@ use borrow.Author.Needs.{needs}
 use Rattle.vectors.proofs.examples.card.Statement.{statement}
 use Rattle.vectors.proofs.examples.card.Tie as tie
 
-slice-aggregate-card : tie.Need-slice-aggregate-card
-slice-aggregate-card c = sym (length-take-le _ _ (omega arith))
-
 pub card-spec : {M : Type 1} → statement M
-card-spec = tie.close (tie.spec (λ c. search needs) (λ c. search needs) (λ c. search needs) slice-aggregate-card (λ c κs. search needs) (λ c κs. search needs)
-    (λ c. search needs))
+card-spec = tie.close (tie.spec (λ c. search needs) (λ c. search needs) (λ c. search needs) (λ c. sym (length-take-le _ _ (omega arith)))
+    (λ c κs. search needs) (λ c κs. search needs) (λ c. search needs))

@@ -6,11 +6,8 @@ use borrow.Author.Needs.{needs}
 use Rattle.vectors.proofs.examples.drawn.Statement.{statement}
 use Rattle.vectors.proofs.examples.drawn.Tie as tie
 
-slice-aggregate-table : tie.Need-slice-aggregate-table
-slice-aggregate-table c = sym (length-take-le _ _ (omega arith))
-
 pub drawn-spec : {M : Type 1} → statement M
 drawn-spec =
     tie.close
-    (tie.spec (λ c. search needs) slice-aggregate-table (λ c κs. search needs) (λ c κs. search needs) (λ c. search needs) (λ c κs. search needs)
-    (λ c κs. search needs) (λ c. search needs))
+    (tie.spec (λ c. search needs) (λ c. sym (length-take-le _ _ (omega arith))) (λ c κs. search needs) (λ c κs. search needs) (λ c. search needs)
+    (λ c κs. search needs) (λ c κs. search needs) (λ c. search needs))

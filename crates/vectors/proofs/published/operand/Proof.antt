@@ -16,9 +16,6 @@ Inv-loop width digits start bytes₀ b₀ bytes b = Filled carriedBytes (λ b. v
 abbrev μ-loop : tie.MeasureT-loop
 μ-loop width digits start bytes₀ b₀ bytes b = carriedBytes - b
 
-loop-holds : tie.Need-loop-holds Inv-loop μ-loop
-loop-holds c = filled-none carriedBytes _ _
-
 loop-again : tie.Need-loop-again Inv-loop μ-loop
 loop-again c = filled-more (c .before .before .loop .inv) (omega arith) (omega arith) (c .byte .ensures)
 
@@ -31,5 +28,5 @@ returns c =
 pub operand-spec : {M : Type 1} → statement M
 operand-spec =
     tie.close
-    (tie.spec Inv-loop μ-loop (λ c. search needs) loop-holds (λ c κs. search needs) (λ c. search needs) (λ c. search needs) (λ c. search needs) loop-again
-    returns)
+    (tie.spec Inv-loop μ-loop (λ c. search needs) (λ c. filled-none carriedBytes _ _) (λ c κs. search needs) (λ c. search needs) (λ c. search needs)
+    (λ c. search needs) loop-again returns)
