@@ -6,6 +6,7 @@ use native.Mathlib.Nat.{pow-suc, div-div-eq-div-mul, le-trans}
 use native.Mathlib.Decide.{decLt}
 use native.Mathlib.Omega.{arith}
 use lib.ListN.{length}
+use lib.Dec.{lit≤}
 use lib.Pow.{pow-mono, shr-le}
 use borrow.Author.Tests.{lt-ltb, le-ltb}
 use Rattle.gf2.specs.Operands.{carriedBytes, maxWidth, IsOperand, turned}
@@ -61,6 +62,12 @@ few-digits u k big h = elim (decLt u k) [
   | yes q ↦ q
   | no q ↦ absurd (omega (arith, pow-mono {i = k} {j = u} (omega arith)))
 ]
+
+-- so that two products for each of them are few
+twice-most : (u : ℕ) → 2 * u ≤ 2 ^ u
+twice-most zero = omega arith
+twice-most (suc zero) = lit≤ tt
+twice-most (suc (suc u)) = omega (arith, twice-most (suc u), pow-suc 2 (suc u))
 
 -- the digits read so far, with one more
 read-more : (n u : ℕ) → 0 < u → 2 * (n / 2 ^ u) + n / 2 ^ (u - 1) % 2 ≡ n / 2 ^ (u - 1)
@@ -185,7 +192,7 @@ start-underway {m} h s =
       power = s;
       reached = sym (top-digit (m - 1) (omega arith));
       short = small;
-      few = omega (arith, few-digits (log2 (m - 1)) 8 (omega arith) small);
+      few = omega (arith, twice-most (log2 (m - 1)), small);
     }
 
 -- the last state: its power turned by one is the inverse, and its count the number of products
