@@ -191,6 +191,9 @@ limbs-same x e size = ap limbCoord e ∙ fun-ext (limbs-coord x size)
 pub bytes-limbs : (f : ℕ → ℕ) → pack carriedBytes (limbCoord (packLimbs carriedLimbs f)) ≡ pack carriedBytes f
 bytes-limbs f = pack-ext carriedBytes _ f (λ i h. ap (λ y. y % 2) (limb-pack carriedLimbs f i (omega arith)) ∙ mod-mod _ 2)
 
+pub bytes-from : {r limbs : List ℕ} (f : ℕ → ℕ) → r ≡ pack carriedBytes (limbCoord limbs) → limbs ≡ packLimbs carriedLimbs f → r ≡ pack carriedBytes f
+bytes-from f p q = p ∙ ap (λ l. pack carriedBytes (limbCoord l)) q ∙ bytes-limbs f
+
 pub limbs-below : (n m : ℕ) (f g : ℕ → ℕ) → ((i : ℕ) → i < m → f i % 2 ≡ g i % 2) → packLimbs n (below m f) ≡ packLimbs n (below m g)
 limbs-below n m f g e = limbs-ext n (below m f) (below m g) (λ i h. elim (decLt i m) [
   | yes l ↦ ap (λ x. x % 2) (below-in m f i l) ∙ e i l ∙ ap (λ x. x % 2) (sym (below-in m g i l))

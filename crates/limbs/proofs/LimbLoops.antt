@@ -8,6 +8,8 @@ use native.Mathlib.Decide.{decLt, ℕ-discrete}
 use native.Mathlib.Numerals.{add-one}
 use native.Mathlib.Omega.{arith}
 use lib.Dec.{eqb}
+use mir.Val.{Fits}
+use mir.Syntax.{w64}
 use lib.ListN.{length, getD}
 use lib.Bits.{bitOr, or-lt, or-comm, or-shr, or-add-and, and-step, and-le-l, and-le-r, or-zero-l, bitXor, xor-lt}
 use lib.Pow.{pow-pos, pow-mono, pow-add, shr-shr, shr-le}
@@ -24,6 +26,10 @@ use Rattle.limbs.proofs.LimbCoords.{limb-digit, limb-past, length-limbs
 -- every element of a list is a limb
 abbrev pub Limbs : List ℕ → Type 0
 Limbs l = (w : ℕ) → getD l w 0 < 2 ^ 64
+
+-- those of an array do
+pub limbs-fit : (l : List ℕ) → ((w : ℕ) → Fits w64 (getD l w 0)) → Limbs l
+limbs-fit l h w = h w .fits
 
 pub xored-limbs : (n : ℕ) (x y : List ℕ) → Limbs x → Limbs y
     → tabulate n (λ w. bitXor (getD x w 0) (getD y w 0)) ≡ packLimbs n (λ i. limbCoord x i + limbCoord y i)

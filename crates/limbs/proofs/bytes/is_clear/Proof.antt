@@ -4,9 +4,8 @@ use Prim.Native.Nat.{_-_, _≤_}
 use native.Mathlib.Nat.{mod-le}
 use native.Mathlib.Omega.{arith}
 use lib.Dec.{eqb}
-use lib.ListN.{length, getD}
+use lib.ListN.{getD}
 use lib.Bits.{bitOr}
-use Rattle.gf2.specs.Operands.{carriedBytes}
 use Rattle.limbs.specs.Limbs.{carriedLimbs}
 use Rattle.limbs.proofs.LimbLoops.{ored, above, ored-none, ored-more, clear-limbs}
 use borrow.Author.Needs.{needs}
@@ -19,12 +18,6 @@ Inv-loop m all high₀ w₀ high w = (w ≤ carriedLimbs) × (high ≡ ored w (a
 abbrev μ-loop : tie.MeasureT-loop
 μ-loop m all high₀ w₀ high w = carriedLimbs - w
 
-loop-holds : tie.Need-loop-holds Inv-loop μ-loop
-loop-holds c = (omega arith, ored-none _)
-
-sub-high : tie.Need-sub-high Inv-loop μ-loop
-sub-high c = rw (c .low-limb .ensures) (mod-le _ _)
-
 loop-again : tie.Need-loop-again Inv-loop μ-loop
 loop-again c =
     let s = c .before .before in
@@ -34,12 +27,11 @@ returns : tie.Need-returns Inv-loop μ-loop
 returns c =
     let s = c .before .before .before in
     let e : c .before .loop .w ≡ carriedLimbs = omega arith in
-    let size : length (s .args .x) ≡ carriedBytes = search needs in
     ap (λ h. eqb h 0) (c .before .loop .inv .1 ∙ ap (λ n. ored n (above (s .args .m) (c .before .before .to-limbs .result))) e ∙ ap (λ l. ored carriedLimbs (above (s .args .m) l)) (c .before .before .to-limbs .ensures))
-    ∙ clear-limbs (s .args .m) (s .args .x) size
+    ∙ clear-limbs (s .args .m) (s .args .x) (search needs)
 
 pub is-clear-spec : {M : Type 1} → statement M
 is-clear-spec =
     tie.close
-    (tie.spec Inv-loop μ-loop (λ c κs. search needs) loop-holds (λ c. search needs) (λ c. search needs) (λ c κs. search needs) sub-high (λ c. search needs)
-    (λ c. search needs) loop-again returns)
+    (tie.spec Inv-loop μ-loop (λ c κs. search needs) (λ c. (omega arith, ored-none _)) (λ c. search needs) (λ c. search needs) (λ c κs. search needs)
+    (λ c. rw (c .low-limb .ensures) (mod-le _ _)) (λ c. search needs) (λ c. search needs) loop-again returns)

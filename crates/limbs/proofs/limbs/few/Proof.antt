@@ -15,9 +15,6 @@ Inv-loop s limb₀ b₀ limb b = (b ≤ length s) × (limb ≡ value 64 (λ j. c
 abbrev μ-loop : tie.MeasureT-loop
 μ-loop s limb₀ b₀ limb b = b
 
-loop-holds : tie.Need-loop-holds Inv-loop μ-loop
-loop-holds c = (omega arith, limb-none (c .before .args .s .now) _ (omega arith))
-
 loop-again : tie.Need-loop-again Inv-loop μ-loop
 loop-again c =
     let s = c .before .before .before in
@@ -31,4 +28,5 @@ returns c =
 pub few-spec : {M : Type 1} → statement M
 few-spec =
     tie.close
-    (tie.spec Inv-loop μ-loop loop-holds (λ c. search needs) (λ c. search needs) (λ c κs. search needs) (λ c. search needs) loop-again returns)
+    (tie.spec Inv-loop μ-loop (λ c. (omega arith, limb-none (c .before .args .s .now) _ (omega arith))) (λ c. search needs) (λ c. search needs)
+    (λ c κs. search needs) (λ c. search needs) loop-again returns)

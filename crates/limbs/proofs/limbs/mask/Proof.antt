@@ -15,9 +15,6 @@ returns c =
     let e : c .before .args .m - c .before .args .w * 64 ≡ 0 = omega arith in
     and-zero-r x ∙ rw e (omega arith)
 
-returns-2 : tie.Need-returns-2
-returns-2 c = λ x h. and-mask x 64 ∙ mod-eq-of-lt h ∙ sym (mod-eq-of-lt (lt-of-lt-of-le h (pow-mono {i = 64} (c .if2 .taken))))
-
 sub-result : tie.Need-sub-result
 sub-result c =
     let n = c .before .before .args .m - c .before .before .args .w * 64 in
@@ -31,4 +28,7 @@ returns-3 c =
 
 pub mask-spec : {M : Type 1} → statement M
 mask-spec =
-    tie.close (tie.spec (λ c. search needs) returns (λ c. search needs) (λ c. search needs) returns-2 (λ c. search needs) sub-result returns-3)
+    tie.close
+    (tie.spec (λ c. search needs) returns (λ c. search needs) (λ c. search needs)
+    (λ c x h. and-mask x 64 ∙ mod-eq-of-lt h ∙ sym (mod-eq-of-lt (lt-of-lt-of-le h (pow-mono {i = 64} (c .if2 .taken))))) (λ c. search needs) sub-result
+    returns-3)

@@ -23,11 +23,9 @@ loop-again c =
     let l = c .before .before .before .before in
     next-none _ (l .loop .i) _ (c .before .before .before .loop-test .taken) (c .before .one-from .ensures) (c .if1 .left) ∙ l .loop .inv
 
-returns-2 : tie.Need-returns-2 Inv-loop μ-loop
-returns-2 c = next-past _ (c .before .loop .i) (c .loop-test .left) ∙ c .before .loop .inv
-
 pub next-one-spec : {M : Type 1} → statement M
 next-one-spec =
     tie.close
     (tie.spec Inv-loop μ-loop (λ c. refl) (λ c. search needs) (λ c. search needs) (λ c κs. search needs) (λ c. search needs) (λ c. search needs) returns
-    (λ c. search needs) (λ c. search needs) (λ c. search needs) loop-again returns-2)
+    (λ c. search needs) (λ c. search needs) (λ c. search needs) loop-again
+    (λ c. next-past _ (c .before .loop .i) (c .loop-test .left) ∙ c .before .loop .inv))

@@ -24,9 +24,6 @@ returns c =
     refusal _ _ _ (ends (badWidth _ ∷ badLength _ _ ∷ []) (highBit _ _ ∷ []) (s .before .judge-size .ensures) (s .is-none .ensures) q)
     (ends-some (badWidth _ ∷ badLength _ _ ∷ []) (highBit _ _ ∷ []) (s .before .judge-size .ensures) (s .is-none .ensures) q) (c .refused .ensures)
 
-answered-requires : tie.Need-answered-requires
-answered-requires c κs = λ e. bytes (c .before .before) .greatest
-
 returns-2 : tie.Need-returns-2
 returns-2 c =
     let s = c .before .before .before in
@@ -39,5 +36,5 @@ returns-2 c =
 pub read-spec : {M : Type 1} → statement M
 read-spec =
     tie.close
-    (tie.spec (λ c κs. search needs) (λ c κs. search needs) (λ c κs. search needs) returns (λ c κs. search needs) (λ c κs. search needs) answered-requires
-    returns-2)
+    (tie.spec (λ c κs. search needs) (λ c κs. search needs) (λ c κs. search needs) returns (λ c κs. search needs) (λ c κs. search needs)
+    (λ c κs e. bytes (c .before .before) .greatest) returns-2)

@@ -26,9 +26,6 @@ returns c =
     refusal _ _ _ (ends (badWidth _ ∷ []) (highBit _ _ ∷ traceIsOne _ _ ∷ []) (s .before .judge-width .ensures) (s .is-none .ensures) q)
     (ends-some (badWidth _ ∷ []) (highBit _ _ ∷ traceIsOne _ _ ∷ []) (s .before .judge-width .ensures) (s .is-none .ensures) q) (c .refused .ensures)
 
-answered-requires : tie.Need-answered-requires
-answered-requires c κs = λ e. width (c .before .before .before) .greatest
-
 returns-2 : tie.Need-returns-2
 returns-2 c =
     let s = c .before .before .before in
@@ -43,4 +40,4 @@ pub solve-spec : {M : Type 1} → statement M
 solve-spec =
     tie.close
     (tie.spec (λ c. search needs) (λ c κs. search needs) (λ c κs. search needs) (λ c κs. search needs) returns (λ c κs. search needs) (λ c κs. search needs)
-    (λ c κs. search needs) answered-requires returns-2)
+    (λ c κs. search needs) (λ c κs e. width (c .before .before .before) .greatest) returns-2)

@@ -13,9 +13,6 @@ use borrow.Author.Needs.{needs}
 use Rattle.operand.proofs.Operand.sum.Statement.{statement}
 use Rattle.operand.proofs.Operand.sum.Tie as tie
 
-answered-requires : tie.Need-answered-requires
-answered-requires c κs = λ e. is-width _ (fine (pairCauses _ _) (ap isNone (sym (c .before .judge-pair .ensures)) ∙ e) .0) .greatest
-
 returns : tie.Need-returns
 returns c =
     let a = c .before .before .before .before .before .before .args in
@@ -27,4 +24,7 @@ returns c =
     ∙ sum-bytes _ _ _ (is-clear (a .self .width) (a .self .bytes) (p .1 .1 .1 .0)) (rw w at (is-clear (a .other .width) (a .other .bytes) (p .1 .1 .1 .1 .0))))
 
 pub sum-spec : {M : Type 1} → statement M
-sum-spec = tie.close (tie.spec (λ c. search needs) (λ c κs. search needs) (λ c κs. search needs) answered-requires returns)
+sum-spec =
+    tie.close
+    (tie.spec (λ c. search needs) (λ c κs. search needs) (λ c κs. search needs)
+    (λ c κs e. is-width _ (fine (pairCauses _ _) (ap isNone (sym (c .before .judge-pair .ensures)) ∙ e) .0) .greatest) returns)

@@ -39,9 +39,6 @@ turned-requires c κs =
     let p = fine (highBit _ _ ∷ turnTooFar _ _ ∷ []) (judged (highBit _ _ ∷ turnTooFar _ _ ∷ []) [] (s .before .judge-turn .ensures) (s .is-none2 .ensures) (not-false _ (c .if2 .left))) in
     (width (s .before .before) .greatest, below-width _ _ (p .1 .0), is-clear _ _ (p .0))
 
-answered-requires : tie.Need-answered-requires
-answered-requires c κs = λ e. width (c .before .before .before .before) .greatest
-
 returns-3 : tie.Need-returns-3
 returns-3 c =
     let s = c .before .before .before in
@@ -51,4 +48,4 @@ pub turn-spec : {M : Type 1} → statement M
 turn-spec =
     tie.close
     (tie.spec (λ c. search needs) (λ c κs. search needs) (λ c κs. search needs) (λ c κs. search needs) returns (λ c κs. search needs) (λ c κs. search needs)
-    (λ c κs. search needs) returns-2 turned-requires answered-requires returns-3)
+    (λ c κs. search needs) returns-2 turned-requires (λ c κs e. width (c .before .before .before .before) .greatest) returns-3)

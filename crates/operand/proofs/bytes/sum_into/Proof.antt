@@ -68,5 +68,7 @@ returns-3 c =
     (all, kept (faultOf cs) (added (a .width) (a .a .now) (a .b .now)) (a .result .now) (judged cs [] all (c .before .is-none2 .ensures) (c .if2 .left)))
 
 pub sum-into-spec : {M : Type 1} → statement M
-sum-into-spec = tie.close (tie.spec (λ c κs. search needs) (λ c κs. search needs) returns (λ c κs. search needs) (λ c κs. search needs) (λ c κs. search needs)
+sum-into-spec =
+    tie.close
+    (tie.spec (λ c κs. search needs) (λ c κs. search needs) returns (λ c κs. search needs) (λ c κs. search needs) (λ c κs. search needs)
     (λ c κs. search needs) (λ c κs. search needs) (λ c κs. search needs) (λ c. search needs) returns-2 returns-3)

@@ -11,9 +11,6 @@ use borrow.Author.Needs.{needs}
 use Rattle.operand.proofs.judge.judge_solve.Statement.{statement}
 use Rattle.operand.proofs.judge.judge_solve.Tie as tie
 
-returns : tie.Need-returns
-returns c = ends (highBit _ _ ∷ []) (traceIsOne _ _ ∷ []) (c .before .before .judge-high .ensures) (c .before .is-none .ensures) (not-true _ (c .if1 .taken))
-
 returns-2 : tie.Need-returns-2
 unfolding faultOf trace
 returns-2 c =
@@ -29,4 +26,8 @@ returns-3 c =
     (rw (ne-eqb _ 1 (λ e. c .if2 .left (c .before .trace .ensures ∙ e))))
 
 pub judge-solve-spec : {M : Type 1} → statement M
-judge-solve-spec = tie.close (tie.spec (λ c κs. search needs) (λ c κs. search needs) returns (λ c κs. search needs) returns-2 returns-3)
+judge-solve-spec =
+    tie.close
+    (tie.spec (λ c κs. search needs) (λ c κs. search needs)
+    (λ c. ends (highBit _ _ ∷ []) (traceIsOne _ _ ∷ []) (c .before .before .judge-high .ensures) (c .before .is-none .ensures) (not-true _ (c .if1 .taken)))
+    (λ c κs. search needs) returns-2 returns-3)

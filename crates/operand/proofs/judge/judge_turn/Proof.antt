@@ -9,9 +9,6 @@ use borrow.Author.Needs.{needs}
 use Rattle.operand.proofs.judge.judge_turn.Statement.{statement}
 use Rattle.operand.proofs.judge.judge_turn.Tie as tie
 
-returns : tie.Need-returns
-returns c = ends (highBit _ _ ∷ []) (turnTooFar _ _ ∷ []) (c .before .before .judge-high .ensures) (c .before .is-none .ensures) (not-true _ (c .if1 .taken))
-
 returns-2 : tie.Need-returns-2
 unfolding faultOf
 returns-2 c =
@@ -28,4 +25,7 @@ returns-3 c =
 
 pub judge-turn-spec : {M : Type 1} → statement M
 judge-turn-spec =
-    tie.close (tie.spec (λ c κs. search needs) (λ c κs. search needs) returns returns-2 returns-3)
+    tie.close
+    (tie.spec (λ c κs. search needs) (λ c κs. search needs)
+    (λ c. ends (highBit _ _ ∷ []) (turnTooFar _ _ ∷ []) (c .before .before .judge-high .ensures) (c .before .is-none .ensures) (not-true _ (c .if1 .taken)))
+    returns-2 returns-3)

@@ -17,9 +17,6 @@ Inv-loop x total₀ w₀ total w = (w ≤ carriedLimbs) × (total ≡ foldedTo x
 abbrev μ-loop : tie.MeasureT-loop
 μ-loop x total₀ w₀ total w = carriedLimbs - w
 
-loop-holds : tie.Need-loop-holds Inv-loop μ-loop
-loop-holds c = (omega arith, folded-none _)
-
 loop-again : tie.Need-loop-again Inv-loop μ-loop
 loop-again c =
     let x = c .before .before .args .t1 in
@@ -34,4 +31,5 @@ returns c =
 pub folded-spec : {M : Type 1} → statement M
 folded-spec =
     tie.close
-    (tie.spec Inv-loop μ-loop loop-holds (λ c. search needs) (λ c. search needs) (λ c. search needs) (λ c. search needs) loop-again returns)
+    (tie.spec Inv-loop μ-loop (λ c. (omega arith, folded-none _)) (λ c. search needs) (λ c. search needs) (λ c. search needs) (λ c. search needs) loop-again
+    returns)

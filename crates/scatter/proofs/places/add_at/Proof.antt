@@ -16,23 +16,15 @@ Inv-loop g₀ s e from w₀ g w = (w ≤ carriedLimbs) × Added (atPlace s e w) 
 abbrev μ-loop : tie.MeasureT-loop
 μ-loop g₀ s e from w₀ g w = carriedLimbs - w
 
-loop-holds : tie.Need-loop-holds Inv-loop μ-loop
-loop-holds c = (omega arith, place-none _ _ _, refl)
-
 loop-again : tie.Need-loop-again Inv-loop μ-loop
 loop-again c =
     let s = c .before .before .before in
     let i = c .before .before .loop .inv in
     (omega arith, place-more (s .args .s) _ (c .before .before .loop .w) _ (i .1) (s .pre .0) (s .pre .1) (omega arith) refl, search needs)
 
-same-length : tie.Need-same-length Inv-loop μ-loop
-same-length c = c .before .loop .inv .2
-
-returns : tie.Need-returns Inv-loop μ-loop
-returns c = place-all _ _ _ (omega arith) (c .before .loop .inv .1)
-
 pub add-at-spec : {M : Type 1} → statement M
 add-at-spec =
     tie.close
-    (tie.spec Inv-loop μ-loop (λ c. search needs) loop-holds (λ c. search needs) (λ c. search needs) (λ c. search needs) (λ c. search needs)
-    (λ c. search needs) (λ c. search needs) (λ c. search needs) (λ c. search needs) (λ c. search needs) (λ c. search needs) loop-again same-length returns)
+    (tie.spec Inv-loop μ-loop (λ c. search needs) (λ c. (omega arith, place-none _ _ _, refl)) (λ c. search needs) (λ c. search needs) (λ c. search needs)
+    (λ c. search needs) (λ c. search needs) (λ c. search needs) (λ c. search needs) (λ c. search needs) (λ c. search needs) (λ c. search needs) loop-again
+    (λ c. c .before .loop .inv .2) (λ c. place-all _ _ _ (omega arith) (c .before .loop .inv .1)))

@@ -18,12 +18,6 @@ Inv-loop g₀ e limb from rest₀ g rest = (rest < 2 ^ 64) × Added (λ s i. (bi
 abbrev μ-loop : tie.MeasureT-loop
 μ-loop g₀ e limb from rest₀ g rest = rest
 
-loop-holds : tie.Need-loop-holds Inv-loop μ-loop
-loop-holds c = (c .before .fits .limb .fits, ones-none _ _ _ _, refl)
-
-cast-zeros : tie.Need-cast-zeros Inv-loop μ-loop
-cast-zeros c = omega (arith, trailing-le 64 (c .before .loop .rest))
-
 add-add-at : tie.Need-add-add-at Inv-loop μ-loop
 add-add-at c =
     let l = c .before .before .loop in
@@ -51,13 +45,9 @@ loop-again c =
       c .before .before .add-at .ensures .size ∙ l .inv .2,
     )
 
-same-length : tie.Need-same-length Inv-loop μ-loop
-same-length c = c .before .loop .inv .2
-
-returns : tie.Need-returns Inv-loop μ-loop
-returns c = ones-all _ _ _ (c .loop-test .left) (c .before .loop .inv .1)
-
 pub add-limb-spec : {M : Type 1} → statement M
 add-limb-spec =
     tie.close
-    (tie.spec Inv-loop μ-loop loop-holds cast-zeros add-add-at add-at-requires (λ c. search needs) loop-less loop-again same-length returns)
+    (tie.spec Inv-loop μ-loop (λ c. (c .before .fits .limb .fits, ones-none _ _ _ _, refl)) (λ c. omega (arith, trailing-le 64 (c .before .loop .rest)))
+    add-add-at add-at-requires (λ c. search needs) loop-less loop-again (λ c. c .before .loop .inv .2)
+    (λ c. ones-all _ _ _ (c .loop-test .left) (c .before .loop .inv .1)))

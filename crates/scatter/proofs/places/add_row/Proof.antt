@@ -18,15 +18,6 @@ Inv-loop g₀ e row w₀ g w = (w ≤ carriedLimbs) × Added (limbsTo row e w) g
 abbrev μ-loop : tie.MeasureT-loop
 μ-loop g₀ e row w₀ g w = carriedLimbs - w
 
-returns : tie.Need-returns Inv-loop μ-loop
-returns c = row-missing _ _ _ (c .if1 .taken)
-
-loop-holds : tie.Need-loop-holds Inv-loop μ-loop
-loop-holds c = (omega arith, row-none _ _ _, refl)
-
-add-limb-requires : tie.Need-add-limb-requires Inv-loop μ-loop
-add-limb-requires c κs = (c .before .before .loop .inv .2 ∙ c .before .before .before .if1 .left, omega arith)
-
 loop-again : tie.Need-loop-again Inv-loop μ-loop
 loop-again c =
     let i = c .before .before .before .before .before in
@@ -34,9 +25,6 @@ loop-again c =
     let s = i .before .before .before in
     let small : (k : ℕ) → Fits w64 (getD (s .args .t3) k 0) = λ k. search needs in
     (omega arith, row-more (s .args .t3) (s .args .e) (λ k. small k .fits) (l .w) (l .inv .1) (c .before .before .add-limb .ensures), c .before .before .add-limb .ensures .size ∙ l .inv .2)
-
-same-length : tie.Need-same-length Inv-loop μ-loop
-same-length c = c .before .loop .inv .2
 
 returns-2 : tie.Need-returns-2 Inv-loop μ-loop
 returns-2 c =
@@ -47,5 +35,6 @@ returns-2 c =
 pub add-row-spec : {M : Type 1} → statement M
 add-row-spec =
     tie.close
-    (tie.spec Inv-loop μ-loop returns loop-holds (λ c. search needs) (λ c. search needs) (λ c. search needs) add-limb-requires (λ c. search needs)
-    (λ c. search needs) loop-again same-length returns-2)
+    (tie.spec Inv-loop μ-loop (λ c. row-missing _ _ _ (c .if1 .taken)) (λ c. (omega arith, row-none _ _ _, refl)) (λ c. search needs) (λ c. search needs)
+    (λ c. search needs) (λ c κs. (c .before .before .loop .inv .2 ∙ c .before .before .before .if1 .left, omega arith)) (λ c. search needs)
+    (λ c. search needs) loop-again (λ c. c .before .loop .inv .2) returns-2)

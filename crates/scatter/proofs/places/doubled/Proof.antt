@@ -20,9 +20,6 @@ Inv-loop x out₀ previous₀ w₀ out previous w = (previous ≡ raised 1 (λ n
 abbrev μ-loop : tie.MeasureT-loop
 μ-loop x out₀ previous₀ w₀ out previous w = twiceLimbs - w
 
-loop-holds : tie.Need-loop-holds Inv-loop μ-loop
-loop-holds c = (before-first (c .args .t1), filled-none twiceLimbs _ _)
-
 loop-again : tie.Need-loop-again Inv-loop μ-loop
 loop-again c =
     let l = c .before .loop in
@@ -38,5 +35,5 @@ returns c =
 pub doubled-spec : {M : Type 1} → statement M
 doubled-spec =
     tie.close
-    (tie.spec Inv-loop μ-loop loop-holds (λ c. search needs) (λ c. search needs) (λ c. search needs) (λ c. search needs) (λ c. search needs)
-    (λ c. search needs) loop-again returns)
+    (tie.spec Inv-loop μ-loop (λ c. (before-first (c .args .t1), filled-none twiceLimbs _ _)) (λ c. search needs) (λ c. search needs) (λ c. search needs)
+    (λ c. search needs) (λ c. search needs) (λ c. search needs) loop-again returns)

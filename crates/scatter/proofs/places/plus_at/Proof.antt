@@ -23,9 +23,6 @@ loop-holds c =
     let small : (k : ℕ) → Fits w64 (getD x k 0) = λ k. search needs in
     plus-none _ _ _ (λ k. small k .fits)
 
-loop-again : tie.Need-loop-again Inv-loop μ-loop
-loop-again c = plus-more _ _ _ _ (c .before .before .loop .inv) (omega arith) (omega arith) (c .shared-slice-known .given _ .fits)
-
 returns : tie.Need-returns Inv-loop μ-loop
 returns c =
     let l = c .before .loop in
@@ -35,5 +32,5 @@ pub plus-at-spec : {M : Type 1} → statement M
 plus-at-spec =
     tie.close
     (tie.spec Inv-loop μ-loop (λ c. search needs) loop-holds (λ c. search needs) (λ c. search needs) (λ c. search needs) (λ c. search needs)
-    (λ c. search needs) (λ c. search needs) (λ c. search needs) (λ c. search needs) (λ c. search needs) (λ c. search needs) (λ c. search needs) loop-again
-    returns)
+    (λ c. search needs) (λ c. search needs) (λ c. search needs) (λ c. search needs) (λ c. search needs) (λ c. search needs) (λ c. search needs)
+    (λ c. plus-more _ _ _ _ (c .before .before .loop .inv) (omega arith) (omega arith) (c .shared-slice-known .given _ .fits)) returns)

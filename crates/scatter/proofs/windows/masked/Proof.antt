@@ -19,12 +19,6 @@ Inv-loop x y out₀ w₀ out w = Filled carriedLimbs (λ k. bitAnd (getD x k 0) 
 abbrev μ-loop : tie.MeasureT-loop
 μ-loop x y out₀ w₀ out w = carriedLimbs - w
 
-loop-holds : tie.Need-loop-holds Inv-loop μ-loop
-loop-holds c = filled-none carriedLimbs _ _
-
-loop-again : tie.Need-loop-again Inv-loop μ-loop
-loop-again c = filled-more (c .before .loop .inv) (omega arith) (omega arith) refl
-
 returns : tie.Need-returns Inv-loop μ-loop
 returns c =
     let a = c .before .before .args in
@@ -35,5 +29,6 @@ returns c =
 pub masked-spec : {M : Type 1} → statement M
 masked-spec =
     tie.close
-    (tie.spec Inv-loop μ-loop loop-holds (λ c. search needs) (λ c. search needs) (λ c. search needs) (λ c. search needs) (λ c. search needs)
-    (λ c. search needs) (λ c. search needs) (λ c. search needs) loop-again returns)
+    (tie.spec Inv-loop μ-loop (λ c. filled-none carriedLimbs _ _) (λ c. search needs) (λ c. search needs) (λ c. search needs) (λ c. search needs)
+    (λ c. search needs) (λ c. search needs) (λ c. search needs) (λ c. search needs)
+    (λ c. filled-more (c .before .loop .inv) (omega arith) (omega arith) refl) returns)

@@ -22,9 +22,6 @@ Inv-loop x m out₀ w₀ out w = Filled twiceLimbs (λ k. bitXor (getD x k 0) (r
 abbrev μ-loop : tie.MeasureT-loop
 μ-loop x m out₀ w₀ out w = twiceLimbs - w
 
-loop-holds : tie.Need-loop-holds Inv-loop μ-loop
-loop-holds c = filled-none twiceLimbs _ _
-
 loop-again : tie.Need-loop-again Inv-loop μ-loop
 loop-again c =
     let m = c .before .before .before .before .before .before .args .m in
@@ -41,5 +38,5 @@ returns c =
 pub twice-spec : {M : Type 1} → statement M
 twice-spec =
     tie.close
-    (tie.spec Inv-loop μ-loop loop-holds (λ c. search needs) (λ c κs. search needs) (λ c κs. search needs) (λ c κs. search needs) (λ c κs. search needs)
-    (λ c. search needs) (λ c. search needs) (λ c. search needs) (λ c. search needs) loop-again returns)
+    (tie.spec Inv-loop μ-loop (λ c. filled-none twiceLimbs _ _) (λ c. search needs) (λ c κs. search needs) (λ c κs. search needs) (λ c κs. search needs)
+    (λ c κs. search needs) (λ c. search needs) (λ c. search needs) (λ c. search needs) (λ c. search needs) loop-again returns)

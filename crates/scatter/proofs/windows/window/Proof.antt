@@ -25,27 +25,6 @@ returns c =
     let a = c .before .before .args in
     seen-none carriedLimbs (a .at) (a .x .now) (c .if1 .taken)
 
-loop-holds : tie.Need-loop-holds Inv-loop μ-loop
-loop-holds c = filled-none carriedLimbs _ _
-
-add-low : tie.Need-add-low Inv-loop μ-loop
-add-low c = omega arith
-
-shared-slice-read-low : tie.Need-shared-slice-read-low Inv-loop μ-loop
-shared-slice-read-low c = omega arith
-
-add-high : tie.Need-add-high Inv-loop μ-loop
-add-high c = omega arith
-
-add-high-2 : tie.Need-add-high-2 Inv-loop μ-loop
-add-high-2 c = omega arith
-
-shared-slice-read-high : tie.Need-shared-slice-read-high Inv-loop μ-loop
-shared-slice-read-high c = omega arith
-
-loop-again : tie.Need-loop-again Inv-loop μ-loop
-loop-again c = filled-more (c .before .before .before .before .loop .inv) (omega arith) (omega arith) (c .lower-pair .ensures)
-
 returns-2 : tie.Need-returns-2 Inv-loop μ-loop
 returns-2 c =
     let a = c .before .before .before .before .args in
@@ -57,5 +36,7 @@ returns-2 c =
 pub window-spec : {M : Type 1} → statement M
 window-spec =
     tie.close
-    (tie.spec Inv-loop μ-loop (λ c. search needs) returns loop-holds add-low (λ c. search needs) shared-slice-read-low add-high add-high-2 (λ c. search needs)
-    shared-slice-read-high (λ c κs. search needs) (λ c. search needs) (λ c. search needs) (λ c. search needs) (λ c. search needs) loop-again returns-2)
+    (tie.spec Inv-loop μ-loop (λ c. search needs) returns (λ c. filled-none carriedLimbs _ _) (λ c. omega arith) (λ c. search needs) (λ c. omega arith)
+    (λ c. omega arith) (λ c. omega arith) (λ c. search needs) (λ c. omega arith) (λ c κs. search needs) (λ c. search needs) (λ c. search needs)
+    (λ c. search needs) (λ c. search needs)
+    (λ c. filled-more (c .before .before .before .before .loop .inv) (omega arith) (omega arith) (c .lower-pair .ensures)) returns-2)
