@@ -86,6 +86,9 @@ module _ (g : List ℕ) (r : ℕ) where
       more : (i : ℕ) → f i + columnTo g r q i + cellRaised g s (q * 64) i ≡ f i + columnTo g r (q + 1) i
       more i = unfold sum in rw (e, add-one) (omega arith)
 
+  pub column-all : (n : ℕ) (f : ℕ → ℕ) {q k : ℕ} → q ≡ k → packLimbs n (λ i. f i + columnTo g r q i) ≡ packLimbs n (λ i. f i + columnTo g r k i)
+  column-all n f e = rw e
+
 -- the columns r to 63, moved up by r less than in the end
 module _ (g : List ℕ) where
   abbrev pub columns : ℕ → ℕ → ℕ

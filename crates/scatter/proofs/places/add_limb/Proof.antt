@@ -18,21 +18,11 @@ Inv-loop g₀ e limb from rest₀ g rest = (rest < 2 ^ 64) × Added (λ s i. (bi
 abbrev μ-loop : tie.MeasureT-loop
 μ-loop g₀ e limb from rest₀ g rest = rest
 
-add-add-at : tie.Need-add-add-at Inv-loop μ-loop
-add-add-at c =
-    let l = c .before .before .loop in
-    omega (arith, lowest-next 64 (l .rest) (l .inv .0) (c .before .loop-test .taken))
-
 add-at-requires : tie.Need-add-at-requires Inv-loop μ-loop
 add-at-requires c κs =
     let l = c .before .before .loop in
     let s = c .before .before .before .before in
     (l .inv .2 ∙ s .pre .0, omega (arith, lowest-next 64 (l .rest) (l .inv .0) (c .before .loop-test .taken)))
-
-loop-less : tie.Need-loop-less Inv-loop μ-loop
-loop-less c =
-    let l = c .before .before .before .before .before .loop in
-    lowest-less 64 (l .rest) (l .inv .0) (c .before .before .before .before .loop-test .taken)
 
 loop-again : tie.Need-loop-again Inv-loop μ-loop
 loop-again c =
@@ -49,5 +39,7 @@ pub add-limb-spec : {M : Type 1} → statement M
 add-limb-spec =
     tie.close
     (tie.spec Inv-loop μ-loop (λ c. (c .before .fits .limb .fits, ones-none _ _ _ _, refl)) (λ c. omega (arith, trailing-le 64 (c .before .loop .rest)))
-    add-add-at add-at-requires (λ c. search needs) loop-less loop-again (λ c. c .before .loop .inv .2)
-    (λ c. ones-all _ _ _ (c .loop-test .left) (c .before .loop .inv .1)))
+    (λ c. let l = c .before .before .loop in omega (arith, lowest-next 64 (l .rest) (l .inv .0) (c .before .loop-test .taken))) add-at-requires
+    (λ c. search needs)
+    (λ c. let l = c .before .before .before .before .before .loop in lowest-less 64 (l .rest) (l .inv .0) (c .before .before .before .before .loop-test .taken))
+    loop-again (λ c. c .before .loop .inv .2) (λ c. ones-all _ _ _ (c .loop-test .left) (c .before .loop .inv .1)))

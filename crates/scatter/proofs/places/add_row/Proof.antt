@@ -1,11 +1,10 @@
 -- `scatter::places::add_row` meets its contract.
 use mathlib.Core.Path.{_≡_, refl, _∙_}
-use Prim.Native.Nat.{ℕ, _-_, _≤_}
+use Prim.Native.Nat.{_-_, _≤_}
 use native.Mathlib.Omega.{arith}
-use lib.ListN.{length, getD}
-use mir.Val.{Fits}
-use mir.Syntax.{w64}
+use lib.ListN.{length}
 use Rattle.limbs.specs.Limbs.{carriedLimbs}
+use Rattle.limbs.proofs.LimbLoops.{limbs-fit}
 use Rattle.scatter.specs.Cells.{Added}
 use Rattle.scatter.proofs.OnesLaws.{limbsTo, row-none, row-more, row-all, row-missing}
 use borrow.Author.Needs.{needs}
@@ -23,14 +22,12 @@ loop-again c =
     let i = c .before .before .before .before .before in
     let l = i .loop in
     let s = i .before .before .before in
-    let small : (k : ℕ) → Fits w64 (getD (s .args .t3) k 0) = λ k. search needs in
-    (omega arith, row-more (s .args .t3) (s .args .e) (λ k. small k .fits) (l .w) (l .inv .1) (c .before .before .add-limb .ensures), c .before .before .add-limb .ensures .size ∙ l .inv .2)
+    (omega arith, row-more (s .args .t3) (s .args .e) (limbs-fit (s .args .t3) (λ k. search needs)) (l .w) (l .inv .1) (c .before .before .add-limb .ensures), c .before .before .add-limb .ensures .size ∙ l .inv .2)
 
 returns-2 : tie.Need-returns-2 Inv-loop μ-loop
 returns-2 c =
     let s = c .before .before .before .before in
-    let size : length (s .args .t3) ≡ carriedLimbs = search needs in
-    row-all (s .args .t3) (s .args .e) size (c .before .loop .w) (omega arith) (c .before .before .if1 .left) (c .before .loop .inv .1)
+    row-all (s .args .t3) (s .args .e) (search needs) (c .before .loop .w) (omega arith) (c .before .before .if1 .left) (c .before .loop .inv .1)
 
 pub add-row-spec : {M : Type 1} → statement M
 add-row-spec =

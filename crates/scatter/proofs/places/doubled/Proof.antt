@@ -1,13 +1,12 @@
 -- `scatter::places::doubled` meets its contract.
 use mathlib.Core.Path.{_≡_, ap, _∙_}
-use Prim.Native.Nat.{ℕ, _-_, _*_, _/_, _%_, _^_}
+use Prim.Native.Nat.{_-_, _*_, _/_, _%_, _^_}
 use native.Mathlib.Omega.{arith}
 use lib.ListN.{getD}
 use lib.Bits.{bitOr}
-use mir.Val.{Fits}
-use mir.Syntax.{w64}
 use Rattle.gf2.proofs.Loops.{Filled, filled-none, filled-more, filled-all}
 use Rattle.limbs.specs.Limbs.{raised}
+use Rattle.limbs.proofs.LimbLoops.{limbs-fit}
 use Rattle.scatter.specs.Cells.{twiceLimbs}
 use Rattle.scatter.proofs.MoveLaws.{doubledLimb, before-first, before-next, doubled-limbs}
 use borrow.Author.Needs.{needs}
@@ -28,9 +27,7 @@ loop-again c =
 
 returns : tie.Need-returns Inv-loop μ-loop
 returns c =
-    let x = c .before .before .args .t1 in
-    let small : (k : ℕ) → Fits w64 (getD x k 0) = λ k. search needs in
-    filled-all (c .before .loop .inv .1) (omega arith) (omega arith) ∙ doubled-limbs twiceLimbs x (λ k. small k .fits)
+    filled-all (c .before .loop .inv .1) (omega arith) (omega arith) ∙ doubled-limbs twiceLimbs _ (limbs-fit (c .before .before .args .t1) (λ k. search needs))
 
 pub doubled-spec : {M : Type 1} → statement M
 doubled-spec =

@@ -1,15 +1,14 @@
 -- `scatter::windows::twice` meets its contract.
 use mathlib.Core.Path.{ap₂, _∙_}
 use mathlib.Core.List.{[], _∷_}
-use Prim.Native.Nat.{ℕ, _+_, _-_, _%_}
+use Prim.Native.Nat.{_+_, _-_, _%_}
 use native.Mathlib.Omega.{arith}
 use lib.ListN.{getD}
 use lib.Bits.{bitXor}
-use mir.Val.{Fits}
-use mir.Syntax.{w64}
 use Rattle.gf2.specs.Coordinates.{value}
 use Rattle.gf2.proofs.Loops.{Filled, filled-none, filled-more, filled-all}
 use Rattle.limbs.specs.Limbs.{limbCoord}
+use Rattle.limbs.proofs.LimbLoops.{limbs-fit}
 use Rattle.scatter.specs.Cells.{twiceLimbs}
 use Rattle.scatter.proofs.MoveLaws.{raisedLimb, twice-limbs}
 use borrow.Author.Needs.{needs}
@@ -29,14 +28,9 @@ loop-again c =
     (ap₂ bitXor (c .before .limb-at .ensures)
     (c .raise-pair .ensures ∙ ap₂ (λ p q. value 64 (λ j. limbCoord (p ∷ q ∷ []) (64 - m % 64 + j))) (c .before .before .before .limb-below .ensures) (c .before .before .limb-below2 .ensures)))
 
-returns : tie.Need-returns Inv-loop μ-loop
-returns c =
-    let a = c .before .before .args in
-    let small : (k : ℕ) → Fits w64 (getD (a .x) k 0) = λ k. search needs in
-    filled-all (c .before .loop .inv) (omega arith) (omega arith) ∙ twice-limbs twiceLimbs (a .m) (a .x) (λ k. small k .fits)
-
 pub twice-spec : {M : Type 1} → statement M
 twice-spec =
     tie.close
     (tie.spec Inv-loop μ-loop (λ c. filled-none twiceLimbs _ _) (λ c. search needs) (λ c κs. search needs) (λ c κs. search needs) (λ c κs. search needs)
-    (λ c κs. search needs) (λ c. search needs) (λ c. search needs) (λ c. search needs) (λ c. search needs) loop-again returns)
+    (λ c κs. search needs) (λ c. search needs) (λ c. search needs) (λ c. search needs) (λ c. search needs) loop-again
+    (λ c. filled-all (c .before .loop .inv) (omega arith) (omega arith) ∙ twice-limbs twiceLimbs _ _ (limbs-fit (c .before .before .args .x) (λ k. search needs))))

@@ -20,11 +20,6 @@ Inv-loop x at first out₀ w₀ out w = Filled carriedLimbs (λ k. value 64 (λ 
 abbrev μ-loop : tie.MeasureT-loop
 μ-loop x at first out₀ w₀ out w = carriedLimbs - w
 
-returns : tie.Need-returns Inv-loop μ-loop
-returns c =
-    let a = c .before .before .args in
-    seen-none carriedLimbs (a .at) (a .x .now) (c .if1 .taken)
-
 returns-2 : tie.Need-returns-2 Inv-loop μ-loop
 returns-2 c =
     let a = c .before .before .before .before .args in
@@ -36,7 +31,7 @@ returns-2 c =
 pub window-spec : {M : Type 1} → statement M
 window-spec =
     tie.close
-    (tie.spec Inv-loop μ-loop (λ c. search needs) returns (λ c. filled-none carriedLimbs _ _) (λ c. omega arith) (λ c. search needs) (λ c. omega arith)
-    (λ c. omega arith) (λ c. omega arith) (λ c. search needs) (λ c. omega arith) (λ c κs. search needs) (λ c. search needs) (λ c. search needs)
-    (λ c. search needs) (λ c. search needs)
+    (tie.spec Inv-loop μ-loop (λ c. search needs) (λ c. let a = c .before .before .args in seen-none carriedLimbs (a .at) (a .x .now) (c .if1 .taken))
+    (λ c. filled-none carriedLimbs _ _) (λ c. omega arith) (λ c. search needs) (λ c. omega arith) (λ c. omega arith) (λ c. omega arith) (λ c. search needs)
+    (λ c. omega arith) (λ c κs. search needs) (λ c. search needs) (λ c. search needs) (λ c. search needs) (λ c. search needs)
     (λ c. filled-more (c .before .before .before .before .loop .inv) (omega arith) (omega arith) (c .lower-pair .ensures)) returns-2)
