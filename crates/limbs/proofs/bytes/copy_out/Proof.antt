@@ -7,11 +7,10 @@ use borrow.Author.Needs.{needs}
 use Rattle.limbs.proofs.bytes.copy_out.Statement.{statement}
 use Rattle.limbs.proofs.bytes.copy_out.Tie as tie
 
-returns : tie.Need-returns
-returns c =
-    let t = c .before .before .before .before in
-    let a = t .before .before .args in
-    c .before .before .store .ensures ∙ ap (pack (length (a .out .now))) (limbs-same (a .x) (t .to-limbs .ensures) (search needs))
-
 pub copy-out-spec : {M : Type 1} → statement M
-copy-out-spec = tie.close (tie.spec (λ c κs. search needs) (λ c κs. search needs) (λ c. search needs) returns)
+copy-out-spec =
+    tie.close
+    (tie.spec (λ c κs. search needs) (λ c κs. search needs) (λ c. search needs)
+    (λ c. let t = c .before .before .before .before in
+    let a = t .before .before .args in
+    c .before .before .store .ensures ∙ ap (pack (length (a .out .now))) (limbs-same (a .x) (t .to-limbs .ensures) (search needs))))

@@ -18,11 +18,6 @@ Inv-loop m all high₀ w₀ high w = (w ≤ carriedLimbs) × (high ≡ ored w (a
 abbrev μ-loop : tie.MeasureT-loop
 μ-loop m all high₀ w₀ high w = carriedLimbs - w
 
-loop-again : tie.Need-loop-again Inv-loop μ-loop
-loop-again c =
-    let s = c .before .before in
-    (omega arith, ap (λ r. bitOr (s .loop .high) (getD (s .before .to-limbs .result) (s .loop .w) 0 - r)) (c .low-limb .ensures) ∙ ored-more _ _ _ (s .loop .inv .1))
-
 returns : tie.Need-returns Inv-loop μ-loop
 returns c =
     let s = c .before .before .before in
@@ -34,4 +29,7 @@ pub is-clear-spec : {M : Type 1} → statement M
 is-clear-spec =
     tie.close
     (tie.spec Inv-loop μ-loop (λ c κs. search needs) (λ c. (omega arith, ored-none _)) (λ c. search needs) (λ c. search needs) (λ c κs. search needs)
-    (λ c. rw (c .low-limb .ensures) (mod-le _ _)) (λ c. search needs) (λ c. search needs) loop-again returns)
+    (λ c. rw (c .low-limb .ensures) (mod-le _ _)) (λ c. search needs) (λ c. search needs)
+    (λ c. let s = c .before .before in
+    (omega arith, ap (λ r. bitOr (s .loop .high) (getD (s .before .to-limbs .result) (s .loop .w) 0 - r)) (c .low-limb .ensures) ∙ ored-more _ _ _ (s .loop .inv .1)))
+    returns)

@@ -10,17 +10,11 @@ use Rattle.limbs.proofs.limbs.put_part.Tie as tie
 abbrev Inv-loop : tie.InvT-loop
 Inv-loop limb out₀ j₀ out j = (j ≤ 8) × Put j limb 0 out₀ out
 
-abbrev μ-loop : tie.MeasureT-loop
-μ-loop limb out₀ j₀ out j = 8 - j
-
-loop-again : tie.Need-loop-again Inv-loop μ-loop
-loop-again c =
-    let done = c .before .before .loop .inv .1 in
-    (omega (arith, done .size), put-more done (omega arith) (omega (arith, done .size)) (c .byte-of .ensures))
-
 pub put-part-spec : {M : Type 1} → statement M
 put-part-spec =
     tie.close
-    (tie.spec Inv-loop μ-loop (λ c. (omega arith, put-none _ _ _)) (λ c κs. omega (arith, c .before .loop .inv .1 .size)) (λ c. omega arith)
-    (λ c. search needs) (λ c. omega (arith, c .before .before .loop .inv .1 .size)) loop-again (λ c. c .before .loop .inv .1 .size)
-    (λ c. let done = c .before .loop .inv .1 in put-past done (omega (arith, done .size))))
+    (tie.spec Inv-loop (λ limb out₀ j₀ out j. 8 - j) (λ c. (omega arith, put-none _ _ _)) (λ c κs. omega (arith, c .before .loop .inv .1 .size))
+    (λ c. omega arith) (λ c. search needs) (λ c. omega (arith, c .before .before .loop .inv .1 .size))
+    (λ c. let done = c .before .before .loop .inv .1 in
+    (omega (arith, done .size), put-more done (omega arith) (omega (arith, done .size)) (c .byte-of .ensures)))
+    (λ c. c .before .loop .inv .1 .size) (λ c. let done = c .before .loop .inv .1 in put-past done (omega (arith, done .size))))

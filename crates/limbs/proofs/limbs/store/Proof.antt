@@ -5,11 +5,6 @@ use borrow.Author.Needs.{needs}
 use Rattle.limbs.proofs.limbs.store.Statement.{statement}
 use Rattle.limbs.proofs.limbs.store.Tie as tie
 
-put-last-requires : tie.Need-put-last-requires
-put-last-requires c κs =
-    let w = c .before .before .before .put-limbs in
-    (omega (arith, w .kept .1), stored-by (w .ensures) _ _ (λ i p q. (p, omega (arith, w .kept .1))))
-
 returns-2 : tie.Need-returns-2
 returns-2 c =
     let last = c .before .before .before .before .before .before in
@@ -21,5 +16,8 @@ returns-2 c =
 pub store-spec : {M : Type 1} → statement M
 store-spec =
     tie.close
-    (tie.spec (λ c. search needs) (λ c κs. search needs) (λ c κs. search needs) put-last-requires (λ c κs. search needs) (λ c. search needs)
-    (λ c. part-pack _ (c .before .before .put-part .ensures) (c .before .before .before .before .if1 .taken)) (λ c. search needs) returns-2)
+    (tie.spec (λ c. search needs) (λ c κs. search needs) (λ c κs. search needs)
+    (λ c κs. let w = c .before .before .before .put-limbs in
+    (omega (arith, w .kept .1), stored-by (w .ensures) _ _ (λ i p q. (p, omega (arith, w .kept .1)))))
+    (λ c κs. search needs) (λ c. search needs) (λ c. part-pack _ (c .before .before .put-part .ensures) (c .before .before .before .before .if1 .taken))
+    (λ c. search needs) returns-2)

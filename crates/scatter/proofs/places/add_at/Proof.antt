@@ -13,18 +13,13 @@ use Rattle.scatter.proofs.places.add_at.Tie as tie
 abbrev Inv-loop : tie.InvT-loop
 Inv-loop g₀ s e from w₀ g w = (w ≤ carriedLimbs) × Added (atPlace s e w) g₀ g × (length g ≡ length g₀)
 
-abbrev μ-loop : tie.MeasureT-loop
-μ-loop g₀ s e from w₀ g w = carriedLimbs - w
-
-loop-again : tie.Need-loop-again Inv-loop μ-loop
-loop-again c =
-    let s = c .before .before .before in
-    let i = c .before .before .loop .inv in
-    (omega arith, place-more (s .args .s) _ (c .before .before .loop .w) _ (i .1) (s .pre .0) (s .pre .1) (omega arith) refl, search needs)
-
 pub add-at-spec : {M : Type 1} → statement M
 add-at-spec =
     tie.close
-    (tie.spec Inv-loop μ-loop (λ c. search needs) (λ c. (omega arith, place-none _ _ _, refl)) (λ c. search needs) (λ c. search needs) (λ c. search needs)
-    (λ c. search needs) (λ c. search needs) (λ c. search needs) (λ c. search needs) (λ c. search needs) (λ c. search needs) (λ c. search needs) loop-again
+    (tie.spec Inv-loop (λ g₀ s e from w₀ g w. carriedLimbs - w) (λ c. search needs) (λ c. (omega arith, place-none _ _ _, refl)) (λ c. search needs)
+    (λ c. search needs) (λ c. search needs) (λ c. search needs) (λ c. search needs) (λ c. search needs) (λ c. search needs) (λ c. search needs)
+    (λ c. search needs) (λ c. search needs)
+    (λ c. let s = c .before .before .before in
+    let i = c .before .before .loop .inv in
+    (omega arith, place-more (s .args .s) _ (c .before .before .loop .w) _ (i .1) (s .pre .0) (s .pre .1) (omega arith) refl, search needs))
     (λ c. c .before .loop .inv .2) (λ c. place-all _ _ _ (omega arith) (c .before .loop .inv .1)))

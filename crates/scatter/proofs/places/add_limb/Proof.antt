@@ -18,12 +18,6 @@ Inv-loop g₀ e limb from rest₀ g rest = (rest < 2 ^ 64) × Added (λ s i. (bi
 abbrev μ-loop : tie.MeasureT-loop
 μ-loop g₀ e limb from rest₀ g rest = rest
 
-add-at-requires : tie.Need-add-at-requires Inv-loop μ-loop
-add-at-requires c κs =
-    let l = c .before .before .loop in
-    let s = c .before .before .before .before in
-    (l .inv .2 ∙ s .pre .0, omega (arith, lowest-next 64 (l .rest) (l .inv .0) (c .before .loop-test .taken)))
-
 loop-again : tie.Need-loop-again Inv-loop μ-loop
 loop-again c =
     let i = c .before .before .before .before in
@@ -39,7 +33,10 @@ pub add-limb-spec : {M : Type 1} → statement M
 add-limb-spec =
     tie.close
     (tie.spec Inv-loop μ-loop (λ c. (c .before .fits .limb .fits, ones-none _ _ _ _, refl)) (λ c. omega (arith, trailing-le 64 (c .before .loop .rest)))
-    (λ c. let l = c .before .before .loop in omega (arith, lowest-next 64 (l .rest) (l .inv .0) (c .before .loop-test .taken))) add-at-requires
+    (λ c. let l = c .before .before .loop in omega (arith, lowest-next 64 (l .rest) (l .inv .0) (c .before .loop-test .taken)))
+    (λ c κs. let l = c .before .before .loop in
+    let s = c .before .before .before .before in
+    (l .inv .2 ∙ s .pre .0, omega (arith, lowest-next 64 (l .rest) (l .inv .0) (c .before .loop-test .taken))))
     (λ c. search needs)
     (λ c. let l = c .before .before .before .before .before .loop in lowest-less 64 (l .rest) (l .inv .0) (c .before .before .before .before .loop-test .taken))
     loop-again (λ c. c .before .loop .inv .2) (λ c. ones-all _ _ _ (c .loop-test .left) (c .before .loop .inv .1)))

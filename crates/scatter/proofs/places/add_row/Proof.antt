@@ -24,14 +24,11 @@ loop-again c =
     let s = i .before .before .before in
     (omega arith, row-more (s .args .t3) (s .args .e) (limbs-fit (s .args .t3) (λ k. search needs)) (l .w) (l .inv .1) (c .before .before .add-limb .ensures), c .before .before .add-limb .ensures .size ∙ l .inv .2)
 
-returns-2 : tie.Need-returns-2 Inv-loop μ-loop
-returns-2 c =
-    let s = c .before .before .before .before in
-    row-all (s .args .t3) (s .args .e) (search needs) (c .before .loop .w) (omega arith) (c .before .before .if1 .left) (c .before .loop .inv .1)
-
 pub add-row-spec : {M : Type 1} → statement M
 add-row-spec =
     tie.close
     (tie.spec Inv-loop μ-loop (λ c. row-missing _ _ _ (c .if1 .taken)) (λ c. (omega arith, row-none _ _ _, refl)) (λ c. search needs) (λ c. search needs)
     (λ c. search needs) (λ c κs. (c .before .before .loop .inv .2 ∙ c .before .before .before .if1 .left, omega arith)) (λ c. search needs)
-    (λ c. search needs) loop-again (λ c. c .before .loop .inv .2) returns-2)
+    (λ c. search needs) loop-again (λ c. c .before .loop .inv .2)
+    (λ c. let s = c .before .before .before .before in
+    row-all (s .args .t3) (s .args .e) (search needs) (c .before .loop .w) (omega arith) (c .before .before .if1 .left) (c .before .loop .inv .1)))

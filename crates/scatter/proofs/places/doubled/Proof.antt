@@ -16,21 +16,12 @@ use Rattle.scatter.proofs.places.doubled.Tie as tie
 abbrev Inv-loop : tie.InvT-loop
 Inv-loop x out₀ previous₀ w₀ out previous w = (previous ≡ raised 1 (λ n. getD x n 0) w) × Filled twiceLimbs (doubledLimb x) out₀ out w
 
-abbrev μ-loop : tie.MeasureT-loop
-μ-loop x out₀ previous₀ w₀ out previous w = twiceLimbs - w
-
-loop-again : tie.Need-loop-again Inv-loop μ-loop
-loop-again c =
-    let l = c .before .loop in
-    let x = c .before .before .args .t1 in
-    (before-next x (l .w), filled-more (l .inv .1) (omega arith) (omega arith) (ap (λ y. bitOr (getD x (l .w) 0 * 2 % 2 ^ 64) (y / 2 ^ 63)) (l .inv .0)))
-
-returns : tie.Need-returns Inv-loop μ-loop
-returns c =
-    filled-all (c .before .loop .inv .1) (omega arith) (omega arith) ∙ doubled-limbs twiceLimbs _ (limbs-fit (c .before .before .args .t1) (λ k. search needs))
-
 pub doubled-spec : {M : Type 1} → statement M
 doubled-spec =
     tie.close
-    (tie.spec Inv-loop μ-loop (λ c. (before-first (c .args .t1), filled-none twiceLimbs _ _)) (λ c. search needs) (λ c. search needs) (λ c. search needs)
-    (λ c. search needs) (λ c. search needs) (λ c. search needs) loop-again returns)
+    (tie.spec Inv-loop (λ x out₀ previous₀ w₀ out previous w. twiceLimbs - w) (λ c. (before-first (c .args .t1), filled-none twiceLimbs _ _))
+    (λ c. search needs) (λ c. search needs) (λ c. search needs) (λ c. search needs) (λ c. search needs) (λ c. search needs)
+    (λ c. let l = c .before .loop in
+    let x = c .before .before .args .t1 in
+    (before-next x (l .w), filled-more (l .inv .1) (omega arith) (omega arith) (ap (λ y. bitOr (getD x (l .w) 0 * 2 % 2 ^ 64) (y / 2 ^ 63)) (l .inv .0))))
+    (λ c. filled-all (c .before .loop .inv .1) (omega arith) (omega arith) ∙ doubled-limbs twiceLimbs _ (limbs-fit (c .before .before .args .t1) (λ k. search needs))))
