@@ -11,5 +11,6 @@ eight-spec =
     (tie.spec (λ c. search needs) (λ c. search needs) (λ c. search needs) (λ c. search needs) (λ c. search needs) (λ c. search needs) (λ c. search needs)
     (λ c. search needs) (λ c. search needs) (λ c. search needs) (λ c. search needs) (λ c. search needs) (λ c. search needs) (λ c. search needs)
     (λ c. search needs) (λ c κs. search needs)
-    (λ c. let s = c .before .before .before .before .before .before .before .before .before .before in
+    (λ c. let h = c .before .before .before .before .before in
+    let s = h .before .before .before .before .before in
     c .joined .ensures ∙ joined-bytes (s .args .s .now) (s .args .b) (λ k. c .before .shared-slice-known9 .given k .fits)))

@@ -13,6 +13,7 @@ put-last-spec =
     (tie.spec (λ c. search needs) (λ c. stored-by (c .before .before .pre .1) _ _ (λ i p q. (p, omega arith))) (λ c. search needs) (λ c. search needs)
     (λ c. search needs) (λ c. search needs) (λ c. search needs) (λ c. search needs) (λ c. search needs) (λ c. search needs) (λ c. search needs)
     (λ c κs. search needs) (λ c. search needs)
-    (λ c. let s = c .before .before .before .before .before .before .before in
+    (λ c. let h = c .before .before .before in
+    let s = h .before .before .before .before in
     stored-last (s .pre .1) (c .before .before .put-whole .ensures) refl (s .pre .0) (pair-limb _ _ _ (limbs-fit (s .args .t1) (λ k. search needs) _) (omega arith)))
     (λ c. stored-by (c .before .before .before .pre .1) _ _ (λ i p q. (p, omega arith))))
