@@ -2,7 +2,7 @@
 use Prim.Native.Nat.{_-_, _≤_}
 use native.Mathlib.Omega.{arith}
 use Rattle.limbs.specs.Limbs.{Put}
-use Rattle.limbs.proofs.LimbStores.{put-none, put-more, put-past}
+use Rattle.limbs.proofs.LimbStores.{put-none, put-more, put-all}
 use borrow.Author.Needs.{needs}
 use Rattle.limbs.proofs.limbs.put_part.Statement.{statement}
 use Rattle.limbs.proofs.limbs.put_part.Tie as tie
@@ -17,4 +17,4 @@ put-part-spec =
     (λ c. omega arith) (λ c. search needs) (λ c. omega (arith, c .before .before .loop .inv .1 .size))
     (λ c. let done = c .before .before .loop .inv .1 in
     (omega (arith, done .size), put-more done (omega arith) (omega (arith, done .size)) (c .byte-of .ensures)))
-    (λ c. c .before .loop .inv .1 .size) (λ c. let done = c .before .loop .inv .1 in put-past done (omega (arith, done .size))))
+    (λ c. c .before .loop .inv .1 .size) (λ c. let done = c .before .loop .inv .1 in put-all done (λ j k r. omega (arith, done .size))))

@@ -18,4 +18,4 @@ put-whole-spec =
     (λ c. rw (c .before .before .loop .inv .1 .size) (omega arith)) (λ c. search needs) (λ c. search needs)
     (λ c. let s = c .before .before in
     (omega (arith, s .loop .inv .1 .size), put-more (s .loop .inv .1) refl (omega (arith, s .loop .inv .1 .size)) (c .byte-of .ensures)))
-    (λ c. c .before .loop .inv .1 .size) (λ c. put-all (c .before .loop .inv .1) (omega arith)))
+    (λ c. c .before .loop .inv .1 .size) (λ c. put-all (c .before .loop .inv .1) (λ j k r. omega arith)))
