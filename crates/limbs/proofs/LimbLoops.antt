@@ -166,8 +166,8 @@ module _ (m : ℕ) (x : List ℕ) (small : Limbs x) where
       ])
 
 -- the test of the bits at m and above
-pub clear-limbs : (m : ℕ) (x : List ℕ) → length x ≡ carriedBytes → eqb (ored carriedLimbs (above m (packLimbs carriedLimbs (coord x)))) 0 ≡ isClear m x
-clear-limbs m x size = bool-ext _ _
+pub clear-limbs : (m : ℕ) (x : List ℕ) {l : List ℕ} {n high : ℕ} → length x ≡ carriedBytes → l ≡ packLimbs carriedLimbs (coord x) → n ≡ carriedLimbs → high ≡ ored n (above m l) → eqb high 0 ≡ isClear m x
+clear-limbs m x size el en e = ap (λ h. eqb h 0) (e ∙ ap₂ (λ k l. ored k (above m l)) en el) ∙ bool-ext _ _
     (λ e. clear-of m x (λ i h. sym (limbs-coord x size i) ∙ none i h (ored-at carriedLimbs _ (eqb-true _ 0 e))))
     (λ e. eq-eqb _ 0 (ored-of carriedLimbs _ (λ w h. none-above m ws (limbs-lt carriedLimbs (coord x)) w (λ i l. limbs-coord x size i ∙ clear-at m x e i l))))
   where

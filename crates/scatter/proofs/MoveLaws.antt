@@ -15,7 +15,7 @@ use Rattle.gf2.proofs.Coordinates.{value-bit, value-lt, tabulate-ext}
 use Rattle.limbs.specs.Limbs.{limbCoord, packLimbs, raised}
 use Rattle.limbs.proofs.LimbCoords.{limb-lt, limb-digit, limb-pack, limbs-of, limbs-ext}
 use Rattle.limbs.proofs.LimbLoops.{Limbs, raise-pair}
-use Rattle.limbs.proofs.TurnLimbs.{raised-in, raised-out, raised-coord}
+use Rattle.limbs.proofs.TurnLimbs.{limbOf, pairFrom, raised-in, raised-out, raised-coord}
 use Rattle.scatter.proofs.CellLaws.{xored-limbs}
 
 pub raised-ext : (k : ℕ) (f h : ℕ → ℕ) (i : ℕ) → (k ≤ i → f (i - k) ≡ h (i - k)) → raised k f i ≡ raised k h i
@@ -62,7 +62,7 @@ packed-up n k f {x} p q = q ∙ limbs-ext n _ _ (λ i l. elim (decLt i k) [
 
 -- all coordinates moved up by k places: limb w is made from two limbs in a row, those k / 64 + 1 and k / 64 limbs below
 abbrev pub raisedLimb : List ℕ → ℕ → ℕ → ℕ
-raisedLimb x k w = value 64 (λ j. limbCoord (raised (k / 64 + 1) (λ n. getD x n 0) w ∷ raised (k / 64) (λ n. getD x n 0) w ∷ []) (64 - k % 64 + j))
+raisedLimb x k w = pairFrom (64 - k % 64) (raised (k / 64 + 1) (limbOf x) w) (raised (k / 64) (limbOf x) w)
 
 raised-bit : (x : List ℕ) (k w j : ℕ) → j < 64 → raisedLimb x k w / 2 ^ j % 2 ≡ raised k (limbCoord x) (w * 64 + j)
 raised-bit x k w j l = value-bit 64 _ j l ∙ mod-eq-of-lt (limb-lt _ _) ∙ raised-coord 0 k x w j l
