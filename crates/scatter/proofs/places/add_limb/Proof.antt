@@ -1,8 +1,7 @@
 -- `scatter::places::add_limb` meets its contract.
-use mathlib.Core.Path.{_≡_, refl, _∙_}
+use mathlib.Core.Path.{_∙_}
 use Prim.Native.Nat.{_+_, _*_, _^_, _<_}
 use native.Mathlib.Omega.{arith}
-use lib.ListN.{length}
 use lib.Count.{trailing-le}
 use Rattle.gf2.proofs.TrailingZeros.{lowest-next, lowest-less}
 use Rattle.limbs.specs.Limbs.{limbCoord}
@@ -13,30 +12,19 @@ use Rattle.scatter.proofs.places.add_limb.Statement.{statement}
 use Rattle.scatter.proofs.places.add_limb.Tie as tie
 
 abbrev Inv-loop : tie.InvT-loop
-Inv-loop g₀ e limb from rest₀ g rest = (rest < 2 ^ 64) × Added (λ s i. (bitFrom limb from s + bitFrom rest from s) * limbCoord e i) g₀ g × (length g ≡ length g₀)
-
-abbrev μ-loop : tie.MeasureT-loop
-μ-loop g₀ e limb from rest₀ g rest = rest
-
-loop-again : tie.Need-loop-again Inv-loop μ-loop
-loop-again c =
-    let i = c .before .before .before .before in
-    let l = i .before .loop in
-    let s = i .before .before .before in
-    let some = i .loop-test .taken in (
-      omega (arith, l .inv .0, lowest-less 64 (l .rest) (l .inv .0) some),
-      ones-added (s .args .limb) (s .args .from) (l .rest) (l .inv .0) some (s .args .e) (l .inv .1) (c .before .before .add-at .ensures),
-      c .before .before .add-at .ensures .size ∙ l .inv .2,
-    )
+Inv-loop g₀ e limb from rest₀ g rest = (rest < 2 ^ 64) × Added (λ s i. (bitFrom limb from s + bitFrom rest from s) * limbCoord e i) g₀ g
 
 pub add-limb-spec : {M : Type 1} → statement M
 add-limb-spec =
     tie.close
-    (tie.spec Inv-loop μ-loop (λ c. (c .before .fits .limb .fits, ones-none _ _ _ _, refl)) (λ c. omega (arith, trailing-le 64 (c .before .loop .rest)))
+    (tie.spec Inv-loop (λ g₀ e limb from rest₀ g rest. rest) (λ c. (c .before .fits .limb .fits, ones-none _ _ _ _))
+    (λ c. omega (arith, trailing-le 64 (c .before .loop .rest)))
     (λ c. let l = c .before .before .loop in omega (arith, lowest-next 64 (l .rest) (l .inv .0) (c .before .loop-test .taken)))
     (λ c κs. let l = c .before .before .loop in
-    let s = c .before .before .before .before in
-    (l .inv .2 ∙ s .pre .0, omega (arith, lowest-next 64 (l .rest) (l .inv .0) (c .before .loop-test .taken))))
+    (l .inv .1 .size ∙ c .before .before .before .before .pre .0, omega (arith, lowest-next 64 (l .rest) (l .inv .0) (c .before .loop-test .taken))))
     (λ c. search needs)
     (λ c. let l = c .before .before .before .before .before .loop in lowest-less 64 (l .rest) (l .inv .0) (c .before .before .before .before .loop-test .taken))
-    loop-again (λ c. c .before .loop .inv .2) (λ c. ones-all _ _ _ (c .loop-test .left) (c .before .loop .inv .1)))
+    (λ c. let i = c .before .before .before .before in
+    let l = i .before .loop in
+    (omega (arith, l .inv .0, lowest-less 64 (l .rest) (l .inv .0) (i .loop-test .taken)), ones-added _ _ _ (l .inv .0) (i .loop-test .taken) _ (l .inv .1) (c .before .before .add-at .ensures)))
+    (λ c. c .before .loop .inv .1 .size) (λ c. ones-all _ _ _ (c .loop-test .left) (c .before .loop .inv .1)))
