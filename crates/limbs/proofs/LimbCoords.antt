@@ -80,22 +80,13 @@ joined-value zero g f e = unfold value sum in refl
 joined-value (suc n) g f e =
     let s : 8 * suc n ≡ 8 + 8 * n = omega arith in
     sym (ap (λ k. value k f) s ∙ value-split 8 (8 * n) f
-    ∙ ap₂ _+_ (sym (e 0 ∙ value-ext 8 _ f (λ j l. ap (λ i. f i % 2) (front j)))) (mul-comm (value (8 * n) (λ j. f (8 + j))) 256
-    ∙ ap (λ x. 256 * x) (sym (joined-value n (λ b. g (suc b)) (λ j. f (8 + j)) (λ b. e (suc b) ∙ value-ext 8 _ _ (λ j l. ap (λ i. f i % 2) (shift b j)))))))
-  where
-    shift : (b j : ℕ) → suc b * 8 + j ≡ 8 + (b * 8 + j)
-    shift b j = omega arith
-
-    front : (j : ℕ) → 0 * 8 + j ≡ j
-    front j = omega arith
+    ∙ ap₂ _+_ (sym (e 0 ∙ value-ext 8 _ f (λ j l. ap (λ i. f i % 2) (omega arith)))) (mul-comm (value (8 * n) (λ j. f (8 + j))) 256
+    ∙ ap (λ x. 256 * x) (sym (joined-value n (λ b. g (suc b)) (λ j. f (8 + j)) (λ b. e (suc b) ∙ value-ext 8 _ _ (λ j l. ap (λ i. f i % 2) (omega arith)))))))
 
 -- eight bytes of a list from b on
 joined-eight : (s : List ℕ) (b : ℕ) → ((k : ℕ) → getD s k 0 < 256) → joined 8 (λ k. getD s (b + k) 0) ≡ value 64 (λ j. coord s (b * 8 + j))
 joined-eight s b small = joined-value 8 (λ k. getD s (b + k) 0) (λ j. coord s (b * 8 + j)) (λ k.
-    value-eq 8 _ _ (small (b + k)) (λ j l. sym (coord-digit s (b + k) j l) ∙ ap (coord s) (place k j) ∙ sym (mod-eq-of-lt (coord-lt s _))))
-  where
-    place : (k j : ℕ) → (b + k) * 8 + j ≡ b * 8 + (k * 8 + j)
-    place k j = omega arith
+    value-eq 8 _ _ (small (b + k)) (λ j l. sym (coord-digit s (b + k) j l) ∙ ap (coord s) (omega arith) ∙ sym (mod-eq-of-lt (coord-lt s _))))
 
 -- the same, written out
 pub joined-bytes : (s : List ℕ) (b : ℕ) → ((k : ℕ) → getD s k 0 < 256)
@@ -125,15 +116,12 @@ or-bytes a b c d e f g h ha hb hc hd he hf hg hh =
 byte-under : (s : List ℕ) (b : ℕ) → getD s b 0 < 256 → bitOr (value 64 (λ j. coord s ((b + 1) * 8 + j)) * 2 ^ 8 % 2 ^ 64) (getD s b 0) ≡ value 64 (λ j. coord s (b * 8 + j))
 byte-under s b small =
     ap (λ x. bitOr x (getD s b 0)) (ap (λ x. x % 2 ^ 64) (ap (λ x. x * 2 ^ 8) (value-split 56 8 next)) ∙ drop) ∙ or-shifted (value 56 next) 8 (getD s b 0) small
-    ∙ ap₂ (λ x y. x * 2 ^ 8 + y) (value-ext 56 _ _ (λ j l. ap (λ i. coord s i % 2) (place j)))
+    ∙ ap₂ (λ x y. x * 2 ^ 8 + y) (value-ext 56 _ _ (λ j l. ap (λ i. coord s i % 2) (omega arith)))
     (value-eq 8 (λ j. coord s (b * 8 + j)) _ small (λ j l. sym (coord-digit s b j l) ∙ sym (mod-eq-of-lt (coord-lt s _))))
     ∙ add-comm _ _ ∙ sym (value-split 8 56 (λ j. coord s (b * 8 + j)))
   where
     next : ℕ → ℕ
     next j = coord s ((b + 1) * 8 + j)
-
-    place : (j : ℕ) → (b + 1) * 8 + j ≡ b * 8 + (8 + j)
-    place j = omega arith
 
     drop : (value 56 next + value 8 (λ j. next (56 + j)) * 2 ^ 56) * 2 ^ 8 % 2 ^ 64 ≡ value 56 next * 2 ^ 8
     drop = omega (arith, value-lt 56 next)
@@ -155,15 +143,12 @@ pub limb-last : (s : List ℕ) (n w : ℕ) → length s ≡ n → 8 ≤ n → n 
     → value 64 (λ j. coord s ((n - 8) * 8 + j)) / 2 ^ (8 * (w * 8 + 8 - n)) ≡ value 64 (λ j. coord s (w * 64 + j))
 limb-last s n w size some h = value-eq 64 _ _ (lt-of-le-of-lt (shr-le _ t) (value-lt 64 _)) (λ j l.
     ap (λ y. y % 2) (shr-shr _ t j) ∙ elim (decLt (t + j) 64) [
-      | yes q ↦ value-bit 64 (λ i. coord s ((n - 8) * 8 + i)) (t + j) q ∙ ap (λ i. coord s i % 2) (place j)
+      | yes q ↦ value-bit 64 (λ i. coord s ((n - 8) * 8 + i)) (t + j) q ∙ ap (λ i. coord s i % 2) (omega arith)
       | no q ↦ ap (λ y. y % 2) (div-eq-of-lt (lt-of-lt-of-le (value-lt 64 _) (pow-mono {i = 64} (omega arith)))) ∙ sym (ap (λ y. y % 2) (coord-past s (w * 64 + j) (past j (omega arith))))
     ])
   where
     t : ℕ
     t = 8 * (w * 8 + 8 - n)
-
-    place : (j : ℕ) → (n - 8) * 8 + (8 * (w * 8 + 8 - n) + j) ≡ w * 64 + j
-    place j = omega arith
 
     past : (j : ℕ) → 64 ≤ 8 * (w * 8 + 8 - n) + j → 8 * length s ≤ w * 64 + j
     past j q = omega arith
@@ -172,10 +157,7 @@ limb-last s n w size some h = value-eq 64 _ _ (lt-of-le-of-lt (shr-le _ t) (valu
 pub bytes-of : (n : ℕ) (x : List ℕ) → tabulate n (λ b. getD x (b / 8) 0 / 2 ^ (8 * (b % 8)) % 256) ≡ pack n (limbCoord x)
 bytes-of n x = pack-of n _ (limbCoord x) (λ b h. mod-lt _ (omega arith)) (λ b j h l.
     mod-bit _ 8 j l ∙ ap (λ y. y % 2) (shr-shr (getD x (b / 8) 0) (8 * (b % 8)) j)
-    ∙ sym (limb-digit x (b / 8) (8 * (b % 8) + j) (omega arith)) ∙ ap (limbCoord x) (place b j) ∙ sym (mod-eq-of-lt (limb-lt x _)))
-  where
-    place : (b j : ℕ) → b / 8 * 64 + (8 * (b % 8) + j) ≡ b * 8 + j
-    place b j = omega arith
+    ∙ sym (limb-digit x (b / 8) (8 * (b % 8) + j) (omega arith)) ∙ ap (limbCoord x) (omega arith) ∙ sym (mod-eq-of-lt (limb-lt x _)))
 
 -- the limbs of a carried operand have its coordinates
 pub limbs-coord : (x : List ℕ) → length x ≡ carriedBytes → (i : ℕ) → limbCoord (packLimbs carriedLimbs (coord x)) i ≡ coord x i
@@ -190,6 +172,9 @@ limbs-same x e size = ap limbCoord e ∙ fun-ext (limbs-coord x size)
 -- limbs made from coordinates, in bytes
 pub bytes-limbs : (f : ℕ → ℕ) → pack carriedBytes (limbCoord (packLimbs carriedLimbs f)) ≡ pack carriedBytes f
 bytes-limbs f = pack-ext carriedBytes _ f (λ i h. ap (λ y. y % 2) (limb-pack carriedLimbs f i (omega arith)) ∙ mod-mod _ 2)
+
+pub bytes-from : {r limbs : List ℕ} (f : ℕ → ℕ) → r ≡ pack carriedBytes (limbCoord limbs) → limbs ≡ packLimbs carriedLimbs f → r ≡ pack carriedBytes f
+bytes-from f p q = p ∙ ap (λ l. pack carriedBytes (limbCoord l)) q ∙ bytes-limbs f
 
 pub limbs-below : (n m : ℕ) (f g : ℕ → ℕ) → ((i : ℕ) → i < m → f i % 2 ≡ g i % 2) → packLimbs n (below m f) ≡ packLimbs n (below m g)
 limbs-below n m f g e = limbs-ext n (below m f) (below m g) (λ i h. elim (decLt i m) [

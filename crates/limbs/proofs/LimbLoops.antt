@@ -8,6 +8,8 @@ use native.Mathlib.Decide.{decLt, ℕ-discrete}
 use native.Mathlib.Numerals.{add-one}
 use native.Mathlib.Omega.{arith}
 use lib.Dec.{eqb}
+use mir.Val.{Fits}
+use mir.Syntax.{w64}
 use lib.ListN.{length, getD}
 use lib.Bits.{bitOr, or-lt, or-comm, or-shr, or-add-and, and-step, and-le-l, and-le-r, or-zero-l, bitXor, xor-lt}
 use lib.Pow.{pow-pos, pow-mono, pow-add, shr-shr, shr-le}
@@ -24,6 +26,10 @@ use Rattle.limbs.proofs.LimbCoords.{limb-digit, limb-past, length-limbs
 -- every element of a list is a limb
 abbrev pub Limbs : List ℕ → Type 0
 Limbs l = (w : ℕ) → getD l w 0 < 2 ^ 64
+
+-- those of an array do
+pub limbs-fit : (l : List ℕ) → ((w : ℕ) → Fits w64 (getD l w 0)) → Limbs l
+limbs-fit l h w = h w .fits
 
 pub xored-limbs : (n : ℕ) (x y : List ℕ) → Limbs x → Limbs y
     → tabulate n (λ w. bitXor (getD x w 0) (getD y w 0)) ≡ packLimbs n (λ i. limbCoord x i + limbCoord y i)
@@ -160,8 +166,8 @@ module _ (m : ℕ) (x : List ℕ) (small : Limbs x) where
       ])
 
 -- the test of the bits at m and above
-pub clear-limbs : (m : ℕ) (x : List ℕ) → length x ≡ carriedBytes → eqb (ored carriedLimbs (above m (packLimbs carriedLimbs (coord x)))) 0 ≡ isClear m x
-clear-limbs m x size = bool-ext _ _
+pub clear-limbs : (m : ℕ) (x : List ℕ) {l : List ℕ} {n high : ℕ} → length x ≡ carriedBytes → l ≡ packLimbs carriedLimbs (coord x) → n ≡ carriedLimbs → high ≡ ored n (above m l) → eqb high 0 ≡ isClear m x
+clear-limbs m x size el en e = ap (λ h. eqb h 0) (e ∙ ap₂ (λ k l. ored k (above m l)) en el) ∙ bool-ext _ _
     (λ e. clear-of m x (λ i h. sym (limbs-coord x size i) ∙ none i h (ored-at carriedLimbs _ (eqb-true _ 0 e))))
     (λ e. eq-eqb _ 0 (ored-of carriedLimbs _ (λ w h. none-above m ws (limbs-lt carriedLimbs (coord x)) w (λ i l. limbs-coord x size i ∙ clear-at m x e i l))))
   where

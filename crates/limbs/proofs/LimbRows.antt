@@ -180,10 +180,6 @@ bytes-more s w {limb} {k = k} el ek et er =
 pub bytes-all : (s : List ℕ) (w : ℕ) {total : ℕ} → total ≡ sum (w * 64) (coord s) % 2 ^ 64 → length s ≤ w * 8 → total ≡ sum (8 * length s) (coord s) % 2 ^ 64
 bytes-all s w e h = e ∙ ap (λ n. n % 2 ^ 64) (sum-clear (8 * length s) (w * 64) (coord s) (omega arith) (coord-past s))
 
--- the ones of bytes that are not too many
-pub ones-fit : (s : List ℕ) → length s < 2 ^ 60 → sum (8 * length s) (coord s) % 2 ^ 64 ≡ sum (8 * length s) (coord s)
-ones-fit s h = mod-eq-of-lt (omega (arith, sum-bits (8 * length s) (coord s) (coord-lt s)))
-
 -- the place of a row
 pub row-place : (m d size : ℕ) → d < m → m ≤ maxWidth → size ≡ (m + 7) / 8 → d * size ≤ maxWidth * carriedBytes
 row-place m d size h l e = mul-le-mul {n₁ = d} {m₁ = size} {n₂ = maxWidth} {m₂ = carriedBytes} (omega arith) (omega arith)

@@ -31,12 +31,9 @@ module _ {t limb b : ℕ} {l₀ l : List ℕ} (done : Put t limb b l₀ l) where
     ];
   }
 
-  pub put-all : 8 ≤ t → Put 8 limb b l₀ l
-  put-all h = record { size = done .size; front = done .front; bytes = λ j k r. done .bytes j (omega arith) r }
-
-  -- the list has no more
-  pub put-past : length l₀ ≤ b + t → Put 8 limb b l₀ l
-  put-past h = record { size = done .size; front = done .front; bytes = λ j k r. done .bytes j (omega arith) r }
+  -- all eight bytes, or as many as the list has
+  pub put-all : ((j : ℕ) → j < 8 → b + j < length l₀ → j < t) → Put 8 limb b l₀ l
+  put-all h = record { size = done .size; front = done .front; bytes = λ j k r. done .bytes j (h j k r) r }
 
 pub cleared-none : (b : ℕ) (l : List ℕ) → Cleared b b l l
 cleared-none b l = record { size = refl; front = λ i h. refl; zeroes = λ i h k. absurd (omega arith) }
@@ -60,10 +57,7 @@ put-coords : {limb b : ℕ} {l after : List ℕ} (f : ℕ → ℕ) → Put 8 lim
 put-coords {limb} {b} {l} {after} f put bits i h k r =
     let e : i ≡ b + (i - b) = omega arith in
     ap (λ k. getD after k 0) e ∙ put .bytes (i - b) (omega arith) (omega arith) ∙ sym (value-bits 8 (limb / 2 ^ (8 * (i - b))))
-    ∙ value-ext 8 _ _ (λ j l. ap (λ y. y % 2) (shr-shr limb (8 * (i - b)) j) ∙ bits (8 * (i - b) + j) (omega arith) ∙ ap (λ k. f k % 2) (place j))
-  where
-    place : (j : ℕ) → b * 8 + (8 * (i - b) + j) ≡ i * 8 + j
-    place j = omega arith
+    ∙ value-ext 8 _ _ (λ j l. ap (λ y. y % 2) (shr-shr limb (8 * (i - b)) j) ∙ bits (8 * (i - b) + j) (omega arith) ∙ ap (λ k. f k % 2) (omega arith))
 
 -- the bits of one limb of x
 whole-bits : (x : List ℕ) (w t : ℕ) → t < 64 → getD x w 0 / 2 ^ t % 2 ≡ limbCoord x (8 * w * 8 + t) % 2

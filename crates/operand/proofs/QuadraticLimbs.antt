@@ -61,13 +61,10 @@ pub record Window (x k s : ℕ) : Type 0 where
 
 pub window-one : (x : ℕ) → x < 2 ^ 64 → Window x 1 x
 unfolding sum
-window-one x h = record { small = h; sums = λ j l. twice j (bits x j) ∙ ap (λ k. (bits x (suc j) + bits x k) % 2) (back j) }
+window-one x h = record { small = h; sums = λ j l. let back : j ≡ suc j - 1 = omega arith in twice j (bits x j) ∙ ap (λ k. (bits x (suc j) + bits x k) % 2) back }
   where
     twice : (j y : ℕ) → x / 2 ^ j % 2 ≡ (y + x / 2 ^ j % 2 + y) % 2
     twice j y = omega arith
-
-    back : (j : ℕ) → j ≡ suc j - 1
-    back j = omega arith
 
 pub window-twice : {x k s : ℕ} → Window x k s → Window x (k + k) (bitXor s (s * 2 ^ k % 2 ^ 64))
 window-twice {x} {k} {s} w = record {

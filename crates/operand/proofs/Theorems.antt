@@ -87,14 +87,8 @@ module _ (n p : ℕ) (fits : suc p ≤ 8 * n) where
   -- the steps of the solution: from its last coordinate to the first by the trace, and from each to the next by its definition
   steps : 1 < suc p → (c : List ℕ) → trace (suc p) c ≡ 0 → (i : ℕ) → i < suc p → (rootCoord c (minus (suc p) i 1) + rootCoord c i) % 2 ≡ coord c i
   unfolding rootCoord trace
-  steps two c e zero l = rw (minus-round (suc p) 0 1 (omega arith) two, back) (omega (arith, root-sum c p, coord-lt c 0))
-    where
-      back : 0 + (suc p - 1) ≡ p
-      back = omega arith
-  steps two c e (suc i) l = rw (minus-below (suc p) (suc i) 1 (omega arith) l, back) (omega (arith, coord-lt c (suc i)))
-    where
-      back : suc i - 1 ≡ i
-      back = omega arith
+  steps two c e zero l = let back : 0 + (suc p - 1) ≡ p = omega arith in rw (minus-round (suc p) 0 1 (omega arith) two, back) (omega (arith, root-sum c p, coord-lt c 0))
+  steps two c e (suc i) l = let back : suc i - 1 ≡ i = omega arith in rw (minus-below (suc p) (suc i) 1 (omega arith) l, back) (omega (arith, coord-lt c (suc i)))
 
   solves : 1 < suc p → (c : List ℕ) → IsOperand n (suc p) c → trace (suc p) c ≡ 0 → quadratic (suc p) (root (suc p) c) ≡ c
   unfolding squared minus

@@ -34,7 +34,8 @@ pub fn one_into(width: usize, result: &mut [u8]) -> Fault
 }
 
 pub fn turn_into(width: usize, a: &[u8], k: usize, result: &mut [u8]) -> Fault
-    ensures { λ r. ⌜ (r ≡ faultOf (turnBytesCauses width (now (a .entry)) k (now (result .entry)))) × (now (result .exit) ≡ turnInto width (now (a .entry)) k (now (result .entry))) ⌝ }
+    ensures { λ r. ⌜ (r ≡ faultOf (turnBytesCauses width (now (a .entry)) k (now (result .entry))))
+        × (now (result .exit) ≡ turnInto width (now (a .entry)) k (now (result .entry))) ⌝ }
 {
     let sizes = judging::judge_sizes(width, a.len(), result.len());
     if !is_none(sizes) {
@@ -49,7 +50,8 @@ pub fn turn_into(width: usize, a: &[u8], k: usize, result: &mut [u8]) -> Fault
 }
 
 pub fn sum_into(width: usize, a: &[u8], b: &[u8], result: &mut [u8]) -> Fault
-    ensures { λ r. ⌜ (r ≡ faultOf (sumBytesCauses width (now (a .entry)) (now (b .entry)) (now (result .entry)))) × (now (result .exit) ≡ sumInto width (now (a .entry)) (now (b .entry)) (now (result .entry))) ⌝ }
+    ensures { λ r. ⌜ (r ≡ faultOf (sumBytesCauses width (now (a .entry)) (now (b .entry)) (now (result .entry))))
+        × (now (result .exit) ≡ sumInto width (now (a .entry)) (now (b .entry)) (now (result .entry))) ⌝ }
 {
     let sizes = judging::judge_pair_sizes(width, a.len(), b.len(), result.len());
     if !is_none(sizes) {
@@ -66,7 +68,8 @@ pub fn sum_into(width: usize, a: &[u8], b: &[u8], result: &mut [u8]) -> Fault
 
 // The solution of z² + z = c, with coordinate 0 equal 0.
 pub fn solve_into(width: usize, c: &[u8], result: &mut [u8]) -> Fault
-    ensures { λ r. ⌜ (r ≡ faultOf (solveBytesCauses width (now (c .entry)) (now (result .entry)))) × (now (result .exit) ≡ solveInto width (now (c .entry)) (now (result .entry))) ⌝ }
+    ensures { λ r. ⌜ (r ≡ faultOf (solveBytesCauses width (now (c .entry)) (now (result .entry))))
+        × (now (result .exit) ≡ solveInto width (now (c .entry)) (now (result .entry))) ⌝ }
 {
     let sizes = judging::judge_sizes(width, c.len(), result.len());
     if !is_none(sizes) {

@@ -5,7 +5,7 @@ use mathlib.Core.Path.{_≡_, refl, sym, ap, ap₂, _∙_}
 use mathlib.Core.Bool.{Bool, true, false}
 use mathlib.Core.List.{List}
 use Prim.Native.Nat.{ℕ, zero, suc, _+_, _-_, _*_, _/_, _%_, _^_, _<_, _≤_}
-use native.Mathlib.Nat.{mul-add, add-zero, mod-eq-of-lt}
+use native.Mathlib.Nat.{div-add-mod', mul-add, add-zero, mod-eq-of-lt}
 use native.Mathlib.Decide.{decLt, ℕ-discrete}
 use native.Mathlib.Omega.{arith}
 use lib.ListN.{length, getD, set, length-set, replicate, length-replicate, getD-replicate}
@@ -19,7 +19,8 @@ use Rattle.gf2.proofs.Coordinates.{and-bit, xor-bit, length-tabulate, getD-tabu
 use Rattle.gf2.proofs.Operands.{below-in, below-out}
 use Rattle.limbs.specs.Limbs.{carriedLimbs, limbCoord, packLimbs}
 use Rattle.limbs.proofs.LimbCoords.{limb-lt, limb-digit, limb-pack, limbs-of, limbs-ext, limbs-zero}
-use Rattle.limbs.proofs.LimbLoops.{Limbs}
+use Rattle.limbs.proofs.LimbLoops.{Limbs, window-limbs}
+use Rattle.limbs.proofs.TurnLimbs.{limbOf, pairFrom}
 use Rattle.scatter.specs.Cells.{places, HasPlaces, hasPlaces, cell, Added, seenFrom}
 
 pub zeroes-list : (n : ℕ) → tabulate n (λ i. 0) ≡ replicate n 0
@@ -118,8 +119,9 @@ module _ (s : ℕ) (e : List ℕ) where
 
 -- what is seen of limbs from a coordinate on
 module _ (n at : ℕ) (x : List ℕ) where
-  pub seen-all : at / 64 + carriedLimbs < length x → packLimbs n (λ i. limbCoord x (at + i)) ≡ packLimbs n (seenFrom x at)
-  seen-all h = ap (λ b. packLimbs n (λ i. choose b (limbCoord x (at + i)) 0)) (sym (lt-ltb (at / 64 + carriedLimbs) (length x) h))
+  pub seen-all : at / 64 + carriedLimbs < length x → tabulate n (λ w. pairFrom (at % 64) (limbOf x (at / 64 + w)) (limbOf x (at / 64 + w + 1))) ≡ packLimbs n (seenFrom x at)
+  seen-all h = window-limbs n (at / 64) (at % 64) x (omega arith)
+      ∙ ap₂ (λ s b. packLimbs n (λ i. choose b (limbCoord x (s + i)) 0)) (div-add-mod' at 64) (sym (lt-ltb (at / 64 + carriedLimbs) (length x) h))
 
   pub seen-none : length x ≤ at / 64 + carriedLimbs → replicate n 0 ≡ packLimbs n (seenFrom x at)
   seen-none h = limbs-zero n (seenFrom x at) (λ i l. rw (le-ltb (at / 64 + carriedLimbs) (length x) h))

@@ -2,7 +2,7 @@
 use mathlib.Core.Path.{_≡_, sym, ap, _∙_}
 use mathlib.Core.List.{List, [], _∷_}
 use Prim.Native.Nat.{ℕ, _+_, _-_, _*_, _/_, _%_, _^_, _<_, _≤_}
-use native.Mathlib.Nat.{zero-add, mod-eq-of-lt}
+use native.Mathlib.Nat.{zero-add, mod-eq-of-lt, mod-add-mod, mod-mod}
 use native.Mathlib.Decide.{decLt}
 use native.Mathlib.Omega.{arith}
 use lib.ListN.{getD}
@@ -15,7 +15,7 @@ use Rattle.gf2.proofs.Coordinates.{value-bit, value-lt, tabulate-ext}
 use Rattle.limbs.specs.Limbs.{limbCoord, packLimbs, raised}
 use Rattle.limbs.proofs.LimbCoords.{limb-lt, limb-digit, limb-pack, limbs-of, limbs-ext}
 use Rattle.limbs.proofs.LimbLoops.{Limbs, raise-pair}
-use Rattle.limbs.proofs.TurnLimbs.{raised-in, raised-out, raised-coord}
+use Rattle.limbs.proofs.TurnLimbs.{limbOf, pairFrom, raised-in, raised-out, raised-coord}
 use Rattle.scatter.proofs.CellLaws.{xored-limbs}
 
 pub raised-ext : (k : ℕ) (f h : ℕ → ℕ) (i : ℕ) → (k ≤ i → f (i - k) ≡ h (i - k)) → raised k f i ≡ raised k h i
@@ -51,24 +51,18 @@ raised-sum k n f i = elim (decLt i k) [
 
 -- what is made from the coordinates of packed limbs
 pub packed-plus : (n : ℕ) (f c : ℕ → ℕ) {x r : List ℕ} → x ≡ packLimbs n f → r ≡ packLimbs n (λ i. limbCoord x i + c i) → r ≡ packLimbs n (λ i. f i + c i)
-packed-plus n f c {x} p q = q ∙ limbs-ext n _ _ (λ i l. ap (λ y. (y + c i) % 2) (ap (λ z. limbCoord z i) p ∙ limb-pack n f i l) ∙ first _ _)
-  where
-    first : (a b : ℕ) → (a % 2 + b) % 2 ≡ (a + b) % 2
-    first a b = omega arith
+packed-plus n f c {x} p q = q ∙ limbs-ext n _ _ (λ i l. ap (λ y. (y + c i) % 2) (ap (λ z. limbCoord z i) p ∙ limb-pack n f i l) ∙ mod-add-mod (f i) 2 (c i))
 
 pub packed-up : (n k : ℕ) (f : ℕ → ℕ) {x r : List ℕ} → x ≡ packLimbs n f → r ≡ packLimbs n (raised k (limbCoord x)) → r ≡ packLimbs n (raised k f)
 packed-up n k f {x} p q = q ∙ limbs-ext n _ _ (λ i l. elim (decLt i k) [
   | yes h ↦ ap (λ y. y % 2) (raised-out k (limbCoord x) i h ∙ sym (raised-out k f i h))
   | no h ↦ ap (λ y. y % 2) (raised-in k (limbCoord x) i (omega arith) ∙ ap (λ z. limbCoord z (i - k)) p ∙ limb-pack n f (i - k) (omega arith))
-      ∙ twice (f (i - k)) ∙ ap (λ y. y % 2) (sym (raised-in k f i (omega arith)))
+      ∙ mod-mod (f (i - k)) 2 ∙ ap (λ y. y % 2) (sym (raised-in k f i (omega arith)))
 ])
-  where
-    twice : (a : ℕ) → a % 2 % 2 ≡ a % 2
-    twice a = omega arith
 
 -- all coordinates moved up by k places: limb w is made from two limbs in a row, those k / 64 + 1 and k / 64 limbs below
 abbrev pub raisedLimb : List ℕ → ℕ → ℕ → ℕ
-raisedLimb x k w = value 64 (λ j. limbCoord (raised (k / 64 + 1) (λ n. getD x n 0) w ∷ raised (k / 64) (λ n. getD x n 0) w ∷ []) (64 - k % 64 + j))
+raisedLimb x k w = pairFrom (64 - k % 64) (raised (k / 64 + 1) (limbOf x) w) (raised (k / 64) (limbOf x) w)
 
 raised-bit : (x : List ℕ) (k w j : ℕ) → j < 64 → raisedLimb x k w / 2 ^ j % 2 ≡ raised k (limbCoord x) (w * 64 + j)
 raised-bit x k w j l = value-bit 64 _ j l ∙ mod-eq-of-lt (limb-lt _ _) ∙ raised-coord 0 k x w j l

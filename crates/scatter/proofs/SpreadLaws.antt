@@ -3,7 +3,7 @@
 use mathlib.Core.Path.{_≡_, refl, sym, ap, ap₂, _∙_}
 use mathlib.Core.List.{List}
 use Prim.Native.Nat.{ℕ, _+_, _-_, _*_, _/_, _%_, _^_, _<_, _≤_}
-use native.Mathlib.Nat.{add-zero, zero-add}
+use native.Mathlib.Nat.{add-zero, add-comm, zero-add}
 use native.Mathlib.Decide.{decLt, ℕ-discrete}
 use native.Mathlib.Numerals.{add-one}
 use native.Mathlib.Omega.{arith}
@@ -86,6 +86,9 @@ module _ (g : List ℕ) (r : ℕ) where
       more : (i : ℕ) → f i + columnTo g r q i + cellRaised g s (q * 64) i ≡ f i + columnTo g r (q + 1) i
       more i = unfold sum in rw (e, add-one) (omega arith)
 
+  pub column-all : (n : ℕ) (f : ℕ → ℕ) {q k : ℕ} → q ≡ k → packLimbs n (λ i. f i + columnTo g r q i) ≡ packLimbs n (λ i. f i + columnTo g r k i)
+  column-all n f e = rw e
+
 -- the columns r to 63, moved up by r less than in the end
 module _ (g : List ℕ) where
   abbrev pub columns : ℕ → ℕ → ℕ
@@ -104,16 +107,13 @@ module _ (g : List ℕ) where
           let e : 64 - r ≡ 1 + (64 - (r + 1)) = omega arith in
           ap (λ n. sum n (λ u. cellRaised g (q * 64 + (r + u)) (q * 64 + u) i)) e ∙ sum-split 1 (64 - (r + 1)) _
           ∙ ap₂ _+_ (sum-one _ ∙ ap₂ (λ a b. cellRaised g (q * 64 + a) b i) (add-zero r) (add-zero (q * 64))) (sum-ext (64 - (r + 1)) _ _ (λ u h. ap₂ (λ a b. cellRaised g (q * 64 + a) b i) (place u) (shift u)))
-          ∙ swap _ _
+          ∙ add-comm _ _
         where
           place : (u : ℕ) → r + (1 + u) ≡ r + 1 + u
           place u = omega arith
 
           shift : (u : ℕ) → q * 64 + (1 + u) ≡ 1 + (q * 64 + u)
           shift u = omega arith
-
-          swap : (a b : ℕ) → a + b ≡ b + a
-          swap a b = omega arith
 
   pub spread-none : (n : ℕ) → replicate n 0 ≡ packLimbs n (columns 64)
   spread-none n = limbs-zero n (columns 64) (λ i l. ap (λ y. y % 2) (sum-none carriedLimbs _ (λ q h. sum-none (64 - 64) _ (λ u k. absurd (omega arith)))))

@@ -1,12 +1,8 @@
 -- `limbs::bytes::is_clear` meets its contract.
-use mathlib.Core.Path.{_≡_, ap, _∙_}
+use mathlib.Core.Path.{_≡_}
 use Prim.Native.Nat.{_-_, _≤_}
 use native.Mathlib.Nat.{mod-le}
 use native.Mathlib.Omega.{arith}
-use lib.Dec.{eqb}
-use lib.ListN.{length, getD}
-use lib.Bits.{bitOr}
-use Rattle.gf2.specs.Operands.{carriedBytes}
 use Rattle.limbs.specs.Limbs.{carriedLimbs}
 use Rattle.limbs.proofs.LimbLoops.{ored, above, ored-none, ored-more, clear-limbs}
 use borrow.Author.Needs.{needs}
@@ -16,30 +12,10 @@ use Rattle.limbs.proofs.bytes.is_clear.Tie as tie
 abbrev Inv-loop : tie.InvT-loop
 Inv-loop m all high₀ w₀ high w = (w ≤ carriedLimbs) × (high ≡ ored w (above m all))
 
-abbrev μ-loop : tie.MeasureT-loop
-μ-loop m all high₀ w₀ high w = carriedLimbs - w
-
-loop-holds : tie.Need-loop-holds Inv-loop μ-loop
-loop-holds c = (omega arith, ored-none _)
-
-sub-high : tie.Need-sub-high Inv-loop μ-loop
-sub-high c = rw (c .low-limb .ensures) (mod-le _ _)
-
-loop-again : tie.Need-loop-again Inv-loop μ-loop
-loop-again c =
-    let s = c .before .before in
-    (omega arith, ap (λ r. bitOr (s .loop .high) (getD (s .before .to-limbs .result) (s .loop .w) 0 - r)) (c .low-limb .ensures) ∙ ored-more _ _ _ (s .loop .inv .1))
-
-returns : tie.Need-returns Inv-loop μ-loop
-returns c =
-    let s = c .before .before .before in
-    let e : c .before .loop .w ≡ carriedLimbs = omega arith in
-    let size : length (s .args .x) ≡ carriedBytes = search needs in
-    ap (λ h. eqb h 0) (c .before .loop .inv .1 ∙ ap (λ n. ored n (above (s .args .m) (c .before .before .to-limbs .result))) e ∙ ap (λ l. ored carriedLimbs (above (s .args .m) l)) (c .before .before .to-limbs .ensures))
-    ∙ clear-limbs (s .args .m) (s .args .x) size
-
 pub is-clear-spec : {M : Type 1} → statement M
 is-clear-spec =
     tie.close
-    (tie.spec Inv-loop μ-loop (λ c κs. search needs) loop-holds (λ c. search needs) (λ c. search needs) (λ c κs. search needs) sub-high (λ c. search needs)
-    (λ c. search needs) loop-again returns)
+    (tie.spec Inv-loop (λ m all high₀ w₀ high w. carriedLimbs - w) (λ c κs. search needs) (λ c. (omega arith, ored-none _)) (λ c. search needs)
+    (λ c. search needs) (λ c κs. search needs) (λ c. rw (c .low-limb .ensures) (mod-le _ _)) (λ c. search needs) (λ c. search needs)
+    (λ c. (omega arith, rw (c .low-limb .ensures) (ored-more _ _ _ (c .before .before .loop .inv .1))))
+    (λ c. let s = c .before .before in clear-limbs _ (s .before .args .x) (search needs) (s .to-limbs .ensures) (omega arith) (c .before .loop .inv .1)))

@@ -12,23 +12,10 @@ use Rattle.limbs.proofs.limbs.clear_rest.Tie as tie
 abbrev Inv-loop : tie.InvT-loop
 Inv-loop out₀ b₀ out b = (carriedBytes ≤ b) × Cleared carriedBytes b out₀ out
 
-abbrev μ-loop : tie.MeasureT-loop
-μ-loop out₀ b₀ out b = length out₀ - b
-
-loop-holds : tie.Need-loop-holds Inv-loop μ-loop
-loop-holds c = (omega arith, cleared-none _ _)
-
-loop-less : tie.Need-loop-less Inv-loop μ-loop
-loop-less c = omega (arith, c .before .loop .inv .1 .size)
-
-loop-again : tie.Need-loop-again Inv-loop μ-loop
-loop-again c = let done = c .before .loop .inv .1 in (omega arith, cleared-more done (omega arith) (omega (arith, done .size)))
-
-same-length : tie.Need-same-length Inv-loop μ-loop
-same-length c = c .before .loop .inv .1 .size
-
-returns : tie.Need-returns Inv-loop μ-loop
-returns c = let done = c .before .loop .inv .1 in cleared-all done (omega (arith, done .size))
-
 pub clear-rest-spec : {M : Type 1} → statement M
-clear-rest-spec = tie.close (tie.spec Inv-loop μ-loop loop-holds (λ c. search needs) (λ c. search needs) loop-less loop-again same-length returns)
+clear-rest-spec =
+    tie.close
+    (tie.spec Inv-loop (λ out₀ b₀ out b. length out₀ - b) (λ c. (omega arith, cleared-none _ _)) (λ c. search needs) (λ c. search needs)
+    (λ c. omega (arith, c .before .loop .inv .1 .size))
+    (λ c. let done = c .before .loop .inv .1 in (omega arith, cleared-more done (omega arith) (omega (arith, done .size))))
+    (λ c. c .before .loop .inv .1 .size) (λ c. let done = c .before .loop .inv .1 in cleared-all done (omega (arith, done .size))))

@@ -5,14 +5,12 @@ use borrow.Author.Needs.{needs}
 use Rattle.limbs.proofs.limbs.eight.Statement.{statement}
 use Rattle.limbs.proofs.limbs.eight.Tie as tie
 
-returns : tie.Need-returns
-returns c =
-    let s = c .before .before .before .before .before .before .before .before .before .before in
-    c .joined .ensures ∙ joined-bytes (s .args .s .now) (s .args .b) (λ k. c .before .shared-slice-known9 .given k .fits)
-
 pub eight-spec : {M : Type 1} → statement M
 eight-spec =
     tie.close
     (tie.spec (λ c. search needs) (λ c. search needs) (λ c. search needs) (λ c. search needs) (λ c. search needs) (λ c. search needs) (λ c. search needs)
     (λ c. search needs) (λ c. search needs) (λ c. search needs) (λ c. search needs) (λ c. search needs) (λ c. search needs) (λ c. search needs)
-    (λ c. search needs) (λ c κs. search needs) returns)
+    (λ c. search needs) (λ c κs. search needs)
+    (λ c. let h = c .before .before .before .before .before in
+    let s = h .before .before .before .before .before in
+    c .joined .ensures ∙ joined-bytes (s .args .s .now) (s .args .b) (λ k. c .before .shared-slice-known9 .given k .fits)))

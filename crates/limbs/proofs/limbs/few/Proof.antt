@@ -12,23 +12,12 @@ use Rattle.limbs.proofs.limbs.few.Tie as tie
 abbrev Inv-loop : tie.InvT-loop
 Inv-loop s limb₀ b₀ limb b = (b ≤ length s) × (limb ≡ value 64 (λ j. coord s (b * 8 + j)))
 
-abbrev μ-loop : tie.MeasureT-loop
-μ-loop s limb₀ b₀ limb b = b
-
-loop-holds : tie.Need-loop-holds Inv-loop μ-loop
-loop-holds c = (omega arith, limb-none (c .before .args .s .now) _ (omega arith))
-
-loop-again : tie.Need-loop-again Inv-loop μ-loop
-loop-again c =
-    let s = c .before .before .before in
-    (omega arith, byte-more (s .before .before .args .s .now) (s .loop .b - 1) (s .loop .b) (omega arith) (s .loop .inv .1) (c .wide .ensures) (c .before .shared-slice-known2 .given _ .fits))
-
-returns : tie.Need-returns Inv-loop μ-loop
-returns c =
-    let zero : c .before .loop .b ≡ 0 = omega arith in
-    c .before .loop .inv .1 ∙ ap (λ b. value 64 (λ j. coord (c .before .before .before .args .s .now) (b * 8 + j))) zero
-
 pub few-spec : {M : Type 1} → statement M
 few-spec =
     tie.close
-    (tie.spec Inv-loop μ-loop loop-holds (λ c. search needs) (λ c. search needs) (λ c κs. search needs) (λ c. search needs) loop-again returns)
+    (tie.spec Inv-loop (λ s limb₀ b₀ limb b. b) (λ c. (omega arith, limb-none (c .before .args .s .now) _ (omega arith))) (λ c. search needs)
+    (λ c. search needs) (λ c κs. search needs) (λ c. search needs)
+    (λ c. let s = c .before .before .before in
+    (omega arith, byte-more (s .before .before .args .s .now) (s .loop .b - 1) (s .loop .b) (omega arith) (s .loop .inv .1) (c .wide .ensures) (c .before .shared-slice-known2 .given _ .fits)))
+    (λ c. let zero : c .before .loop .b ≡ 0 = omega arith in
+    c .before .loop .inv .1 ∙ ap (λ b. value 64 (λ j. coord (c .before .before .before .args .s .now) (b * 8 + j))) zero))

@@ -6,8 +6,8 @@ use borrow.Author.Needs.{needs}
 use Rattle.limbs.proofs.limbs.limb_at.Statement.{statement}
 use Rattle.limbs.proofs.limbs.limb_at.Tie as tie
 
-returns-2 : tie.Need-returns-2
-returns-2 c = sym (List·getD-eq-default (c .before .args .t1) 0 {n = c .before .args .w} (omega arith))
-
 pub limb-at-spec : {M : Type 1} → statement M
-limb-at-spec = tie.close (tie.spec (λ c. search needs) (λ c. search needs) (λ c. search needs) returns-2)
+limb-at-spec =
+    tie.close
+    (tie.spec (λ c. search needs) (λ c. search needs) (λ c. search needs)
+    (λ c. sym (List·getD-eq-default (c .before .args .t1) 0 {n = c .before .args .w} (omega arith))))

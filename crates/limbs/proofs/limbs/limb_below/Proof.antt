@@ -7,15 +7,9 @@ use borrow.Author.Needs.{needs}
 use Rattle.limbs.proofs.limbs.limb_below.Statement.{statement}
 use Rattle.limbs.proofs.limbs.limb_below.Tie as tie
 
-returns : tie.Need-returns
-returns c =
-    let a = c .before .before .args in
-    c .limb-at .ensures ∙ sym (raised-in (a .n) (λ v. getD (a .x) v 0) (a .w) (c .before .if1 .taken))
-
-returns-2 : tie.Need-returns-2
-returns-2 c =
-    let a = c .before .args in
-    sym (raised-out (a .n) (λ v. getD (a .x) v 0) (a .w) (omega arith))
-
 pub limb-below-spec : {M : Type 1} → statement M
-limb-below-spec = tie.close (tie.spec (λ c κs. search needs) returns returns-2)
+limb-below-spec =
+    tie.close
+    (tie.spec (λ c κs. search needs)
+    (λ c. let a = c .before .before .args in c .limb-at .ensures ∙ sym (raised-in (a .n) (λ v. getD (a .x) v 0) (a .w) (c .before .if1 .taken)))
+    (λ c. let a = c .before .args in sym (raised-out (a .n) (λ v. getD (a .x) v 0) (a .w) (omega arith))))

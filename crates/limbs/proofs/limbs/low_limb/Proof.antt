@@ -3,8 +3,5 @@ use borrow.Author.Needs.{needs}
 use Rattle.limbs.proofs.limbs.low_limb.Statement.{statement}
 use Rattle.limbs.proofs.limbs.low_limb.Tie as tie
 
-returns : tie.Need-returns
-returns c = c .mask .ensures (c .before .args .limb) (c .before .fits .limb .fits)
-
 pub low-limb-spec : {M : Type 1} → statement M
-low-limb-spec = tie.close (tie.spec (λ c κs. search needs) returns)
+low-limb-spec = tie.close (tie.spec (λ c κs. search needs) (λ c. c .mask .ensures (c .before .args .limb) (c .before .fits .limb .fits)))

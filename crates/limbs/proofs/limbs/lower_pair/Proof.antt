@@ -6,8 +6,8 @@ use borrow.Author.Needs.{needs}
 use Rattle.limbs.proofs.limbs.lower_pair.Statement.{statement}
 use Rattle.limbs.proofs.limbs.lower_pair.Tie as tie
 
-returns : tie.Need-returns
-returns c = lower-pair (c .args .low) (c .args .high) (c .args .s % 64) (c .fits .low .fits) (omega arith)
-
 pub lower-pair-spec : {M : Type 1} → statement M
-lower-pair-spec = tie.close (tie.spec (λ c. search needs) (λ c. search needs) (λ c. search needs) returns)
+lower-pair-spec =
+    tie.close
+    (tie.spec (λ c. search needs) (λ c. search needs) (λ c. search needs)
+    (λ c. lower-pair (c .args .low) (c .args .high) (c .args .s % 64) (c .fits .low .fits) (omega arith)))

@@ -9,26 +9,14 @@ use borrow.Author.Needs.{needs}
 use Rattle.limbs.proofs.limbs.mask.Statement.{statement}
 use Rattle.limbs.proofs.limbs.mask.Tie as tie
 
-returns : tie.Need-returns
-returns c =
-    λ x h.
-    let e : c .before .args .m - c .before .args .w * 64 ≡ 0 = omega arith in
-    and-zero-r x ∙ rw e (omega arith)
-
-returns-2 : tie.Need-returns-2
-returns-2 c = λ x h. and-mask x 64 ∙ mod-eq-of-lt h ∙ sym (mod-eq-of-lt (lt-of-lt-of-le h (pow-mono {i = 64} (c .if2 .taken))))
-
-sub-result : tie.Need-sub-result
-sub-result c =
-    let n = c .before .before .args .m - c .before .before .args .w * 64 in
-    rw (shl-exact {a = 1} 1 n 64 (omega arith) (omega arith)) (omega (arith, pow-pos n))
-
-returns-3 : tie.Need-returns-3
-returns-3 c =
-    λ x h.
-    let n = c .before .before .args .m - c .before .before .args .w * 64 in
-    ap (λ y. bitAnd x (y - 1)) (shl-exact {a = 1} 1 n 64 (omega arith) (omega arith) ∙ one-mul _) ∙ and-mask x n
-
 pub mask-spec : {M : Type 1} → statement M
 mask-spec =
-    tie.close (tie.spec (λ c. search needs) returns (λ c. search needs) (λ c. search needs) returns-2 (λ c. search needs) sub-result returns-3)
+    tie.close
+    (tie.spec (λ c. search needs) (λ c x h. let e : c .before .args .m - c .before .args .w * 64 ≡ 0 = omega arith in and-zero-r x ∙ rw e (omega arith))
+    (λ c. search needs) (λ c. search needs)
+    (λ c x h. and-mask x 64 ∙ mod-eq-of-lt h ∙ sym (mod-eq-of-lt (lt-of-lt-of-le h (pow-mono {i = 64} (c .if2 .taken))))) (λ c. search needs)
+    (λ c. let n = c .before .before .args .m - c .before .before .args .w * 64 in
+    rw (shl-exact {a = 1} 1 n 64 (omega arith) (omega arith)) (omega (arith, pow-pos n)))
+    (λ c. λ x h.
+    let n = c .before .before .args .m - c .before .before .args .w * 64 in
+    ap (λ y. bitAnd x (y - 1)) (shl-exact {a = 1} 1 n 64 (omega arith) (omega arith) ∙ one-mul _) ∙ and-mask x n))

@@ -16,9 +16,6 @@ Inv-loop out₀ x w₀ out w = (w ≤ carriedLimbs) × (length out ≡ length ou
 abbrev μ-loop : tie.MeasureT-loop
 μ-loop out₀ x w₀ out w = carriedLimbs - w
 
-loop-holds : tie.Need-loop-holds Inv-loop μ-loop
-loop-holds c = (omega arith, refl, stored-none _ _ _)
-
 loop-again : tie.Need-loop-again Inv-loop μ-loop
 loop-again c =
     let s = c .before .before .loop in
@@ -27,14 +24,9 @@ loop-again c =
     (λ x. rw (x .1) (omega arith, s .inv .1, stored-by (s .inv .2) _ _ (λ i p q. (omega (arith, s .inv .1, x .0 .left), q))))
     (c .if1 .came)
 
-same-length : tie.Need-same-length Inv-loop μ-loop
-same-length c = c .before .loop .inv .1
-
-returns : tie.Need-returns Inv-loop μ-loop
-returns c = stored-by (c .before .loop .inv .2) _ _ (λ i p q. (omega arith, q))
-
 pub put-limbs-spec : {M : Type 1} → statement M
 put-limbs-spec =
     tie.close
-    (tie.spec Inv-loop μ-loop loop-holds (λ c. search needs) (λ c. search needs) (λ c. search needs) (λ c. search needs) (λ c. search needs)
-    (λ c κs. search needs) (λ c. search needs) (λ c. search needs) loop-again same-length returns)
+    (tie.spec Inv-loop μ-loop (λ c. (omega arith, refl, stored-none _ _ _)) (λ c. search needs) (λ c. search needs) (λ c. search needs) (λ c. search needs)
+    (λ c. search needs) (λ c κs. search needs) (λ c. search needs) (λ c. search needs) loop-again (λ c. c .before .loop .inv .1)
+    (λ c. stored-by (c .before .loop .inv .2) _ _ (λ i p q. (omega arith, q))))

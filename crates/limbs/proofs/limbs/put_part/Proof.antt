@@ -2,7 +2,7 @@
 use Prim.Native.Nat.{_-_, _≤_}
 use native.Mathlib.Omega.{arith}
 use Rattle.limbs.specs.Limbs.{Put}
-use Rattle.limbs.proofs.LimbStores.{put-none, put-more, put-past}
+use Rattle.limbs.proofs.LimbStores.{put-none, put-more, put-all}
 use borrow.Author.Needs.{needs}
 use Rattle.limbs.proofs.limbs.put_part.Statement.{statement}
 use Rattle.limbs.proofs.limbs.put_part.Tie as tie
@@ -10,31 +10,11 @@ use Rattle.limbs.proofs.limbs.put_part.Tie as tie
 abbrev Inv-loop : tie.InvT-loop
 Inv-loop limb out₀ j₀ out j = (j ≤ 8) × Put j limb 0 out₀ out
 
-abbrev μ-loop : tie.MeasureT-loop
-μ-loop limb out₀ j₀ out j = 8 - j
-
-loop-holds : tie.Need-loop-holds Inv-loop μ-loop
-loop-holds c = (omega arith, put-none _ _ _)
-
-byte-of-requires : tie.Need-byte-of-requires Inv-loop μ-loop
-byte-of-requires c κs = omega (arith, c .before .loop .inv .1 .size)
-
-slice-write-out : tie.Need-slice-write-out Inv-loop μ-loop
-slice-write-out c = omega arith
-
-loop-less : tie.Need-loop-less Inv-loop μ-loop
-loop-less c = omega (arith, c .before .before .loop .inv .1 .size)
-
-loop-again : tie.Need-loop-again Inv-loop μ-loop
-loop-again c =
-    let done = c .before .before .loop .inv .1 in
-    (omega (arith, done .size), put-more done (omega arith) (omega (arith, done .size)) (c .byte-of .ensures))
-
-same-length : tie.Need-same-length Inv-loop μ-loop
-same-length c = c .before .loop .inv .1 .size
-
-returns : tie.Need-returns Inv-loop μ-loop
-returns c = let done = c .before .loop .inv .1 in put-past done (omega (arith, done .size))
-
 pub put-part-spec : {M : Type 1} → statement M
-put-part-spec = tie.close (tie.spec Inv-loop μ-loop loop-holds byte-of-requires slice-write-out (λ c. search needs) loop-less loop-again same-length returns)
+put-part-spec =
+    tie.close
+    (tie.spec Inv-loop (λ limb out₀ j₀ out j. 8 - j) (λ c. (omega arith, put-none _ _ _)) (λ c κs. omega (arith, c .before .loop .inv .1 .size))
+    (λ c. omega arith) (λ c. search needs) (λ c. omega (arith, c .before .before .loop .inv .1 .size))
+    (λ c. let done = c .before .before .loop .inv .1 in
+    (omega (arith, done .size), put-more done (omega arith) (omega (arith, done .size)) (c .byte-of .ensures)))
+    (λ c. c .before .loop .inv .1 .size) (λ c. let done = c .before .loop .inv .1 in put-all done (λ j k r. omega (arith, done .size))))

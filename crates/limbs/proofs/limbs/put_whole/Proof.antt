@@ -11,28 +11,11 @@ use Rattle.limbs.proofs.limbs.put_whole.Tie as tie
 abbrev Inv-loop : tie.InvT-loop
 Inv-loop limb b out₀ j₀ out j = (j ≤ 8) × Put j limb b out₀ out
 
-abbrev μ-loop : tie.MeasureT-loop
-μ-loop limb b out₀ j₀ out j = 8 - j
-
-loop-holds : tie.Need-loop-holds Inv-loop μ-loop
-loop-holds c = (omega arith, put-none _ _ _)
-
-slice-write-out : tie.Need-slice-write-out Inv-loop μ-loop
-slice-write-out c = rw (c .before .before .loop .inv .1 .size) (omega arith)
-
-loop-again : tie.Need-loop-again Inv-loop μ-loop
-loop-again c =
-    let s = c .before .before in
-    (omega (arith, s .loop .inv .1 .size), put-more (s .loop .inv .1) refl (omega (arith, s .loop .inv .1 .size)) (c .byte-of .ensures))
-
-same-length : tie.Need-same-length Inv-loop μ-loop
-same-length c = c .before .loop .inv .1 .size
-
-returns : tie.Need-returns Inv-loop μ-loop
-returns c = put-all (c .before .loop .inv .1) (omega arith)
-
 pub put-whole-spec : {M : Type 1} → statement M
 put-whole-spec =
     tie.close
-    (tie.spec Inv-loop μ-loop loop-holds (λ c κs. search needs) (λ c. search needs) slice-write-out (λ c. search needs) (λ c. search needs) loop-again
-    same-length returns)
+    (tie.spec Inv-loop (λ limb b out₀ j₀ out j. 8 - j) (λ c. (omega arith, put-none _ _ _)) (λ c κs. search needs) (λ c. search needs)
+    (λ c. rw (c .before .before .loop .inv .1 .size) (omega arith)) (λ c. search needs) (λ c. search needs)
+    (λ c. let s = c .before .before in
+    (omega (arith, s .loop .inv .1 .size), put-more (s .loop .inv .1) refl (omega (arith, s .loop .inv .1 .size)) (c .byte-of .ensures)))
+    (λ c. c .before .loop .inv .1 .size) (λ c. put-all (c .before .loop .inv .1) (λ j k r. omega arith)))

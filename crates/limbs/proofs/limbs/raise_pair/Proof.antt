@@ -6,8 +6,8 @@ use borrow.Author.Needs.{needs}
 use Rattle.limbs.proofs.limbs.raise_pair.Statement.{statement}
 use Rattle.limbs.proofs.limbs.raise_pair.Tie as tie
 
-returns : tie.Need-returns
-returns c = raise-pair (c .args .low) (c .args .high) (c .args .s % 64) (c .fits .low .fits) (omega arith)
-
 pub raise-pair-spec : {M : Type 1} → statement M
-raise-pair-spec = tie.close (tie.spec (λ c. search needs) (λ c. search needs) (λ c. search needs) returns)
+raise-pair-spec =
+    tie.close
+    (tie.spec (λ c. search needs) (λ c. search needs) (λ c. search needs)
+    (λ c. raise-pair (c .args .low) (c .args .high) (c .args .s % 64) (c .fits .low .fits) (omega arith)))

@@ -8,23 +8,13 @@ use borrow.Author.Needs.{needs}
 use Rattle.limbs.proofs.limbs.slice_limb.Statement.{statement}
 use Rattle.limbs.proofs.limbs.slice_limb.Tie as tie
 
-returns : tie.Need-returns
-returns c = limb-none (c .before .before .args .s .now) _ (omega arith)
-
-returns-2 : tie.Need-returns-2
-returns-2 c = c .eight .ensures ∙ limb-from _ (c .before .before .before .before .args .w) _ refl
-
-returns-3 : tie.Need-returns-3
-returns-3 c = c .few .ensures ∙ limb-from _ (c .before .before .before .before .before .args .w) 0 (omega arith)
-
-returns-4 : tie.Need-returns-4
-returns-4 c =
-    let s = c .before .before .before .before .before in
-    ap (λ v. v / 2 ^ (8 * (s .args .w * 8 + 8 - length (s .args .s .now)))) (c .eight2 .ensures)
-    ∙ limb-last (s .args .s .now) (length (s .args .s .now)) (s .args .w) refl (omega arith) (omega arith)
-
 pub slice-limb-spec : {M : Type 1} → statement M
 slice-limb-spec =
     tie.close
-    (tie.spec (λ c. search needs) returns (λ c. search needs) (λ c κs. search needs) returns-2 (λ c κs. search needs) returns-3 (λ c κs. search needs)
-    (λ c. search needs) (λ c. search needs) (λ c. search needs) (λ c. search needs) returns-4)
+    (tie.spec (λ c. search needs) (λ c. limb-none (c .before .before .args .s .now) _ (omega arith)) (λ c. search needs) (λ c κs. search needs)
+    (λ c. c .eight .ensures ∙ limb-from _ (c .before .before .before .before .args .w) _ refl) (λ c κs. search needs)
+    (λ c. c .few .ensures ∙ limb-from _ (c .before .before .before .before .before .args .w) 0 (omega arith)) (λ c κs. search needs) (λ c. search needs)
+    (λ c. search needs) (λ c. search needs) (λ c. search needs)
+    (λ c. let s = c .before .before .before .before .before in
+    ap (λ v. v / 2 ^ (8 * (s .args .w * 8 + 8 - length (s .args .s .now)))) (c .eight2 .ensures)
+    ∙ limb-last (s .args .s .now) (length (s .args .s .now)) (s .args .w) refl (omega arith) (omega arith)))

@@ -13,20 +13,10 @@ use Rattle.limbs.proofs.limbs.to_limbs.Tie as tie
 abbrev Inv-loop : tie.InvT-loop
 Inv-loop x out₀ w₀ out w = Filled carriedLimbs (λ k. value 64 (λ j. coord x (k * 64 + j))) out₀ out w
 
-abbrev μ-loop : tie.MeasureT-loop
-μ-loop x out₀ w₀ out w = carriedLimbs - w
-
-loop-holds : tie.Need-loop-holds Inv-loop μ-loop
-loop-holds c = filled-none carriedLimbs _ _
-
-loop-again : tie.Need-loop-again Inv-loop μ-loop
-loop-again c = filled-more (c .before .before .before .loop .inv) (omega arith) (omega arith) (c .eight .ensures ∙ limb-from _ _ _ refl)
-
-returns : tie.Need-returns Inv-loop μ-loop
-returns c = unfold packLimbs in filled-all (c .before .loop .inv) (omega arith) (omega arith)
-
 pub to-limbs-spec : {M : Type 1} → statement M
 to-limbs-spec =
     tie.close
-    (tie.spec Inv-loop μ-loop loop-holds (λ c. search needs) (λ c. search needs) (λ c κs. search needs) (λ c. search needs) (λ c. search needs)
-    (λ c. search needs) (λ c. search needs) loop-again returns)
+    (tie.spec Inv-loop (λ x out₀ w₀ out w. carriedLimbs - w) (λ c. filled-none carriedLimbs _ _) (λ c. search needs) (λ c. search needs)
+    (λ c κs. search needs) (λ c. search needs) (λ c. search needs) (λ c. search needs) (λ c. search needs)
+    (λ c. filled-more (c .before .before .before .loop .inv) (omega arith) (omega arith) (c .eight .ensures ∙ limb-from _ _ _ refl))
+    (λ c. unfold packLimbs in filled-all (c .before .loop .inv) (omega arith) (omega arith)))

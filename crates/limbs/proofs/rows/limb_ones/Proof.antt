@@ -5,11 +5,7 @@ use Rattle.limbs.proofs.LimbRows.{count-bits}
 use Rattle.limbs.proofs.rows.limb_ones.Statement.{statement}
 use Rattle.limbs.proofs.rows.limb_ones.Tie as tie
 
-cast-result : tie.Need-cast-result
-cast-result c = omega (arith, ones-le 64 (c .args .limb) (c .fits .limb .fits))
-
-returns : tie.Need-returns
-returns c = count-bits 64 (c .args .limb) (c .fits .limb .fits)
-
 pub limb-ones-spec : {M : Type 1} → statement M
-limb-ones-spec = tie.close (tie.spec cast-result returns)
+limb-ones-spec =
+    tie.close
+    (tie.spec (λ c. omega (arith, ones-le 64 (c .args .limb) (c .fits .limb .fits))) (λ c. count-bits 64 (c .args .limb) (c .fits .limb .fits)))

@@ -7,17 +7,10 @@ use borrow.Author.Needs.{needs}
 use Rattle.limbs.proofs.rows.one_from.Statement.{statement}
 use Rattle.limbs.proofs.rows.one_from.Tie as tie
 
-returns : tie.Need-returns
-returns c = from-none _ _ (c .before .pre) (c .if1 .taken)
-
-cast-result : tie.Need-cast-result
-cast-result c = let a = c .before .args in omega (arith, trailing-le 64 (a .limb / 2 ^ a .s))
-
-add-result : tie.Need-add-result
-add-result c = let a = c .before .args in omega (arith, trailing-le 64 (a .limb / 2 ^ a .s))
-
-returns-2 : tie.Need-returns-2
-returns-2 c = from-some _ _ (c .before .pre) (c .before .fits .limb .fits) (c .if1 .left)
-
 pub one-from-spec : {M : Type 1} → statement M
-one-from-spec = tie.close (tie.spec (λ c. search needs) returns cast-result add-result returns-2)
+one-from-spec =
+    tie.close
+    (tie.spec (λ c. search needs) (λ c. from-none _ _ (c .before .pre) (c .if1 .taken))
+    (λ c. let a = c .before .args in omega (arith, trailing-le 64 (a .limb / 2 ^ a .s)))
+    (λ c. let a = c .before .args in omega (arith, trailing-le 64 (a .limb / 2 ^ a .s)))
+    (λ c. from-some _ _ (c .before .pre) (c .before .fits .limb .fits) (c .if1 .left)))

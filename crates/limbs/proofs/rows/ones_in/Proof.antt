@@ -10,23 +10,11 @@ use Rattle.limbs.proofs.rows.ones_in.Tie as tie
 abbrev Inv-loop : tie.InvT-loop
 Inv-loop x total₀ w₀ total w = OnesTo x total w
 
-abbrev μ-loop : tie.MeasureT-loop
-μ-loop x total₀ w₀ total w = carriedLimbs - w
-
-loop-holds : tie.Need-loop-holds Inv-loop μ-loop
-loop-holds c = ones-none _
-
-add-total : tie.Need-add-total Inv-loop μ-loop
-add-total c = omega (arith, ones-more (c .before .before .before .loop .inv) (c .before .before .loop-test .taken) (c .limb-ones .ensures) .few)
-
-loop-again : tie.Need-loop-again Inv-loop μ-loop
-loop-again c = ones-more (c .before .before .before .loop .inv) (c .before .before .loop-test .taken) (c .limb-ones .ensures)
-
-returns : tie.Need-returns Inv-loop μ-loop
-returns c = ones-all (c .before .loop .inv) (c .loop-test .left)
-
 pub ones-in-spec : {M : Type 1} → statement M
 ones-in-spec =
     tie.close
-    (tie.spec Inv-loop μ-loop loop-holds (λ c. search needs) (λ c. search needs) (λ c κs. search needs) add-total (λ c. search needs) (λ c. search needs)
-    loop-again returns)
+    (tie.spec Inv-loop (λ x total₀ w₀ total w. carriedLimbs - w) (λ c. ones-none _) (λ c. search needs) (λ c. search needs) (λ c κs. search needs)
+    (λ c. omega (arith, ones-more (c .before .before .before .loop .inv) (c .before .before .loop-test .taken) (c .limb-ones .ensures) .few))
+    (λ c. search needs) (λ c. search needs)
+    (λ c. ones-more (c .before .before .before .loop .inv) (c .before .before .loop-test .taken) (c .limb-ones .ensures))
+    (λ c. ones-all (c .before .loop .inv) (c .loop-test .left)))

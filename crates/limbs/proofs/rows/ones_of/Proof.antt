@@ -13,22 +13,11 @@ use Rattle.limbs.proofs.rows.ones_of.Tie as tie
 abbrev Inv-loop : tie.InvT-loop
 Inv-loop bytes total₀ w₀ total w = (w * 8 < length bytes + 8) × (total ≡ sum (w * 64) (coord bytes) % 2 ^ 64)
 
-abbrev μ-loop : tie.MeasureT-loop
-μ-loop bytes total₀ w₀ total w = length bytes - w * 8
-
-loop-holds : tie.Need-loop-holds Inv-loop μ-loop
-loop-holds c = (omega arith, bytes-none _)
-
-loop-again : tie.Need-loop-again Inv-loop μ-loop
-loop-again c =
-    let l = c .before .before .before .before .loop in
-    (omega (arith, c .before .before .before .loop-test .taken), bytes-more _ (l .w) (c .before .before .slice-limb .ensures) (c .before .limb-ones .ensures) (l .inv .1) (c .wrapping-add-usize .ensures))
-
-returns : tie.Need-returns Inv-loop μ-loop
-returns c = bytes-all _ (c .before .loop .w) (c .before .loop .inv .1) (c .loop-test .left)
-
 pub ones-of-spec : {M : Type 1} → statement M
 ones-of-spec =
     tie.close
-    (tie.spec Inv-loop μ-loop loop-holds (λ c. search needs) (λ c κs. search needs) (λ c κs. search needs) (λ c κs. search needs) (λ c. search needs)
-    (λ c. search needs) loop-again returns)
+    (tie.spec Inv-loop (λ bytes total₀ w₀ total w. length bytes - w * 8) (λ c. (omega arith, bytes-none _)) (λ c. search needs) (λ c κs. search needs)
+    (λ c κs. search needs) (λ c κs. search needs) (λ c. search needs) (λ c. search needs)
+    (λ c. let l = c .before .before .before .before .loop in
+    (omega (arith, c .before .before .before .loop-test .taken), bytes-more _ (l .w) (c .before .before .slice-limb .ensures) (c .before .limb-ones .ensures) (l .inv .1) (c .wrapping-add-usize .ensures)))
+    (λ c. bytes-all _ (c .before .loop .w) (c .before .loop .inv .1) (c .loop-test .left)))

@@ -6,22 +6,11 @@ use borrow.Author.Needs.{needs}
 use Rattle.limbs.proofs.rows.row_limbs.Statement.{statement}
 use Rattle.limbs.proofs.rows.row_limbs.Tie as tie
 
-returns : tie.Need-returns
-returns c = row-none _ _ _ (c .if1 .taken)
-
-returns-2 : tie.Need-returns-2
-returns-2 c = row-wide _ _ _ (omega (arith, c .before .if1 .left)) (c .if2 .taken)
-
-mul-least : tie.Need-mul-least
-mul-least c = let a = c .before .before .before .args in omega (arith, row-place (a .width) (a .d) _ (omega (arith, c .before .if1 .left)) (omega (arith, c .if2 .left)) refl)
-
-returns-3 : tie.Need-returns-3
-returns-3 c =
-    let s = c .before .before .before in
-    row-some _ _ _ (omega (arith, s .before .before .if1 .left)) (omega (arith, s .before .if2 .left)) refl (s .least .ensures) (c .before .before .least2 .ensures) (c .slice-limbs .ensures)
-
 pub row-limbs-spec : {M : Type 1} → statement M
 row-limbs-spec =
     tie.close
-    (tie.spec returns returns-2 (λ c. search needs) mul-least (λ c κs. search needs) (λ c. search needs) (λ c κs. search needs) (λ c. search needs)
-    (λ c. search needs) (λ c. search needs) (λ c κs. search needs) returns-3)
+    (tie.spec (λ c. row-none _ _ _ (c .if1 .taken)) (λ c. row-wide _ _ _ (omega (arith, c .before .if1 .left)) (c .if2 .taken)) (λ c. search needs)
+    (λ c. let a = c .before .before .before .args in omega (arith, row-place (a .width) (a .d) _ (omega (arith, c .before .if1 .left)) (omega (arith, c .if2 .left)) refl))
+    (λ c κs. search needs) (λ c. search needs) (λ c κs. search needs) (λ c. search needs) (λ c. search needs) (λ c. search needs) (λ c κs. search needs)
+    (λ c. let s = c .before .before .before in
+    row-some _ _ _ (omega (arith, s .before .before .if1 .left)) (omega (arith, s .before .if2 .left)) refl (s .least .ensures) (c .before .before .least2 .ensures) (c .slice-limbs .ensures)))

@@ -6,9 +6,7 @@ use borrow.Author.Needs.{needs}
 use Rattle.operand.proofs.Operand.square.Statement.{statement}
 use Rattle.operand.proofs.Operand.square.Tie as tie
 
-returns : tie.Need-returns
-unfolding squared
-returns c = c .turn .ensures ∙ answer-same _ (square-fault (c .before .args .self)) (λ e. search needs)
-
 pub square-spec : {M : Type 1} → statement M
-square-spec = tie.close (tie.spec (λ c κs. search needs) returns)
+square-spec =
+    tie.close
+    (tie.spec (λ c κs. search needs) (λ c. unfold squared in c .turn .ensures ∙ answer-same _ (square-fault (c .before .args .self)) (λ e. search needs)))

@@ -1,9 +1,5 @@
 -- `operand::Operand::sum` meets its contract.
-use Prim.Native.Nat.{_+_}
-use lib.ListN.{length}
-use Rattle.gf2.specs.Coordinates.{coord, pack}
-use Rattle.gf2.specs.Operands.{carriedBytes}
-use mathlib.Core.Path.{_≡_, sym, ap, _∙_}
+use mathlib.Core.Path.{sym, ap, _∙_}
 use Rattle.operand.specs.Causes.{pairCauses}
 use Rattle.judging.specs.Faults.{isNone}
 use Rattle.judging.proofs.CauseLaws.{fine}
@@ -13,18 +9,17 @@ use borrow.Author.Needs.{needs}
 use Rattle.operand.proofs.Operand.sum.Statement.{statement}
 use Rattle.operand.proofs.Operand.sum.Tie as tie
 
-answered-requires : tie.Need-answered-requires
-answered-requires c κs = λ e. is-width _ (fine (pairCauses _ _) (ap isNone (sym (c .before .judge-pair .ensures)) ∙ e) .0) .greatest
-
 returns : tie.Need-returns
 returns c =
     let a = c .before .before .before .before .before .before .args in
-    let size : length (a .self .bytes) ≡ carriedBytes = search needs in
     c .answered .ensures ∙ answer-same _ (c .before .before .judge-pair .ensures) (λ e.
     let p = fine (pairCauses (a .self) (a .other)) e in
     let w = as-laid-down (a .other .width) (a .self .width) (p .1 .1 .0) in
-    c .before .xored .ensures ∙ ap (λ n. pack n (λ i. coord (a .self .bytes) i + coord (a .other .bytes) i)) (sym size)
-    ∙ sum-bytes _ _ _ (is-clear (a .self .width) (a .self .bytes) (p .1 .1 .1 .0)) (rw w at (is-clear (a .other .width) (a .other .bytes) (p .1 .1 .1 .1 .0))))
+    c .before .xored .ensures
+    ∙ sum-bytes _ (a .self .bytes) _ (search needs) (is-clear (a .self .width) (a .self .bytes) (p .1 .1 .1 .0)) (rw w at (is-clear (a .other .width) (a .other .bytes) (p .1 .1 .1 .1 .0))))
 
 pub sum-spec : {M : Type 1} → statement M
-sum-spec = tie.close (tie.spec (λ c. search needs) (λ c κs. search needs) (λ c κs. search needs) answered-requires returns)
+sum-spec =
+    tie.close
+    (tie.spec (λ c. search needs) (λ c κs. search needs) (λ c κs. search needs)
+    (λ c κs e. is-width _ (fine (pairCauses _ _) (ap isNone (sym (c .before .judge-pair .ensures)) ∙ e) .0) .greatest) returns)

@@ -10,11 +10,8 @@ use borrow.Author.Needs.{needs}
 use Rattle.operand.proofs.Operand.zero.Statement.{statement}
 use Rattle.operand.proofs.Operand.zero.Tie as tie
 
-answered-requires : tie.Need-answered-requires
-answered-requires c κs = λ e. is-width _ (fine (badWidth _ ∷ []) (ap isNone (sym (c .judge-width .ensures)) ∙ e) .0) .greatest
-
-returns : tie.Need-returns
-returns c = c .answered .ensures ∙ answer-same _ (c .before .judge-width .ensures) (λ e. zero-bytes _)
-
 pub zero-spec : {M : Type 1} → statement M
-zero-spec = tie.close (tie.spec (λ c κs. search needs) answered-requires returns)
+zero-spec =
+    tie.close
+    (tie.spec (λ c κs. search needs) (λ c κs e. is-width _ (fine (badWidth _ ∷ []) (ap isNone (sym (c .judge-width .ensures)) ∙ e) .0) .greatest)
+    (λ c. c .answered .ensures ∙ answer-same _ (c .before .judge-width .ensures) (λ e. zero-bytes _)))

@@ -7,13 +7,14 @@ use borrow.Author.Needs.{needs}
 use Rattle.operand.proofs.judge.judge_bits.Statement.{statement}
 use Rattle.operand.proofs.judge.judge_bits.Tie as tie
 
-returns : tie.Need-returns
-returns c = ends (highBit _ _ ∷ []) (highBit _ _ ∷ []) (c .before .before .judge-high .ensures) (c .before .is-none .ensures) (not-true _ (c .if1 .taken))
-
 returns-2 : tie.Need-returns-2
 returns-2 c =
     let s = c .before .before in
     follows (highBit _ _ ∷ []) (highBit _ _ ∷ []) (s .before .judge-high .ensures) (s .is-none .ensures) (not-false _ (c .before .if1 .left)) (c .judge-high2 .ensures)
 
 pub judge-bits-spec : {M : Type 1} → statement M
-judge-bits-spec = tie.close (tie.spec (λ c κs. search needs) (λ c κs. search needs) returns (λ c κs. search needs) returns-2)
+judge-bits-spec =
+    tie.close
+    (tie.spec (λ c κs. search needs) (λ c κs. search needs)
+    (λ c. ends (highBit _ _ ∷ []) (highBit _ _ ∷ []) (c .before .before .judge-high .ensures) (c .before .is-none .ensures) (not-true _ (c .if1 .taken)))
+    (λ c κs. search needs) returns-2)

@@ -7,9 +7,6 @@ use borrow.Author.Needs.{needs}
 use Rattle.operand.proofs.judge.judge_pair.Statement.{statement}
 use Rattle.operand.proofs.judge.judge_pair.Tie as tie
 
-returns : tie.Need-returns
-returns c = ends (badWidth _ ∷ badWidth _ ∷ badLength _ _ ∷ []) (highBit _ _ ∷ highBit _ _ ∷ []) (c .before .before .judge-widths .ensures) (c .before .is-none .ensures) (not-true _ (c .if1 .taken))
-
 returns-2 : tie.Need-returns-2
 returns-2 c =
     let s = c .before .before in
@@ -18,4 +15,6 @@ returns-2 c =
 pub judge-pair-spec : {M : Type 1} → statement M
 judge-pair-spec =
     tie.close
-    (tie.spec (λ c. search needs) (λ c. search needs) (λ c κs. search needs) (λ c κs. search needs) returns (λ c κs. search needs) returns-2)
+    (tie.spec (λ c. search needs) (λ c. search needs) (λ c κs. search needs) (λ c κs. search needs)
+    (λ c. ends (badWidth _ ∷ badWidth _ ∷ badLength _ _ ∷ []) (highBit _ _ ∷ highBit _ _ ∷ []) (c .before .before .judge-widths .ensures) (c .before .is-none .ensures) (not-true _ (c .if1 .taken)))
+    (λ c κs. search needs) returns-2)

@@ -14,24 +14,12 @@ use Rattle.operand.proofs.quadratic.folded.Tie as tie
 abbrev Inv-loop : tie.InvT-loop
 Inv-loop x total₀ w₀ total w = (w ≤ carriedLimbs) × (total ≡ foldedTo x w)
 
-abbrev μ-loop : tie.MeasureT-loop
-μ-loop x total₀ w₀ total w = carriedLimbs - w
-
-loop-holds : tie.Need-loop-holds Inv-loop μ-loop
-loop-holds c = (omega arith, folded-none _)
-
-loop-again : tie.Need-loop-again Inv-loop μ-loop
-loop-again c =
-    let x = c .before .before .args .t1 in
-    let small : Fits w64 (getD x (c .before .loop .w) 0) = search needs in
-    (omega arith, folded-more x _ _ (small .fits) (c .before .loop .inv .1))
-
-returns : tie.Need-returns Inv-loop μ-loop
-returns c =
-    let e : c .before .loop .w ≡ carriedLimbs = omega arith in
-    c .before .loop .inv .1 ∙ ap (foldedTo (c .before .before .args .t1)) e
-
 pub folded-spec : {M : Type 1} → statement M
 folded-spec =
     tie.close
-    (tie.spec Inv-loop μ-loop loop-holds (λ c. search needs) (λ c. search needs) (λ c. search needs) (λ c. search needs) loop-again returns)
+    (tie.spec Inv-loop (λ x total₀ w₀ total w. carriedLimbs - w) (λ c. (omega arith, folded-none _)) (λ c. search needs) (λ c. search needs)
+    (λ c. search needs) (λ c. search needs)
+    (λ c. let x = c .before .before .args .t1 in
+    let small : Fits w64 (getD x (c .before .loop .w) 0) = search needs in
+    (omega arith, folded-more x _ _ (small .fits) (c .before .loop .inv .1)))
+    (λ c. let e : c .before .loop .w ≡ carriedLimbs = omega arith in c .before .loop .inv .1 ∙ ap (foldedTo (c .before .before .args .t1)) e))

@@ -4,8 +4,5 @@ use borrow.Author.Needs.{needs}
 use Rattle.operand.proofs.quadratic.parity.Statement.{statement}
 use Rattle.operand.proofs.quadratic.parity.Tie as tie
 
-returns : tie.Need-returns
-returns c = limb-parity (c .args .x)
-
 pub parity-spec : {M : Type 1} → statement M
-parity-spec = tie.close (tie.spec (λ c. search needs) returns)
+parity-spec = tie.close (tie.spec (λ c. search needs) (λ c. limb-parity (c .args .x)))

@@ -4,14 +4,10 @@ use Rattle.operand.proofs.QuadraticLimbs.{window-one, window-twice, win
 use Rattle.operand.proofs.quadratic.prefix_sums.Statement.{statement}
 use Rattle.operand.proofs.quadratic.prefix_sums.Tie as tie
 
-mul-result : tie.Need-mul-result
-mul-result c = omega (arith, c .pre)
-
-returns : tie.Need-returns
-returns c =
-    let w1 = window-one (c .args .x) (c .fits .x .fits) in
-    let w8 = window-twice (window-twice (window-twice w1)) in
-    window-carry (c .args .carry) (window-twice (window-twice (window-twice w8))) (c .pre)
-
 pub prefix-sums-spec : {M : Type 1} → statement M
-prefix-sums-spec = tie.close (tie.spec mul-result returns)
+prefix-sums-spec =
+    tie.close
+    (tie.spec (λ c. omega (arith, c .pre))
+    (λ c. let w1 = window-one (c .args .x) (c .fits .x .fits) in
+    let w8 = window-twice (window-twice (window-twice w1)) in
+    window-carry (c .args .carry) (window-twice (window-twice (window-twice w8))) (c .pre)))

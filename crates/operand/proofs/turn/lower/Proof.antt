@@ -12,20 +12,11 @@ use Rattle.operand.proofs.turn.lower.Tie as tie
 abbrev Inv-loop : tie.InvT-loop
 Inv-loop k moved out₀ w₀ out w = Filled carriedLimbs (λ v. pairFrom (k % 64) (limbOf moved v) (limbOf moved (v + 1))) out₀ out w
 
-abbrev μ-loop : tie.MeasureT-loop
-μ-loop k moved out₀ w₀ out w = carriedLimbs - w
-
-loop-holds : tie.Need-loop-holds Inv-loop μ-loop
-loop-holds c = filled-none carriedLimbs _ _
-
-loop-again : tie.Need-loop-again Inv-loop μ-loop
-loop-again c = filled-more (c .before .before .before .loop .inv) (omega arith) (omega arith) (c .lower-pair .ensures ∙ rw (c .before .limb-at .ensures))
-
-returns : tie.Need-returns Inv-loop μ-loop
-returns c = let s = c .before .before .before in filled-all (c .before .loop .inv) (omega arith) (omega arith) ∙ lower-bits carriedLimbs (s .args .k) (s .args .x) (omega arith) (c .before .before .lower-limbs .ensures)
-
 pub lower-spec : {M : Type 1} → statement M
 lower-spec =
     tie.close
-    (tie.spec Inv-loop μ-loop (λ c κs. search needs) loop-holds (λ c. search needs) (λ c. search needs) (λ c. search needs) (λ c κs. search needs)
-    (λ c κs. search needs) (λ c. search needs) (λ c. search needs) (λ c. search needs) (λ c. search needs) loop-again returns)
+    (tie.spec Inv-loop (λ k moved out₀ w₀ out w. carriedLimbs - w) (λ c κs. search needs) (λ c. filled-none carriedLimbs _ _) (λ c. search needs)
+    (λ c. search needs) (λ c. search needs) (λ c κs. search needs) (λ c κs. search needs) (λ c. search needs) (λ c. search needs) (λ c. search needs)
+    (λ c. search needs)
+    (λ c. filled-more (c .before .before .before .loop .inv) (omega arith) (omega arith) (c .lower-pair .ensures ∙ rw (c .before .limb-at .ensures)))
+    (λ c. let s = c .before .before .before in filled-all (c .before .loop .inv) (omega arith) (omega arith) ∙ lower-bits carriedLimbs (s .args .k) (s .args .x) (omega arith) (c .before .before .lower-limbs .ensures)))

@@ -13,20 +13,10 @@ use Rattle.operand.proofs.turn.lower_if.Tie as tie
 abbrev Inv-loop : tie.InvT-loop
 Inv-loop c n x out₀ w₀ out w = Filled carriedLimbs (λ v. choose c (lowered n (limbOf x) v) (limbOf x v)) out₀ out w
 
-abbrev μ-loop : tie.MeasureT-loop
-μ-loop c n x out₀ w₀ out w = carriedLimbs - w
-
-loop-holds : tie.Need-loop-holds Inv-loop μ-loop
-loop-holds c = filled-none carriedLimbs _ _
-
-loop-again : tie.Need-loop-again Inv-loop μ-loop
-loop-again c = filled-more (c .before .before .before .loop .inv) (omega arith) (omega arith) (c .pick .ensures ∙ rw (c .before .limb-at .ensures))
-
-returns : tie.Need-returns Inv-loop μ-loop
-returns c = filled-all (c .before .loop .inv) (omega arith) (omega arith)
-
 pub lower-if-spec : {M : Type 1} → statement M
 lower-if-spec =
     tie.close
-    (tie.spec Inv-loop μ-loop loop-holds (λ c. search needs) (λ c. search needs) (λ c. search needs) (λ c κs. search needs) (λ c κs. search needs)
-    (λ c. search needs) (λ c. search needs) (λ c. search needs) (λ c. search needs) loop-again returns)
+    (tie.spec Inv-loop (λ c n x out₀ w₀ out w. carriedLimbs - w) (λ c. filled-none carriedLimbs _ _) (λ c. search needs) (λ c. search needs)
+    (λ c. search needs) (λ c κs. search needs) (λ c κs. search needs) (λ c. search needs) (λ c. search needs) (λ c. search needs) (λ c. search needs)
+    (λ c. filled-more (c .before .before .before .loop .inv) (omega arith) (omega arith) (c .pick .ensures ∙ rw (c .before .limb-at .ensures)))
+    (λ c. filled-all (c .before .loop .inv) (omega arith) (omega arith)))

@@ -10,19 +10,11 @@ use Rattle.operand.proofs.turn.lower_limbs.Tie as tie
 abbrev Inv-loop : tie.InvT-loop
 Inv-loop n out₀ step₀ out step = Moved carriedLimbs lowered out₀ n out step
 
-abbrev μ-loop : tie.MeasureT-loop
-μ-loop n out₀ step₀ out step = carriedLimbs - step
-
-loop-holds : tie.Need-loop-holds Inv-loop μ-loop
-loop-holds c = moved-none (moves-down carriedLimbs (c .args .x) (omega arith)) (c .args .n) (omega arith)
-
-loop-again : tie.Need-loop-again Inv-loop μ-loop
-loop-again c = let s = c .before .before .before in moved-more (moves-down carriedLimbs (s .args .x) (omega arith)) (s .args .n) (c .before .before .loop .inv) (c .lower-if .ensures)
-
-returns : tie.Need-returns Inv-loop μ-loop
-returns c = let s = c .before .before in moved-all (moves-down carriedLimbs (s .args .x) (omega arith)) (s .args .n) (c .before .loop .inv) (omega arith) (omega arith)
-
 pub lower-limbs-spec : {M : Type 1} → statement M
 lower-limbs-spec =
     tie.close
-    (tie.spec Inv-loop μ-loop loop-holds (λ c. search needs) (λ c κs. search needs) (λ c. search needs) (λ c. search needs) loop-again returns)
+    (tie.spec Inv-loop (λ n out₀ step₀ out step. carriedLimbs - step)
+    (λ c. moved-none (moves-down carriedLimbs (c .args .x) (omega arith)) (c .args .n) (omega arith)) (λ c. search needs) (λ c κs. search needs)
+    (λ c. search needs) (λ c. search needs)
+    (λ c. let s = c .before .before .before in moved-more (moves-down carriedLimbs (s .args .x) (omega arith)) (s .args .n) (c .before .before .loop .inv) (c .lower-if .ensures))
+    (λ c. let s = c .before .before in moved-all (moves-down carriedLimbs (s .args .x) (omega arith)) (s .args .n) (c .before .loop .inv) (omega arith) (omega arith)))

@@ -1,8 +1,7 @@
 -- `scatter::places::add_limb` meets its contract.
-use mathlib.Core.Path.{_≡_, refl, _∙_}
+use mathlib.Core.Path.{_∙_}
 use Prim.Native.Nat.{_+_, _*_, _^_, _<_}
 use native.Mathlib.Omega.{arith}
-use lib.ListN.{length}
 use lib.Count.{trailing-le}
 use Rattle.gf2.proofs.TrailingZeros.{lowest-next, lowest-less}
 use Rattle.limbs.specs.Limbs.{limbCoord}
@@ -13,51 +12,19 @@ use Rattle.scatter.proofs.places.add_limb.Statement.{statement}
 use Rattle.scatter.proofs.places.add_limb.Tie as tie
 
 abbrev Inv-loop : tie.InvT-loop
-Inv-loop g₀ e limb from rest₀ g rest = (rest < 2 ^ 64) × Added (λ s i. (bitFrom limb from s + bitFrom rest from s) * limbCoord e i) g₀ g × (length g ≡ length g₀)
-
-abbrev μ-loop : tie.MeasureT-loop
-μ-loop g₀ e limb from rest₀ g rest = rest
-
-loop-holds : tie.Need-loop-holds Inv-loop μ-loop
-loop-holds c = (c .before .fits .limb .fits, ones-none _ _ _ _, refl)
-
-cast-zeros : tie.Need-cast-zeros Inv-loop μ-loop
-cast-zeros c = omega (arith, trailing-le 64 (c .before .loop .rest))
-
-add-add-at : tie.Need-add-add-at Inv-loop μ-loop
-add-add-at c =
-    let l = c .before .before .loop in
-    omega (arith, lowest-next 64 (l .rest) (l .inv .0) (c .before .loop-test .taken))
-
-add-at-requires : tie.Need-add-at-requires Inv-loop μ-loop
-add-at-requires c κs =
-    let l = c .before .before .loop in
-    let s = c .before .before .before .before in
-    (l .inv .2 ∙ s .pre .0, omega (arith, lowest-next 64 (l .rest) (l .inv .0) (c .before .loop-test .taken)))
-
-loop-less : tie.Need-loop-less Inv-loop μ-loop
-loop-less c =
-    let l = c .before .before .before .before .before .loop in
-    lowest-less 64 (l .rest) (l .inv .0) (c .before .before .before .before .loop-test .taken)
-
-loop-again : tie.Need-loop-again Inv-loop μ-loop
-loop-again c =
-    let i = c .before .before .before .before in
-    let l = i .before .loop in
-    let s = i .before .before .before in
-    let some = i .loop-test .taken in (
-      omega (arith, l .inv .0, lowest-less 64 (l .rest) (l .inv .0) some),
-      ones-added (s .args .limb) (s .args .from) (l .rest) (l .inv .0) some (s .args .e) (l .inv .1) (c .before .before .add-at .ensures),
-      c .before .before .add-at .ensures .size ∙ l .inv .2,
-    )
-
-same-length : tie.Need-same-length Inv-loop μ-loop
-same-length c = c .before .loop .inv .2
-
-returns : tie.Need-returns Inv-loop μ-loop
-returns c = ones-all _ _ _ (c .loop-test .left) (c .before .loop .inv .1)
+Inv-loop g₀ e limb from rest₀ g rest = (rest < 2 ^ 64) × Added (λ s i. (bitFrom limb from s + bitFrom rest from s) * limbCoord e i) g₀ g
 
 pub add-limb-spec : {M : Type 1} → statement M
 add-limb-spec =
     tie.close
-    (tie.spec Inv-loop μ-loop loop-holds cast-zeros add-add-at add-at-requires (λ c. search needs) loop-less loop-again same-length returns)
+    (tie.spec Inv-loop (λ g₀ e limb from rest₀ g rest. rest) (λ c. (c .before .fits .limb .fits, ones-none _ _ _ _))
+    (λ c. omega (arith, trailing-le 64 (c .before .loop .rest)))
+    (λ c. let l = c .before .before .loop in omega (arith, lowest-next 64 (l .rest) (l .inv .0) (c .before .loop-test .taken)))
+    (λ c κs. let l = c .before .before .loop in
+    (l .inv .1 .size ∙ c .before .before .before .before .pre .0, omega (arith, lowest-next 64 (l .rest) (l .inv .0) (c .before .loop-test .taken))))
+    (λ c. search needs)
+    (λ c. let l = c .before .before .before .before .before .loop in lowest-less 64 (l .rest) (l .inv .0) (c .before .before .before .before .loop-test .taken))
+    (λ c. let i = c .before .before .before .before in
+    let l = i .before .loop in
+    (omega (arith, l .inv .0, lowest-less 64 (l .rest) (l .inv .0) (i .loop-test .taken)), ones-added _ _ _ (l .inv .0) (i .loop-test .taken) _ (l .inv .1) (c .before .before .add-at .ensures)))
+    (λ c. c .before .loop .inv .1 .size) (λ c. ones-all _ _ _ (c .loop-test .left) (c .before .loop .inv .1)))

@@ -1,11 +1,9 @@
 -- `scatter::places::add_row` meets its contract.
-use mathlib.Core.Path.{_≡_, refl, _∙_}
-use Prim.Native.Nat.{ℕ, _-_, _≤_}
+use mathlib.Core.Path.{_∙_}
+use Prim.Native.Nat.{_-_, _≤_}
 use native.Mathlib.Omega.{arith}
-use lib.ListN.{length, getD}
-use mir.Val.{Fits}
-use mir.Syntax.{w64}
 use Rattle.limbs.specs.Limbs.{carriedLimbs}
+use Rattle.limbs.proofs.LimbLoops.{limbs-fit}
 use Rattle.scatter.specs.Cells.{Added}
 use Rattle.scatter.proofs.OnesLaws.{limbsTo, row-none, row-more, row-all, row-missing}
 use borrow.Author.Needs.{needs}
@@ -13,39 +11,16 @@ use Rattle.scatter.proofs.places.add_row.Statement.{statement}
 use Rattle.scatter.proofs.places.add_row.Tie as tie
 
 abbrev Inv-loop : tie.InvT-loop
-Inv-loop g₀ e row w₀ g w = (w ≤ carriedLimbs) × Added (limbsTo row e w) g₀ g × (length g ≡ length g₀)
-
-abbrev μ-loop : tie.MeasureT-loop
-μ-loop g₀ e row w₀ g w = carriedLimbs - w
-
-returns : tie.Need-returns Inv-loop μ-loop
-returns c = row-missing _ _ _ (c .if1 .taken)
-
-loop-holds : tie.Need-loop-holds Inv-loop μ-loop
-loop-holds c = (omega arith, row-none _ _ _, refl)
-
-add-limb-requires : tie.Need-add-limb-requires Inv-loop μ-loop
-add-limb-requires c κs = (c .before .before .loop .inv .2 ∙ c .before .before .before .if1 .left, omega arith)
-
-loop-again : tie.Need-loop-again Inv-loop μ-loop
-loop-again c =
-    let i = c .before .before .before .before .before in
-    let l = i .loop in
-    let s = i .before .before .before in
-    let small : (k : ℕ) → Fits w64 (getD (s .args .t3) k 0) = λ k. search needs in
-    (omega arith, row-more (s .args .t3) (s .args .e) (λ k. small k .fits) (l .w) (l .inv .1) (c .before .before .add-limb .ensures), c .before .before .add-limb .ensures .size ∙ l .inv .2)
-
-same-length : tie.Need-same-length Inv-loop μ-loop
-same-length c = c .before .loop .inv .2
-
-returns-2 : tie.Need-returns-2 Inv-loop μ-loop
-returns-2 c =
-    let s = c .before .before .before .before in
-    let size : length (s .args .t3) ≡ carriedLimbs = search needs in
-    row-all (s .args .t3) (s .args .e) size (c .before .loop .w) (omega arith) (c .before .before .if1 .left) (c .before .loop .inv .1)
+Inv-loop g₀ e row w₀ g w = (w ≤ carriedLimbs) × Added (limbsTo row e w) g₀ g
 
 pub add-row-spec : {M : Type 1} → statement M
 add-row-spec =
     tie.close
-    (tie.spec Inv-loop μ-loop returns loop-holds (λ c. search needs) (λ c. search needs) (λ c. search needs) add-limb-requires (λ c. search needs)
-    (λ c. search needs) loop-again same-length returns-2)
+    (tie.spec Inv-loop (λ g₀ e row w₀ g w. carriedLimbs - w) (λ c. row-missing _ _ _ (c .if1 .taken)) (λ c. (omega arith, row-none _ _ _))
+    (λ c. search needs) (λ c. search needs) (λ c. search needs)
+    (λ c κs. (c .before .before .loop .inv .1 .size ∙ c .before .before .before .if1 .left, omega arith)) (λ c. search needs) (λ c. search needs)
+    (λ c. let i = c .before .before .before .before .before in
+    (omega arith, row-more _ _ (limbs-fit (i .before .before .before .args .t3) (λ k. search needs)) _ (i .loop .inv .1) (c .before .before .add-limb .ensures)))
+    (λ c. c .before .loop .inv .1 .size)
+    (λ c. let s = c .before .before .before .before in
+    row-all (s .args .t3) (s .args .e) (search needs) (c .before .loop .w) (omega arith) (c .before .before .if1 .left) (c .before .loop .inv .1)))

@@ -1,13 +1,12 @@
 -- `scatter::places::doubled` meets its contract.
 use mathlib.Core.Path.{_≡_, ap, _∙_}
-use Prim.Native.Nat.{ℕ, _-_, _*_, _/_, _%_, _^_}
+use Prim.Native.Nat.{_-_, _*_, _/_, _%_, _^_}
 use native.Mathlib.Omega.{arith}
 use lib.ListN.{getD}
 use lib.Bits.{bitOr}
-use mir.Val.{Fits}
-use mir.Syntax.{w64}
 use Rattle.gf2.proofs.Loops.{Filled, filled-none, filled-more, filled-all}
 use Rattle.limbs.specs.Limbs.{raised}
+use Rattle.limbs.proofs.LimbLoops.{limbs-fit}
 use Rattle.scatter.specs.Cells.{twiceLimbs}
 use Rattle.scatter.proofs.MoveLaws.{doubledLimb, before-first, before-next, doubled-limbs}
 use borrow.Author.Needs.{needs}
@@ -17,26 +16,12 @@ use Rattle.scatter.proofs.places.doubled.Tie as tie
 abbrev Inv-loop : tie.InvT-loop
 Inv-loop x out₀ previous₀ w₀ out previous w = (previous ≡ raised 1 (λ n. getD x n 0) w) × Filled twiceLimbs (doubledLimb x) out₀ out w
 
-abbrev μ-loop : tie.MeasureT-loop
-μ-loop x out₀ previous₀ w₀ out previous w = twiceLimbs - w
-
-loop-holds : tie.Need-loop-holds Inv-loop μ-loop
-loop-holds c = (before-first (c .args .t1), filled-none twiceLimbs _ _)
-
-loop-again : tie.Need-loop-again Inv-loop μ-loop
-loop-again c =
-    let l = c .before .loop in
-    let x = c .before .before .args .t1 in
-    (before-next x (l .w), filled-more (l .inv .1) (omega arith) (omega arith) (ap (λ y. bitOr (getD x (l .w) 0 * 2 % 2 ^ 64) (y / 2 ^ 63)) (l .inv .0)))
-
-returns : tie.Need-returns Inv-loop μ-loop
-returns c =
-    let x = c .before .before .args .t1 in
-    let small : (k : ℕ) → Fits w64 (getD x k 0) = λ k. search needs in
-    filled-all (c .before .loop .inv .1) (omega arith) (omega arith) ∙ doubled-limbs twiceLimbs x (λ k. small k .fits)
-
 pub doubled-spec : {M : Type 1} → statement M
 doubled-spec =
     tie.close
-    (tie.spec Inv-loop μ-loop loop-holds (λ c. search needs) (λ c. search needs) (λ c. search needs) (λ c. search needs) (λ c. search needs)
-    (λ c. search needs) loop-again returns)
+    (tie.spec Inv-loop (λ x out₀ previous₀ w₀ out previous w. twiceLimbs - w) (λ c. (before-first (c .args .t1), filled-none twiceLimbs _ _))
+    (λ c. search needs) (λ c. search needs) (λ c. search needs) (λ c. search needs) (λ c. search needs) (λ c. search needs)
+    (λ c. let l = c .before .loop in
+    let x = c .before .before .args .t1 in
+    (before-next x (l .w), filled-more (l .inv .1) (omega arith) (omega arith) (ap (λ y. bitOr (getD x (l .w) 0 * 2 % 2 ^ 64) (y / 2 ^ 63)) (l .inv .0))))
+    (λ c. filled-all (c .before .loop .inv .1) (omega arith) (omega arith) ∙ doubled-limbs twiceLimbs _ (limbs-fit (c .before .before .args .t1) (λ k. search needs))))

@@ -12,24 +12,11 @@ use Rattle.scatter.proofs.places.spread.Tie as tie
 abbrev Inv-loop : tie.InvT-loop
 Inv-loop g acc₀ r₀ acc r = (r ≤ 64) × (acc ≡ packLimbs twiceLimbs (columns g r))
 
-abbrev μ-loop : tie.MeasureT-loop
-μ-loop g acc₀ r₀ acc r = r
-
-returns : tie.Need-returns Inv-loop μ-loop
-returns c = spread-missing (c .before .before .args .g .now) twiceLimbs (c .if1 .taken)
-
-loop-holds : tie.Need-loop-holds Inv-loop μ-loop
-loop-holds c = (omega arith, spread-none _ twiceLimbs)
-
-loop-again : tie.Need-loop-again Inv-loop μ-loop
-loop-again c =
-    let l = c .before .before .before .loop in
-    (omega arith, spread-more _ twiceLimbs (l .r - 1) (omega (arith, c .before .before .loop-test .taken)) (omega arith) (l .inv .1) (c .before .doubled .ensures) (c .plus-column .ensures))
-
-returns-2 : tie.Need-returns-2 Inv-loop μ-loop
-returns-2 c = spread-all _ twiceLimbs (c .before .before .if1 .left) (omega arith) (c .before .loop .inv .1)
-
 pub spread-spec : {M : Type 1} → statement M
 spread-spec =
     tie.close
-    (tie.spec Inv-loop μ-loop returns loop-holds (λ c. search needs) (λ c κs. search needs) (λ c κs. search needs) (λ c. search needs) loop-again returns-2)
+    (tie.spec Inv-loop (λ g acc₀ r₀ acc r. r) (λ c. spread-missing (c .before .before .args .g .now) twiceLimbs (c .if1 .taken))
+    (λ c. (omega arith, spread-none _ twiceLimbs)) (λ c. search needs) (λ c κs. search needs) (λ c κs. search needs) (λ c. search needs)
+    (λ c. let l = c .before .before .before .loop in
+    (omega arith, spread-more _ twiceLimbs (l .r - 1) (omega (arith, c .before .before .loop-test .taken)) (omega arith) (l .inv .1) (c .before .doubled .ensures) (c .plus-column .ensures)))
+    (λ c. spread-all _ twiceLimbs (c .before .before .if1 .left) (omega arith) (c .before .loop .inv .1)))

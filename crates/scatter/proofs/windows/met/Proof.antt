@@ -6,12 +6,6 @@ use borrow.Author.Needs.{needs}
 use Rattle.scatter.proofs.windows.met.Statement.{statement}
 use Rattle.scatter.proofs.windows.met.Tie as tie
 
-returns : tie.Need-returns
-returns c =
-    let a = c .before .before .before .before .before .args in
-    masked-window carriedLimbs (a .d) (a .x) (a .yy .now) (c .before .before .window .ensures) (c .before .masked .ensures)
-    ∙ met-once carriedLimbs (a .once) _ _ (c .if1 .taken)
-
 returns-2 : tie.Need-returns-2
 returns-2 c =
     let s = c .before .before .before .before in
@@ -23,4 +17,8 @@ returns-2 c =
 pub met-spec : {M : Type 1} → statement M
 met-spec =
     tie.close
-    (tie.spec (λ c κs. search needs) (λ c κs. search needs) returns (λ c κs. search needs) (λ c κs. search needs) (λ c κs. search needs) returns-2)
+    (tie.spec (λ c κs. search needs) (λ c κs. search needs)
+    (λ c. let a = c .before .before .before .before .before .args in
+    masked-window carriedLimbs (a .d) (a .x) (a .yy .now) (c .before .before .window .ensures) (c .before .masked .ensures)
+    ∙ met-once carriedLimbs (a .once) _ _ (c .if1 .taken))
+    (λ c κs. search needs) (λ c κs. search needs) (λ c κs. search needs) returns-2)

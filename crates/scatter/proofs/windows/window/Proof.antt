@@ -1,61 +1,25 @@
 -- `scatter::windows::window` meets its contract.
-use mathlib.Core.Path.{ap, _∙_}
-use mathlib.Core.List.{[], _∷_}
-use Prim.Native.Nat.{_+_, _-_, _/_, _%_}
-use native.Mathlib.Nat.{div-add-mod'}
+use mathlib.Core.Path.{_∙_}
+use Prim.Native.Nat.{_+_, _-_, _%_}
 use native.Mathlib.Omega.{arith}
-use lib.ListN.{getD}
-use Rattle.gf2.specs.Coordinates.{value}
 use Rattle.gf2.proofs.Loops.{Filled, filled-none, filled-more, filled-all}
-use Rattle.limbs.specs.Limbs.{carriedLimbs, limbCoord, packLimbs}
-use Rattle.limbs.proofs.LimbLoops.{window-limbs}
+use Rattle.limbs.specs.Limbs.{carriedLimbs}
+use Rattle.limbs.proofs.TurnLimbs.{limbOf, pairFrom}
 use Rattle.scatter.proofs.CellLaws.{seen-all, seen-none}
 use borrow.Author.Needs.{needs}
 use Rattle.scatter.proofs.windows.window.Statement.{statement}
 use Rattle.scatter.proofs.windows.window.Tie as tie
 
 abbrev Inv-loop : tie.InvT-loop
-Inv-loop x at first out₀ w₀ out w = Filled carriedLimbs (λ k. value 64 (λ j. limbCoord (getD x (first + k) 0 ∷ getD x (first + k + 1) 0 ∷ []) (at % 64 + j))) out₀ out w
-
-abbrev μ-loop : tie.MeasureT-loop
-μ-loop x at first out₀ w₀ out w = carriedLimbs - w
-
-returns : tie.Need-returns Inv-loop μ-loop
-returns c =
-    let a = c .before .before .args in
-    seen-none carriedLimbs (a .at) (a .x .now) (c .if1 .taken)
-
-loop-holds : tie.Need-loop-holds Inv-loop μ-loop
-loop-holds c = filled-none carriedLimbs _ _
-
-add-low : tie.Need-add-low Inv-loop μ-loop
-add-low c = omega arith
-
-shared-slice-read-low : tie.Need-shared-slice-read-low Inv-loop μ-loop
-shared-slice-read-low c = omega arith
-
-add-high : tie.Need-add-high Inv-loop μ-loop
-add-high c = omega arith
-
-add-high-2 : tie.Need-add-high-2 Inv-loop μ-loop
-add-high-2 c = omega arith
-
-shared-slice-read-high : tie.Need-shared-slice-read-high Inv-loop μ-loop
-shared-slice-read-high c = omega arith
-
-loop-again : tie.Need-loop-again Inv-loop μ-loop
-loop-again c = filled-more (c .before .before .before .before .loop .inv) (omega arith) (omega arith) (c .lower-pair .ensures)
-
-returns-2 : tie.Need-returns-2 Inv-loop μ-loop
-returns-2 c =
-    let a = c .before .before .before .before .args in
-    filled-all (c .before .loop .inv) (omega arith) (omega arith)
-    ∙ window-limbs carriedLimbs (a .at / 64) (a .at % 64) (a .x .now) (omega arith)
-    ∙ ap (λ s. packLimbs carriedLimbs (λ i. limbCoord (a .x .now) (s + i))) (div-add-mod' (a .at) 64)
-    ∙ seen-all carriedLimbs (a .at) (a .x .now) (omega (arith, c .before .before .if1 .left))
+Inv-loop x at first out₀ w₀ out w = Filled carriedLimbs (λ k. pairFrom (at % 64) (limbOf x (first + k)) (limbOf x (first + k + 1))) out₀ out w
 
 pub window-spec : {M : Type 1} → statement M
 window-spec =
     tie.close
-    (tie.spec Inv-loop μ-loop (λ c. search needs) returns loop-holds add-low (λ c. search needs) shared-slice-read-low add-high add-high-2 (λ c. search needs)
-    shared-slice-read-high (λ c κs. search needs) (λ c. search needs) (λ c. search needs) (λ c. search needs) (λ c. search needs) loop-again returns-2)
+    (tie.spec Inv-loop (λ x at first out₀ w₀ out w. carriedLimbs - w) (λ c. search needs)
+    (λ c. let a = c .before .before .args in seen-none carriedLimbs (a .at) (a .x .now) (c .if1 .taken)) (λ c. filled-none carriedLimbs _ _)
+    (λ c. omega arith) (λ c. search needs) (λ c. omega arith) (λ c. omega arith) (λ c. omega arith) (λ c. search needs) (λ c. omega arith)
+    (λ c κs. search needs) (λ c. search needs) (λ c. search needs) (λ c. search needs) (λ c. search needs)
+    (λ c. filled-more (c .before .before .before .before .loop .inv) (omega arith) (omega arith) (c .lower-pair .ensures))
+    (λ c. let s = c .before .before in
+    filled-all (c .before .loop .inv) (omega arith) (omega arith) ∙ seen-all carriedLimbs (s .before .before .args .at) (s .before .before .args .x .now) (omega (arith, s .if1 .left))))
