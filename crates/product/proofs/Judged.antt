@@ -186,10 +186,21 @@ module _ {m : ℕ} {a b old : List ℕ} (z : SizedPair m a b old) (t : List ℕ)
       ∙ written-carried (has-bytes (z .width .greatest) is) is (z .room)
 
 -- an inverse, and its count
-module _ {m : ℕ} {a old : List ℕ} (z : Sized m a old) (small : Bytes a) (t : List ℕ) {r : InverseAnswer} (e : r ≡ inverseAnswer m t (carriedBy a)) where
+pub record InverseOf (m : ℕ) (t a old : List ℕ) (r : InverseAnswer) : Type 0 where
+  pub sizes : Sized m a old
+  pub byte : Bytes a
+  pub made : r ≡ inverseAnswer m t (carriedBy a)
+
+module _ {m : ℕ} {t a old : List ℕ} {r : InverseAnswer} (i : InverseOf m t a old r) where
+  abbrev z : Sized m a old
+  z = i .sizes
+
+  abbrev e : r ≡ inverseAnswer m t (carriedBy a)
+  e = i .made
+
   pub inverse-fault : r .fault ≡ faultOf (unitBytes m t a)
   unfolding answer
-  inverse-fault = ap (λ (r : InverseAnswer). r .fault) e ∙ unit-same (passed (z .width)) t small (z .operand)
+  inverse-fault = ap (λ (r : InverseAnswer). r .fault) e ∙ unit-same (passed (z .width)) t (i .byte) (z .operand)
 
   pub inverse-written : {new : List ℕ} → isNone (r .fault) ≡ true → new ≡ pack (length old) (coord (r .value .bytes)) → new ≡ inverse m t a
   unfolding answer
