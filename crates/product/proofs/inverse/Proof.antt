@@ -18,9 +18,6 @@ widths c = record { given = c .before .judge-widths .ensures; tested = c .is-non
 returns : tie.Need-returns
 returns c = let p = widths (c .before .before) in inverse-refused _ _ _ _ (stopped p (c .before .if1 .taken)) (stopped-some p (c .before .if1 .taken)) (c .refused .ensures)
 
-inverse-requires : tie.Need-inverse-requires
-inverse-requires c κs = first-passed _ _ (passed (widths (c .before)) (c .if1 .left))
-
 returns-2 : tie.Need-returns-2
 returns-2 c =
     let i = c .before .before in
@@ -28,4 +25,5 @@ returns-2 c =
     further (widths i) (c .before .if1 .left) (λ f. counted (answer f (a .width) (inverse (a .width) (a .table .now) (a .a .bytes))) (productsMade (a .width) (a .table .now) (a .a .bytes))) (c .inverse .ensures)
 
 pub inverse-spec : {M : Type 1} → statement M
-inverse-spec = tie.close (tie.spec (λ c. search needs) (λ c κs. search needs) (λ c κs. search needs) (λ c κs. search needs) returns inverse-requires returns-2)
+inverse-spec = tie.close (tie.spec (λ c. search needs) (λ c κs. search needs) (λ c κs. search needs) (λ c κs. search needs) returns
+    (λ c κs. first-passed _ _ (passed (widths (c .before)) (c .if1 .left))) returns-2)

@@ -16,9 +16,6 @@ widths c = record { given = c .before .judge-pair-widths .ensures; tested = c .i
 returns : tie.Need-returns
 returns c = let p = widths (c .before .before) in refusal _ _ _ (stopped p (c .before .if1 .taken)) (stopped-some p (c .before .if1 .taken)) (c .refused .ensures)
 
-product-requires : tie.Need-product-requires
-product-requires c κs = first-passed _ _ (passed (widths (c .before)) (c .if1 .left))
-
 returns-2 : tie.Need-returns-2
 returns-2 c =
     let i = c .before .before in
@@ -27,4 +24,4 @@ returns-2 c =
 
 pub multiply-spec : {M : Type 1} → statement M
 multiply-spec = tie.close (tie.spec (λ c. search needs) (λ c. search needs) (λ c κs. search needs) (λ c κs. search needs) (λ c κs. search needs) returns
-    product-requires returns-2)
+    (λ c κs. first-passed _ _ (passed (widths (c .before)) (c .if1 .left))) returns-2)

@@ -31,4 +31,5 @@ returns-2 : tie.Need-returns-2
 returns-2 c = inverse-answered _ (passed (unit (c .before .before)) (c .before .if1 .left)) (c .inverted .ensures)
 
 pub inverse-spec : {M : Type 1} → statement M
-inverse-spec = tie.close (tie.spec (λ c κs. search needs) (λ c κs. search needs) (λ c κs. search needs) returns (λ c. search needs) inverted-requires returns-2)
+inverse-spec = tie.close (tie.spec (λ c κs. search needs) (λ c κs. search needs) (λ c κs. search needs) returns (λ c. search needs) inverted-requires
+    returns-2)

@@ -23,9 +23,6 @@ returns c = let p = lengths (c .before) in (count-refused _ _ _ _ (stopped p (c 
 sizes : (c : tie.Else1) → let a = c .before .before .before .before .before .before .args in Sized (a .width) (a .a .now) (a .result .now)
 sizes c = sized _ _ _ (passed (lengths (c .before)) (c .if1 .left))
 
-inverse-requires : tie.Need-inverse-requires
-inverse-requires c κs = let w = sizes (c .before) .width in (w .least, w .greatest)
-
 -- the answer for the carried bytes as one for the W bytes, and the fault of all causes
 answer : (c : tie.After-inverse) → let a = c .before .before .before .before .before .before .before .before .args in InverseOf (a .width) (a .table .now) (a .a .now) (a .result .now) (c .inverse .result)
 answer c =
@@ -50,5 +47,6 @@ returns-3 : tie.Need-returns-3
 returns-3 c = let p = whole (c .before) in (inverse-counted (answer (c .before .before)) (p .given), kept _ _ _ (known p (c .if2 .left)))
 
 pub inverse-into-spec : {M : Type 1} → statement M
-inverse-into-spec = tie.close (tie.spec (λ c κs. search needs) (λ c κs. search needs) returns (λ c κs. search needs) inverse-requires (λ c κs. search needs)
-    (λ c κs. search needs) (λ c. search needs) returns-2 returns-3)
+inverse-into-spec = tie.close (tie.spec (λ c κs. search needs) (λ c κs. search needs) returns (λ c κs. search needs)
+    (λ c κs. let w = sizes (c .before) .width in (w .least, w .greatest)) (λ c κs. search needs) (λ c κs. search needs) (λ c. search needs) returns-2
+    returns-3)

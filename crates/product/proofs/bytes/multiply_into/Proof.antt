@@ -22,9 +22,6 @@ returns c = let p = lengths (c .before) in (stopped p (c .if1 .taken), kept _ _ 
 sizes : (c : tie.Else1) → let a = c .before .before .before .before .before .before .before .args in SizedPair (a .width) (a .a .now) (a .b .now) (a .result .now)
 sizes c = sized-pair _ _ _ _ (passed (lengths (c .before)) (c .if1 .left))
 
-product-requires : tie.Need-product-requires
-product-requires c κs = let w = sizes (c .before .before) .width in (w .least, w .greatest)
-
 -- the answer for the carried bytes, and the fault of all causes
 answer : (c : tie.After-product) → let a = c .before .before .before .before .before .before .before .before .before .before .args in
     c .product .result ≡ productAnswer (a .method) (a .width) (a .table .now) (carriedBy (a .a .now)) (carriedBy (a .b .now))
@@ -46,13 +43,16 @@ returns-2 c =
     let i = u .before .before .before .before in
     let n = i .before in
     let t = n .before .before .before .before in
-    let a = t .before .before .before .before .before .before .before .args in
-    (whole n .given, filled _ (multiplied (a .method) (a .width) (a .table .now) (a .a .now) (a .b .now)) _ (known (whole n) (i .if2 .taken))
-    (product-written (sizes t) (a .table .now) (a .method) (answer (n .before)) (sym (n .is-none2 .ensures) ∙ i .if2 .taken) (u .copy-out .ensures)))
+    let a = t .before .before .before .before .before .before .before .args in (
+      whole n .given,
+      filled _ (multiplied (a .method) (a .width) (a .table .now) (a .a .now) (a .b .now)) _ (known (whole n) (i .if2 .taken))
+          (product-written (sizes t) (a .table .now) (a .method) (answer (n .before)) (sym (n .is-none2 .ensures) ∙ i .if2 .taken) (u .copy-out .ensures)),
+    )
 
 returns-3 : tie.Need-returns-3
 returns-3 c = let p = whole (c .before) in (p .given, kept _ _ _ (known p (c .if2 .left)))
 
 pub multiply-into-spec : {M : Type 1} → statement M
-multiply-into-spec = tie.close (tie.spec (λ c κs. search needs) (λ c κs. search needs) returns (λ c κs. search needs) (λ c κs. search needs) product-requires
-    (λ c κs. search needs) (λ c κs. search needs) (λ c. search needs) returns-2 returns-3)
+multiply-into-spec = tie.close (tie.spec (λ c κs. search needs) (λ c κs. search needs) returns (λ c κs. search needs) (λ c κs. search needs)
+    (λ c κs. let w = sizes (c .before .before) .width in (w .least, w .greatest)) (λ c κs. search needs) (λ c κs. search needs) (λ c. search needs) returns-2
+    returns-3)
