@@ -158,30 +158,23 @@ module _ {rows : Rows} {m : ℕ} {table : List ℕ} {d : ℕ} {old : List ℕ} (
   pub row-end : {s : ℕ} {columns : List ℕ} → m ≤ s → RowTo m table d s old columns → RowTo m table d m old columns
   row-end h c = record { size = c .size; others = c .others; here = λ u lu l. c .here u lu (omega arith); rest = λ u lu l. absurd (omega arith) }
 
-  pub row-done : {columns : List ℕ} → keeps rows m table d ≡ true → RowTo m table d m old columns → Columns rows m table (d + 1) columns
-  row-done {columns} k c = record {
-    room = record { least = z .room .least; greatest = z .room .greatest; room = omega (arith, c .size, z .room .room) };
+  -- row d is done where its bits are those kept and the others as they were
+  done-with : {columns : List ℕ} → length columns ≡ length old → ((u e : ℕ) → u < m → e < m → (e ≡ d → ⊥) → bitFrom columns (u * carriedLimbs) e ≡ bitFrom old (u * carriedLimbs) e) →
+      ((u : ℕ) → u < m → bitFrom columns (u * carriedLimbs) d ≡ keptBit rows m table d u) → Columns rows m table (d + 1) columns
+  done-with {columns} size others here = record {
+    room = record { least = z .room .least; greatest = z .room .greatest; room = omega (arith, size, z .room .room) };
     kept = λ s e ls le h. elim (decLt e d) [
-      | yes l ↦ c .others s e ls le (λ q. omega arith) ∙ z .kept s e ls le l
-      | no l ↦
-          let same : e ≡ d = omega arith in
-          ap (bitFrom columns (s * carriedLimbs)) same ∙ c .here s ls ls ∙ sym (ap (λ b. choose b (coord (row m table d) s) 0) k) ∙ ap (λ e. keptBit rows m table e s) (sym same)
+      | yes l ↦ others s e ls le (λ q. omega arith) ∙ z .kept s e ls le l
+      | no l ↦ let same : e ≡ d = omega arith in ap (bitFrom columns (s * carriedLimbs)) same ∙ here s ls ∙ ap (λ e. keptBit rows m table e s) (sym same)
     ];
-    blank = λ s e ls le h. c .others s e ls le (λ q. omega arith) ∙ z .blank s e ls le (omega arith);
+    blank = λ s e ls le h. others s e ls le (λ q. omega arith) ∙ z .blank s e ls le (omega arith);
   }
 
-  -- a row that isn't kept
+  pub row-done : {columns : List ℕ} → keeps rows m table d ≡ true → RowTo m table d m old columns → Columns rows m table (d + 1) columns
+  row-done k c = done-with (c .size) (c .others) (λ s l. c .here s l l ∙ sym (ap (λ b. choose b (coord (row m table d) s) 0) k))
+
   pub row-skipped : keeps rows m table d ≡ false → Columns rows m table (d + 1) old
-  row-skipped k = record {
-    room = z .room;
-    kept = λ s e ls le h. elim (decLt e d) [
-      | yes l ↦ z .kept s e ls le l
-      | no l ↦
-          let same : e ≡ d = omega arith in
-          z .blank s e ls le (omega arith) ∙ sym (ap (λ b. choose b (coord (row m table d) s) 0) k) ∙ ap (λ e. keptBit rows m table e s) (sym same)
-    ];
-    blank = λ s e ls le h. z .blank s e ls le (omega arith);
-  }
+  row-skipped k = done-with refl (λ s e ls le n. refl) (λ s l. z .blank s d l ld (omega arith) ∙ sym (ap (λ b. choose b (coord (row m table d) s) 0) k))
 
 pub columns-none : (rows : Rows) (m : ℕ) (table : List ℕ) → 2 ≤ m → m ≤ maxWidth → Columns rows m table 0 (replicate (maxWidth * carriedLimbs) 0)
 columns-none rows m table two most = record {

@@ -2,8 +2,8 @@
 use mathlib.Core.Path.{_≡_, refl, sym, ap, ap₂, _∙_, subst}
 use mathlib.Core.Bool.{Bool, true, false, true≢false}
 use mathlib.Core.List.{List, [], _∷_, _++_}
-use Prim.Native.Nat.{ℕ, zero, suc, _+_, _-_, _*_, _/_, _<_, _≤_}
-use native.Mathlib.Nat.{suc-mul, zero-add}
+use Prim.Native.Nat.{ℕ, _+_, _-_, _*_, _/_, _<_, _≤_}
+use native.Mathlib.Nat.{mul-one, zero-add}
 use native.Mathlib.Numerals.{add-one}
 use native.Mathlib.Omega.{arith}
 use lib.ListN.{length, set, length-append}
@@ -14,7 +14,7 @@ use Rattle.gf2.specs.Sums.{sum}
 use Rattle.gf2.specs.Operands.{maxWidth, choose}
 use Rattle.gf2.proofs.Sums.{sum-ext}
 use Rattle.netlist.specs.Gates.{Gate, AND, XOR, wordLimit, gateWords}
-use Rattle.netlist.specs.Lists.{each, only, fold, end, start, folds, ends}
+use Rattle.netlist.specs.Lists.{each, fold, end, start, folds, ends}
 use Rattle.netlist.proofs.SumLaws.{sum-most}
 use Rattle.netlist.proofs.FoldLaws.{length-fold}
 use Rattle.netlist.proofs.NetlistLaws.{length-ends, start-folds}
@@ -23,7 +23,7 @@ use Rattle.list_parts.specs.declared.store.Fold.{Fold}
 use Rattle.list_parts.specs.Parts.{fits, Put, pairGate, rowGates, pairGates, pairsFrom, foldsFrom}
 use Rattle.list_parts.specs.Folds.{fresh, Pushed}
 use Rattle.list_parts.proofs.WriteLaws.{whole-pushed, whole-stored, words-more}
-use Rattle.list_parts.proofs.TermLaws.{each-ext}
+use Rattle.list_parts.proofs.TermLaws.{each-ext, each-most, only-most}
 
 -- no gates, one gate, gates after gates
 pub put-none : (n : ℕ) (old : List ℕ) → Put n old [] n old
@@ -47,39 +47,28 @@ put-more {n} {k} {q} {old} {mid} {out} {a} {b} x y = record {
 pub put-most : {n k : ℕ} {old out : List ℕ} {a : List Gate} (m : ℕ) → Put n old a k out → length a ≤ m → k ≤ n + m
 put-most m x h = omega (arith, x .next)
 
+-- the gates of the numbers below j, one after another
+pub put-start : (n : ℕ) (old : List ℕ) (f : ℕ → List Gate) → Put n old (each 0 f) n old
+unfolding each
+put-start n old f = put-none n old
+
+pub put-next : {n k q : ℕ} {old mid out : List ℕ} (f : ℕ → List Gate) (j : ℕ) → Put n old (each j f) k mid → Put k mid (f j) q out → Put n old (each (j + 1) f) q out
+unfolding each
+put-next f j x y = rw add-one (put-more x y)
+
 -- the gates of pairs
-module _ (mixed : Bool) (m : ℕ) where
-  pub gates-none : (i : ℕ) → rowGates mixed m i 0 ≡ []
-  unfolding rowGates each
-  gates-none i = refl
+gate-most : (mixed : Bool) (m i j : ℕ) → length (pairGate mixed m i j) ≤ 1
+unfolding pairGate
+gate-most false m i j = only-most true _
+gate-most true m i j = only-most (ltb i j) _
 
-  pub gates-more : (i j : ℕ) → rowGates mixed m i (j + 1) ≡ rowGates mixed m i j ++ pairGate mixed m i j
-  unfolding rowGates each
-  gates-more i j = rw add-one
+pub gates-most : (mixed : Bool) (m i j : ℕ) → length (rowGates mixed m i j) ≤ j
+unfolding rowGates
+gates-most mixed m i j = omega (arith, each-most j 1 (pairGate mixed m i) (gate-most mixed m i), mul-one j)
 
-  gate-most : (i j : ℕ) → length (pairGate mixed m i j) ≤ 1
-  gate-most i j = go mixed (ltb i j) refl
-    where
-      go : (b c : Bool) → ltb i j ≡ c → length (pairGate b m i j) ≤ 1
-      go false c e = unfold pairGate only in omega arith
-      go true true e = unfold pairGate only in rw e (omega arith)
-      go true false e = unfold pairGate only in rw e (omega arith)
-
-  pub gates-most : (i j : ℕ) → length (rowGates mixed m i j) ≤ j
-  gates-most i zero = rw (gates-none i) (omega arith)
-  gates-most i (suc j) = rw (sym (ap (rowGates mixed m i) (add-one j)) ∙ gates-more i j, length-append) (omega (arith, gates-most i j, gate-most i j))
-
-  pub pairs-none : pairGates mixed m 0 ≡ []
-  unfolding pairGates each
-  pairs-none = refl
-
-  pub pairs-more : (i : ℕ) → pairGates mixed m (i + 1) ≡ pairGates mixed m i ++ rowGates mixed m i m
-  unfolding pairGates each
-  pairs-more i = rw add-one
-
-  pub pairs-most : (i : ℕ) → length (pairGates mixed m i) ≤ i * m
-  pairs-most zero = rw pairs-none (omega arith)
-  pairs-most (suc i) = rw (sym (ap (pairGates mixed m) (add-one i)) ∙ pairs-more i, length-append) (omega (arith, pairs-most i, gates-most i m, suc-mul i m))
+pub pairs-most : (mixed : Bool) (m i : ℕ) → length (pairGates mixed m i) ≤ i * m
+unfolding pairGates
+pairs-most mixed m i = each-most i m (λ i. rowGates mixed m i m) (λ i. gates-most mixed m i m)
 
 -- a whole fold
 fold-put : {m k : ℕ} {terms out mid : List ℕ} {f : Fold} → Pushed m (fresh k) out terms f mid → Put k out (fold (2 * m + k) terms) (f .gates) mid × (f .running ≡ end (2 * m + k) terms)
@@ -112,16 +101,13 @@ module _ {m n : ℕ} {terms : ℕ → List ℕ} {old wires : List ℕ} where
   pub folds-more : {r k : ℕ} {out mid sums new : List ℕ} {f : Fold} → Folded m r n terms old wires k out sums → Pushed m (fresh k) out (terms r) f mid →
       new ≡ set sums r (f .running) → Folded m (r + 1) n terms old wires (f .gates) mid new
   folds-more {r} {k} {sums = sums} x p e = record {
-    put = rw (gates-more r) (put-more (x .put) (rw at-r at (fold-put p .0)));
+    put = unfold folds in put-next (λ r. fold (start (2 * m + n) terms r) (terms r)) r (x .put) (rw at-r at (fold-put p .0));
     sums = e ∙ ap₂ (λ s w. set s r w) (x .sums) (fold-put p .1 ∙ ap (λ z. end z (terms r)) at-r) ∙ ap (λ z. set (sets wires 0 (ends r (2 * m + n) terms)) z (end (start (2 * m + n) terms r) (terms r))) (sym (zero-add r))
         ∙ sets-snoc wires 0 r (ends r (2 * m + n) terms) _ (length-ends (2 * m + n) terms r) ∙ ap (sets wires 0) (sym (ends-more r));
   }
     where
       at-r : 2 * m + k ≡ start (2 * m + n) terms r
       at-r = omega (arith, x .put .next, start-folds (2 * m + n) terms r)
-
-      gates-more : (r : ℕ) → folds (r + 1) (2 * m + n) terms ≡ folds r (2 * m + n) terms ++ fold (start (2 * m + n) terms r) (terms r)
-      gates-more r = unfold folds each in ap (λ i. each i (λ r. fold (start (2 * m + n) terms r) (terms r))) (add-one r)
 
       ends-more : (r : ℕ) → ends (r + 1) (2 * m + n) terms ≡ ends r (2 * m + n) terms ++ (end (start (2 * m + n) terms r) (terms r) ∷ [])
       ends-more r = unfold ends each in ap (λ i. each i (λ r. end (start (2 * m + n) terms r) (terms r) ∷ [])) (add-one r)

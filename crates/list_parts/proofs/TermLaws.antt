@@ -50,7 +50,7 @@ each-none (suc n) e = ap₂ _++_ (each-none n (λ k l. e k (omega arith))) (e n 
 pub each-most : {A : Type 0} (n c : ℕ) (f : ℕ → List A) → ((k : ℕ) → length (f k) ≤ c) → length (each n f) ≤ n * c
 each-most n c f h = rw (length-each n f) (sum-most n c (λ k. length (f k)) h)
 
-pub only-most : (b : Bool) (w : ℕ) → length (only b w) ≤ 1
+pub only-most : {A : Type 0} (b : Bool) (w : A) → length (only b w) ≤ 1
 unfolding only
 only-most true w = omega arith
 only-most false w = omega arith

@@ -1,19 +1,19 @@
 -- What has passed where no fault is given, and the same causes carried and as W bytes.
 -- Passed: the table, factors by a method, operands of its width. Zero: no bit at 0 or above.
 -- Bytes: causes judged on the carried bytes are those of the W bytes. Answers: without a fault.
-use mathlib.Core.Path.{_≡_, refl, sym, ap, _∙_}
+use mathlib.Core.Path.{_≡_, refl, sym, ap, ap₂, _∙_}
 use mathlib.Core.Bool.{true, false}
 use mathlib.Core.List.{List, [], _∷_, _++_}
 use Prim.Native.Nat.{ℕ, _≤_}
 use native.Mathlib.Omega.{arith}
 use lib.ListN.{length}
-use Rattle.gf2.specs.Coordinates.{coord}
-use Rattle.gf2.specs.Operands.{bytesFor, carriedBytes, carriedBy, IsOperand, isClear, zeroes, same}
-use Rattle.gf2.specs.Inverse.{productsMade}
+use Rattle.gf2.specs.Coordinates.{coord, pack}
+use Rattle.gf2.specs.Operands.{bytesFor, carriedBytes, carriedBy, choose, IsOperand, isClear, zeroes, same}
+use Rattle.gf2.specs.Inverse.{inverse}
 use Rattle.gf2.proofs.Parity.{bool-ext}
-use Rattle.gf2.proofs.Coordinates.{coord-none, length-pack, pack-byte}
+use Rattle.gf2.proofs.Coordinates.{coord-none}
 use Rattle.gf2.proofs.Operands.{from-operand, from-eq, clear-at, clear-of}
-use Rattle.gf2.proofs.Carrying.{HasBytes, carried-from, same-carried, product-carried, product-is, reduced-carried, reduced-is}
+use Rattle.gf2.proofs.Carrying.{HasBytes, carried-from, same-carried, product-carried, product-is, reduced-carried, reduced-is, has-bytes, written-carried, inverse-carried, inverse-is, count-carried}
 use Rattle.gf2.proofs.Decisions.{same-decides}
 use Rattle.judging.specs.declared.fault.Fault.{Fault}
 use Rattle.judging.specs.declared.fault.Fault.the-variants.{None}
@@ -21,12 +21,12 @@ use Rattle.judging.specs.Faults.{isNone}
 use Rattle.judging.specs.Causes.{Cause, faultOf}
 use Rattle.judging.specs.FaultTable.{badWidth, badLength, notW, notTable, highBit, highBitInRow, isZero, shapeCauses, ruleCauses}
 use Rattle.judging.proofs.CauseLaws.{Fine, fine, head-fails, same-head, goes-on, none-true, none-is}
-use Rattle.judging.proofs.Passed.{IsWidth as IsPassed, is-width, width-passes, as-laid-down, is-clear}
+use Rattle.judging.proofs.Passed.{IsWidth as IsPassed, is-width, width-passes, is-clear}
 use Rattle.limbs.proofs.ByteLists.{Bytes}
 use Rattle.operand.specs.declared.Operand.{Operand}
 use Rattle.operand.specs.declared.OperandAnswer.{OperandAnswer}
 use Rattle.operand.specs.Calls.{noOperand, answer}
-use Rattle.operand.proofs.CallLaws.{zero-bytes, high-same}
+use Rattle.operand.proofs.CallLaws.{zero-bytes, high-same, Sized, SizedPair}
 use Rattle.table.specs.Rows.{Shaped}
 use Rattle.table.proofs.Shapes.{shape-rows, shape-none, row-bytes}
 use Rattle.table.proofs.Theorems.{rules}
@@ -36,7 +36,7 @@ use Rattle.product.specs.declared.kernel.Method.the-variants.{Plain, Red
 use Rattle.product.specs.declared.bytes.CountAnswer.{CountAnswer}
 use Rattle.product.specs.Causes.{inverseBytesCauses}
 use Rattle.product.specs.Calls.{counted, inverseCount}
-use Rattle.product.specs.Inner.{IsWidth, Sound, Serves, multiplied, carried, tableCauses, rulesBy, factorCauses, unitCauses}
+use Rattle.product.specs.Inner.{IsWidth, Sound, Serves, multiplied, carried, tableCauses, rulesBy, factorCauses, unitCauses, productAnswer, inverseAnswer}
 
 -- what an inverse judges of W bytes after the lengths
 abbrev pub unitBytes : ℕ → List ℕ → List ℕ → List Cause
@@ -49,6 +49,13 @@ rowCauses m t = notTable m t ∷ highBitInRow m t ∷ []
 -- a width that has passed, as the contracts have it
 pub passed : {m : ℕ} → IsPassed m → IsWidth m
 passed w = (w .least, w .greatest)
+
+pub first-passed : (m : ℕ) (cs : List Cause) → isNone (faultOf (badWidth m ∷ cs)) ≡ true → IsWidth m
+first-passed m cs e = passed (is-width m (fine (badWidth m ∷ cs) e .0))
+
+-- the bytes of a carried operand
+abbrev pub Carried : List ℕ → Type 0
+Carried x = (length x ≡ carriedBytes) × Bytes x
 
 module _ {m : ℕ} (w : IsWidth m) (t : List ℕ) where
   width-fails : badWidth m .test ≡ false
@@ -69,21 +76,21 @@ module _ {m : ℕ} (w : IsWidth m) (t : List ℕ) where
   serves Plain s p = s
   serves Reduced s p = (s, rules m t .0 p)
 
-  -- factors that have passed
-  pub factors-fine : (k : Method) (x y : List ℕ) → Bytes t → isNone (faultOf (factorCauses k m t x y)) ≡ true → Serves k m t × (isClear m x ≡ true) × (isClear m y ≡ true)
-  factors-fine k x y small e =
+  -- carried bytes whose bits have passed
+  sound : {x : List ℕ} → Carried x → highBit m x .test ≡ false → Sound m (carried m x)
+  sound {x} h p =
+      record { least = w .0; greatest = w .1; width = refl; operand = record { size = h .0; byte = h .1; clear = clear-at m x (is-clear m x p) } }
+
+  -- factors that have passed, and an operand that has
+  pub factors-fine : (k : Method) (x y : List ℕ) → Bytes t → Carried x → Carried y → isNone (faultOf (factorCauses k m t x y)) ≡ true → Serves k m t × Sound m (carried m x) × Sound m (carried m y)
+  factors-fine k x y small hx hy e =
       let p = fine (factorCauses k m t x y) e in
-      (serves k (table-shaped small x (p .0, (p .1 .0, (p .1 .1 .0, tt)))) (p .1 .1 .1 .1), is-clear m x (p .1 .1 .0), is-clear m y (p .1 .1 .1 .0))
+      (serves k (table-shaped small x (p .0, (p .1 .0, (p .1 .1 .0, tt)))) (p .1 .1 .1 .1), sound hx (p .1 .1 .0), sound hy (p .1 .1 .1 .0))
 
-  pub unit-fine : (x : List ℕ) → Bytes t → isNone (faultOf (unitCauses m t x)) ≡ true → Shaped m t × (isClear m x ≡ true)
-  unit-fine x small e =
+  pub unit-fine : (x : List ℕ) → Bytes t → Carried x → isNone (faultOf (unitCauses m t x)) ≡ true → Shaped m t × Sound m (carried m x)
+  unit-fine x small h e =
       let p = fine (unitCauses m t x) e in
-      (table-shaped small x (p .0, (p .1 .0, (p .1 .1 .0, tt))), is-clear m x (p .1 .1 .0))
-
-  -- a carried operand of this width whose bits have passed
-  pub sound : {a : Operand} → a .width ≡ m → length (a .bytes) ≡ carriedBytes → Bytes (a .bytes) → isClear m (a .bytes) ≡ true → Sound m a
-  sound {a} e size small c =
-      record { least = w .0; greatest = w .1; width = e; operand = record { size = size; byte = small; clear = clear-at m (a .bytes) c } }
+      (table-shaped small x (p .0, (p .1 .0, (p .1 .1 .0, tt))), sound h (p .1 .1 .0))
 
   -- the causes of carried bytes are those of the W bytes
   pub factors-same : (k : Method) {a b : List ℕ} → HasBytes m a → HasBytes m b → faultOf (factorCauses k m t (carriedBy a) (carriedBy b)) ≡ faultOf (factorCauses k m t a b)
@@ -110,16 +117,6 @@ module _ {m : ℕ} (w : IsWidth m) (t : List ℕ) where
       high-same h (isZero carriedBytes m (carriedBy a) ∷ []) (isZero (bytesFor m) m a ∷ []) (λ c.
       same-head (isZero carriedBytes m (carriedBy a)) (isZero (bytesFor m) m a) [] [] (zero-same small h c) refl (λ r. refl))))
 
-  -- the operand that carries W bytes whose bits have passed
-  pub sound-carried : (a : List ℕ) → isClear m (carriedBy a) ≡ true → Sound m (carried m (carriedBy a))
-  sound-carried a c = sound refl (length-pack carriedBytes (coord a)) (pack-byte carriedBytes (coord a)) c
-
--- a carried operand and a width that have passed
-pub widths-fine : (m : ℕ) (a : Operand) → isNone (faultOf (badWidth m ∷ badWidth (a .width) ∷ badLength (a .width) m ∷ [])) ≡ true → IsWidth m × (a .width ≡ m)
-widths-fine m a e =
-    let p = fine (badWidth m ∷ badWidth (a .width) ∷ badLength (a .width) m ∷ []) e in
-    (passed (is-width m (p .0)), as-laid-down _ _ (p .1 .1 .0))
-
 -- the lengths of W bytes
 abbrev pub sizeCauses : ℕ → List ℕ → List ℕ → List Cause
 sizeCauses m a result = badWidth m ∷ notW m a ∷ notW m result ∷ []
@@ -130,11 +127,8 @@ pairSizes m a b result = badWidth m ∷ notW m a ∷ notW m b ∷ notW m result 
 abbrev pub pairWidths : ℕ → Operand → Operand → List Cause
 pairWidths m a b = badWidth m ∷ badWidth (a .width) ∷ badWidth (b .width) ∷ badLength (b .width) (a .width) ∷ badLength (a .width) m ∷ []
 
-pub pair-fine : (m : ℕ) (a b : Operand) → isNone (faultOf (pairWidths m a b)) ≡ true → IsWidth m × (a .width ≡ m) × (b .width ≡ m)
-pair-fine m a b e =
-    let p = fine (pairWidths m a b) e in
-    let q = as-laid-down _ _ (p .1 .1 .1 .1 .0) in
-    (passed (is-width m (p .0)), q, as-laid-down _ _ (p .1 .1 .1 .0) ∙ q)
+abbrev pub oneWidth : ℕ → Operand → List Cause
+oneWidth m a = badWidth m ∷ badWidth (a .width) ∷ badLength (a .width) m ∷ []
 
 -- the product by a method, carried
 module _ {m : ℕ} {a b : List ℕ} (h : HasBytes m a) (l : HasBytes m b) (t : List ℕ) where
@@ -168,12 +162,55 @@ pub inverse-refused : (g : Fault) {f : Fault} (m n : ℕ) (x : List ℕ) {r : In
 unfolding answer
 inverse-refused g m n x q w e = rw w (e ∙ ap (λ z. record { fault = z; value = noOperand; count = 0 }) q)
 
--- the count of an inverse of W bytes, with and without a fault
-module _ (m : ℕ) (t a old : List ℕ) {f : Fault} (e : f ≡ faultOf (inverseBytesCauses m t a old)) where
-  pub count-refused : isNone (faultOf (inverseBytesCauses m t a old)) ≡ false → _≡_ {A = CountAnswer} (record { fault = f; count = 0 }) (inverseCount m t a old)
-  unfolding inverseCount
-  count-refused n = rw (n, e)
+-- no count beside a fault
+pub count-refused : (m : ℕ) (t a old : List ℕ) {f : Fault} → f ≡ faultOf (inverseBytesCauses m t a old) → isNone (faultOf (inverseBytesCauses m t a old)) ≡ false → _≡_ {A = CountAnswer} (record { fault = f; count = 0 }) (inverseCount m t a old)
+unfolding inverseCount
+count-refused m t a old e n = rw (n, e)
 
-  pub count-made : isNone (faultOf (inverseBytesCauses m t a old)) ≡ true → {n : ℕ} → n ≡ productsMade m t a → _≡_ {A = CountAnswer} (record { fault = f; count = n }) (inverseCount m t a old)
-  unfolding inverseCount
-  count-made n q = rw (n, e, q)
+-- the bytes of an answer without a fault
+answer-bytes : (f : Fault) (m : ℕ) {x : List ℕ} {r : OperandAnswer} → r ≡ answer f m x → isNone f ≡ true → r .value .bytes ≡ x
+unfolding answer
+answer-bytes f m e n = rw n at (ap (λ (r : OperandAnswer). r .value .bytes) e)
+
+-- what is answered for the carried bytes is the answer for the W bytes: a product
+module _ {m : ℕ} {a b old : List ℕ} (z : SizedPair m a b old) (t : List ℕ) (k : Method) {r : OperandAnswer} (e : r ≡ productAnswer k m t (carriedBy a) (carriedBy b)) where
+  pub product-fault : r .fault ≡ faultOf (factorCauses k m t a b)
+  unfolding answer
+  product-fault = ap (λ (r : OperandAnswer). r .fault) e ∙ factors-same (passed (z .width)) t k (z .left) (z .right)
+
+  pub product-written : {new : List ℕ} → isNone (r .fault) ≡ true → new ≡ pack (length old) (coord (r .value .bytes)) → new ≡ multiplied k m t a b
+  unfolding answer
+  product-written n q =
+      let is = multiplied-is (z .left) (z .right) t k in
+      q ∙ ap (λ y. pack (length old) (coord y)) (answer-bytes _ m e (sym (ap (λ (r : OperandAnswer). isNone (r .fault)) e) ∙ n) ∙ multiplied-carried (z .left) (z .right) t k)
+      ∙ written-carried (has-bytes (z .width .greatest) is) is (z .room)
+
+-- an inverse, and its count
+pub record InverseOf (m : ℕ) (t a old : List ℕ) (r : InverseAnswer) : Type 0 where
+  pub sizes : Sized m a old
+  pub byte : Bytes a
+  pub made : r ≡ inverseAnswer m t (carriedBy a)
+
+module _ {m : ℕ} {t a old : List ℕ} {r : InverseAnswer} (i : InverseOf m t a old r) where
+  abbrev z : Sized m a old
+  z = i .sizes
+
+  abbrev e : r ≡ inverseAnswer m t (carriedBy a)
+  e = i .made
+
+  pub inverse-fault : r .fault ≡ faultOf (unitBytes m t a)
+  unfolding answer
+  inverse-fault = ap (λ (r : InverseAnswer). r .fault) e ∙ unit-same (passed (z .width)) t (i .byte) (z .operand)
+
+  pub inverse-written : {new : List ℕ} → isNone (r .fault) ≡ true → new ≡ pack (length old) (coord (r .value .bytes)) → new ≡ inverse m t a
+  unfolding answer
+  inverse-written n q =
+      let is = inverse-is t (z .operand) in
+      let none = sym (ap (λ (r : InverseAnswer). isNone (r .fault)) e) ∙ n in
+      q ∙ ap (λ y. pack (length old) (coord y)) (ap (λ (r : InverseAnswer). r .value .bytes) e ∙ answer-bytes _ m refl none ∙ inverse-carried t (z .operand))
+      ∙ written-carried (has-bytes (z .width .greatest) is) is (z .room)
+
+  pub inverse-counted : r .fault ≡ faultOf (inverseBytesCauses m t a old) → _≡_ {A = CountAnswer} (record { fault = r .fault; count = r .count }) (inverseCount m t a old)
+  unfolding inverseCount answer
+  inverse-counted w = ap₂ (λ f n. record { fault = f; count = n }) w
+      (ap (λ (r : InverseAnswer). r .count) e ∙ ap₂ (λ f n. choose (isNone f) n 0) (sym (ap (λ (r : InverseAnswer). r .fault) e) ∙ w) (count-carried t (z .operand)))

@@ -1,8 +1,8 @@
 -- The product by a method: what its rows give, gathered, with what the method adds to them.
-use mathlib.Core.Path.{_≡_, sym, ap, ap₂, _∙_}
+use mathlib.Core.Path.{_≡_, refl, sym, ap, ap₂, _∙_}
 use mathlib.Core.List.{List}
 use Prim.Native.Nat.{ℕ, _+_, _-_, _*_, _%_, _<_, _≤_}
-use native.Mathlib.Nat.{add-zero, mod-lt, mod-mod}
+use native.Mathlib.Nat.{add-zero, mod-lt}
 use native.Mathlib.Omega.{arith}
 use lib.ListN.{replicate}
 use Rattle.gf2.specs.Coordinates.{coord}
@@ -19,9 +19,8 @@ use Rattle.product.specs.declared.kernel.Method.{Method}
 use Rattle.product.specs.declared.kernel.Method.the-variants.{Plain, Reduced}
 use Rattle.product.specs.Inner.{Sound, Serves, carried, made, multiplied, firstRow, rowCount, rowsTo, gatheredAt, diagonalAt}
 use Rattle.product.proofs.SoundOperands.{fits, is-made, sum-made, square-made}
-use Rattle.product.proofs.KernelLaws.{limbs-coord}
-use Rattle.product.proofs.PlainLimbs.{plain-made}
-use Rattle.product.proofs.ReducedLimbs.{halves-made}
+use Rattle.product.proofs.KernelLaws.{limbs-coord, rows-made}
+use Rattle.product.proofs.RowProducts.{diagonalBytes, rowsAt, by-rows}
 
 pub serves-shaped : (how : Method) (m : ℕ) (t : List ℕ) → Serves how m t → Shaped m t
 serves-shaped Plain m t s = s
@@ -60,16 +59,16 @@ module _ {m : ℕ} {rows : Operand} (s : Sound m rows) (x y : List ℕ) where
 
 module _ {m : ℕ} (t : List ℕ) {a b : Operand} {x y : List ℕ} (sa : Sound m a) (sb : Sound m b)
     (ex : x ≡ packLimbs carriedLimbs (coord (a .bytes))) (ey : y ≡ packLimbs carriedLimbs (coord (b .bytes))) (n : ℕ) where
+  diagonal-same : (how : Method) (i : ℕ) → diagonalAt how m x y i ≡ diagonalBytes how m (a .bytes) (b .bytes) i
+  diagonal-same Plain i = refl
+  diagonal-same Reduced i = ap₂ _*_ (limbs-coord sa ex _) (limbs-coord sb ey _)
+
   pub times-made : (how : Method) {g : List ℕ} {rows r : Operand} → Serves how m t → Added (rowsTo how m t x y (firstRow how) (rowCount how m)) (replicate n 0) g
       → rows ≡ made m (gatheredAt m g) → r ≡ made m (λ i. coord (rows .bytes) i + diagonalAt how m x y i) → r ≡ carried m (multiplied how m t (a .bytes) (b .bytes))
-  times-made Plain {g} serves p q e = e ∙ ap (carried m) (from-ext carriedBytes m _ (gatheredAt m g) (λ i l. ap (λ z. z % 2) (add-zero _) ∙ gathered q i l))
-      ∙ plain-made n serves sa sb ex ey p
+  times-made how {g} serves p q e = e ∙ ap (carried m)
+      (from-ext carriedBytes m _ (rowsAt how m t (a .bytes) (b .bytes)) (λ i l.
+      parts _ _ (ap (λ z. coord (z .bytes) i) q ∙ coord-from carriedBytes m (gatheredAt m g) (fits m (sa .greatest)) i l) (rows-made sa sb ex ey how (firstRow how) (rowCount how m) n (serves-shaped how m t serves) p i l) (diagonal-same how i))
+      ∙ by-rows how m t (a .bytes) (b .bytes) serves (sa .operand .size))
     where
-      gathered : {rows : Operand} → rows ≡ made m (gatheredAt m g) → (i : ℕ) → i < m → coord (rows .bytes) i % 2 ≡ gatheredAt m g i % 2
-      gathered q i l = ap (λ z. coord (z .bytes) i % 2) q ∙ ap (λ z. z % 2) (coord-from carriedBytes m (gatheredAt m g) (fits m (sa .greatest)) i l) ∙ mod-mod _ 2
-  times-made Reduced {g} serves p q e = e ∙ ap (carried m) (from-ext carriedBytes m _ (λ i. gatheredAt m g i + coord (a .bytes) (minus m i 1) * coord (b .bytes) (minus m i 1)) (λ i l.
-      ap₂ (λ u v. (u + v) % 2) (ap (λ z. coord (z .bytes) i) q ∙ coord-from carriedBytes m (gatheredAt m g) (fits m (sa .greatest)) i l) (ap₂ _*_ (limbs-coord sa ex _) (limbs-coord sb ey _)) ∙ first _ _))
-      ∙ halves-made n (serves .0) (serves .1) sa sb ex ey p
-    where
-      first : (c d : ℕ) → (c % 2 + d) % 2 ≡ (c + d) % 2
-      first c d = omega arith
+      parts : {c d w : ℕ} (u v : ℕ) → c ≡ u % 2 → u % 2 ≡ v % 2 → d ≡ w → (c + d) % 2 ≡ (w + v) % 2
+      parts u v p q r = omega arith

@@ -26,6 +26,7 @@ use Rattle.product.specs.declared.kernel.Method.{Method}
 use Rattle.product.specs.declared.kernel.Method.the-variants.{Plain, Reduced}
 use Rattle.product.specs.declared.chain.State.{State}
 use Rattle.product.specs.Causes.{productCauses, productBytesCauses}
+use Rattle.product.specs.Calls.{counted}
 
 -- the operand of width m with these bytes
 abbrev pub carried : ℕ → List ℕ → Operand
@@ -76,6 +77,13 @@ methodCauses k m table a b = productCauses m table a b ++ rulesBy k m table
 
 abbrev pub multiplyCall : Method → ℕ → List ℕ → Operand → Operand → OperandAnswer
 multiplyCall k m table a b = answer (faultOf (methodCauses k m table a b)) m (multiplied k m table (a .bytes) (b .bytes))
+
+-- what is answered where the widths or the lengths have passed
+abbrev pub productAnswer : Method → ℕ → List ℕ → List ℕ → List ℕ → OperandAnswer
+productAnswer k m table x y = answer (faultOf (factorCauses k m table x y)) m (multiplied k m table x y)
+
+abbrev pub inverseAnswer : ℕ → List ℕ → List ℕ → InverseAnswer
+inverseAnswer m table x = counted (answer (faultOf (unitCauses m table x)) m (inverse m table x)) (productsMade m table x)
 
 abbrev pub methodBytesCauses : Method → ℕ → List ℕ → List ℕ → List ℕ → List ℕ → List Cause
 methodBytesCauses k m table a b result = productBytesCauses m table a b result ++ rulesBy k m table

@@ -4,13 +4,10 @@ ghost use Rattle.judging.specs.Causes.{faultOf};
 ghost use Rattle.product.specs.Causes.{productBytesCauses, reducedBytesCauses};
 ghost use Rattle.product.specs.Calls.{productInto, reducedInto, inverseInto, inverseCount};
 ghost use Rattle.product.specs.Inner.{methodBytesCauses, multiplyInto};
-use crate::chain;
-use crate::judge;
+use crate::answers;
 use crate::kernel::Method;
-use crate::times;
 use judging::Fault;
 use judging::is_none;
-use operand::Operand;
 
 // A fault, or none and the number of products that an inverse took.
 pub struct CountAnswer {
@@ -27,7 +24,8 @@ fn multiply_into(
     b: &[u8],
     result: &mut [u8],
 ) -> Fault
-    ensures { λ r. ⌜ (r ≡ faultOf (methodBytesCauses method width (now (table .entry)) (now (a .entry)) (now (b .entry)) (now (result .entry)))) × (now (result .exit) ≡ multiplyInto method width (now (table .entry)) (now (a .entry)) (now (b .entry)) (now (result .entry))) ⌝ }
+    ensures { λ r. ⌜ (r ≡ faultOf (methodBytesCauses method width (now (table .entry)) (now (a .entry)) (now (b .entry)) (now (result .entry))))
+        × (now (result .exit) ≡ multiplyInto method width (now (table .entry)) (now (a .entry)) (now (b .entry)) (now (result .entry))) ⌝ }
 {
     let sizes = judging::judge_pair_sizes(width, a.len(), b.len(), result.len());
     if !is_none(sizes) {
@@ -35,19 +33,11 @@ fn multiply_into(
     }
     let x = limbs::carried(a);
     let y = limbs::carried(b);
-    let fault = judge::judge_factors(method, width, table, x, y);
+    let answer = answers::product(method, width, table, x, y);
+    let fault = answer.fault;
     if is_none(fault) {
-        let mut g = [0u64; scatter::ROOM];
-        let left = Operand {
-            bytes: x,
-            width: width as u16,
-        };
-        let right = Operand {
-            bytes: y,
-            width: width as u16,
-        };
-        let product = times::times(method, width, table, left, right, &mut g);
-        let z = product.bytes;
+        let value = answer.value;
+        let z = value.bytes;
         limbs::copy_out(z, result);
     }
     fault
@@ -55,21 +45,24 @@ fn multiply_into(
 
 // The plain product, under any table of the right shape.
 pub fn product_into(width: usize, table: &[u8], a: &[u8], b: &[u8], result: &mut [u8]) -> Fault
-    ensures { λ r. ⌜ (r ≡ faultOf (productBytesCauses width (now (table .entry)) (now (a .entry)) (now (b .entry)) (now (result .entry)))) × (now (result .exit) ≡ productInto width (now (table .entry)) (now (a .entry)) (now (b .entry)) (now (result .entry))) ⌝ }
+    ensures { λ r. ⌜ (r ≡ faultOf (productBytesCauses width (now (table .entry)) (now (a .entry)) (now (b .entry)) (now (result .entry))))
+        × (now (result .exit) ≡ productInto width (now (table .entry)) (now (a .entry)) (now (b .entry)) (now (result .entry))) ⌝ }
 {
     multiply_into(Method::Plain, width, table, a, b, result)
 }
 
 // The reduced product, under a table that keeps rules 4 and 5.
 pub fn reduced_into(width: usize, table: &[u8], a: &[u8], b: &[u8], result: &mut [u8]) -> Fault
-    ensures { λ r. ⌜ (r ≡ faultOf (reducedBytesCauses width (now (table .entry)) (now (a .entry)) (now (b .entry)) (now (result .entry)))) × (now (result .exit) ≡ reducedInto width (now (table .entry)) (now (a .entry)) (now (b .entry)) (now (result .entry))) ⌝ }
+    ensures { λ r. ⌜ (r ≡ faultOf (reducedBytesCauses width (now (table .entry)) (now (a .entry)) (now (b .entry)) (now (result .entry))))
+        × (now (result .exit) ≡ reducedInto width (now (table .entry)) (now (a .entry)) (now (b .entry)) (now (result .entry))) ⌝ }
 {
     multiply_into(Method::Reduced, width, table, a, b, result)
 }
 
 // The inverse by the chain, under any table of the right shape.
 pub fn inverse_into(width: usize, table: &[u8], a: &[u8], result: &mut [u8]) -> CountAnswer
-    ensures { λ r. ⌜ (r ≡ inverseCount width (now (table .entry)) (now (a .entry)) (now (result .entry))) × (now (result .exit) ≡ inverseInto width (now (table .entry)) (now (a .entry)) (now (result .entry))) ⌝ }
+    ensures { λ r. ⌜ (r ≡ inverseCount width (now (table .entry)) (now (a .entry)) (now (result .entry)))
+        × (now (result .exit) ≡ inverseInto width (now (table .entry)) (now (a .entry)) (now (result .entry))) ⌝ }
 {
     let sizes = judging::judge_sizes(width, a.len(), result.len());
     if !is_none(sizes) {
@@ -79,20 +72,15 @@ pub fn inverse_into(width: usize, table: &[u8], a: &[u8], result: &mut [u8]) -> 
         };
     }
     let x = limbs::carried(a);
-    let fault = judge::judge_unit(width, table, x);
-    if !is_none(fault) {
-        return CountAnswer { fault, count: 0 };
+    let inverse = answers::inverse(width, table, x);
+    let found = inverse.fault;
+    if is_none(found) {
+        let value = inverse.value;
+        let z = value.bytes;
+        limbs::copy_out(z, result);
     }
-    let operand = Operand {
-        bytes: x,
-        width: width as u16,
-    };
-    let inverse = chain::inverted(width, table, operand);
-    let value = inverse.value;
-    let z = value.bytes;
-    limbs::copy_out(z, result);
     CountAnswer {
-        fault,
+        fault: found,
         count: inverse.count,
     }
 }

@@ -1,7 +1,6 @@
 // Products of operands under a table, plain and reduced, and the inverse, carried by value and as W bytes.
 // Each call judges what it is given; a fault stands beside the operand of width 0.
 ghost use mathlib.Core.Path.{_≡_};
-ghost use Rattle.operand.specs.Calls.{noOperand};
 ghost use Rattle.product.specs.Calls.{productCall, reducedCall, inverseCall};
 ghost use Rattle.product.specs.Inner.{multiplyCall};
 use judging::Fault;
@@ -10,6 +9,7 @@ use kernel::Method;
 use operand::Operand;
 use operand::OperandAnswer;
 
+mod answers;
 mod bytes;
 mod chain;
 mod judge;
@@ -39,15 +39,7 @@ fn multiply(method: Method, width: usize, table: &[u8], a: Operand, b: Operand) 
     if !is_none(widths) {
         return operand::refused(widths);
     }
-    let fault = judge::judge_factors(method, width, table, x, y);
-    if !is_none(fault) {
-        return operand::refused(fault);
-    }
-    let mut g = [0u64; scatter::ROOM];
-    OperandAnswer {
-        fault: Fault::None,
-        value: times::times(method, width, table, a, b, &mut g),
-    }
+    answers::product(method, width, table, x, y)
 }
 
 // The plain product, under any table of the right shape.
@@ -64,18 +56,6 @@ pub fn product_reduced(width: usize, table: &[u8], a: Operand, b: Operand) -> Op
     multiply(Method::Reduced, width, table, a, b)
 }
 
-fn refused(fault: Fault) -> InverseAnswer
-    ensures { λ r. ⌜ r ≡ record { fault = fault; value = noOperand; count = 0 } ⌝ }
-{
-    let none = operand::refused(fault);
-    let value = none.value;
-    InverseAnswer {
-        fault,
-        value,
-        count: 0,
-    }
-}
-
 // The inverse by the chain, under any table of the right shape.
 pub fn inverse(width: usize, table: &[u8], a: Operand) -> InverseAnswer
     ensures { λ r. ⌜ r ≡ inverseCall width (now (table .entry)) a ⌝ }
@@ -83,11 +63,7 @@ pub fn inverse(width: usize, table: &[u8], a: Operand) -> InverseAnswer
     let x = a.bytes;
     let widths = judging::judge_widths(width, a.width as usize);
     if !is_none(widths) {
-        return refused(widths);
+        return answers::refused(widths);
     }
-    let fault = judge::judge_unit(width, table, x);
-    if !is_none(fault) {
-        return refused(fault);
-    }
-    chain::inverted(width, table, a)
+    answers::inverse(width, table, x)
 }

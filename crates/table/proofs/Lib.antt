@@ -1,3 +1,4 @@
+-- Parts: causes judged part after part.
 -- Comparing: bytes compared as limbs.
 -- Shapes: tables without fault of shape: their rows, as they lie in the table and carried.
 -- BasisOperands: the basis operands, products of them and sums of rows as operands.
@@ -6,6 +7,7 @@
 -- RowsAtOnes: the sum of the rows at the ones of an operand, in words.
 -- TableOnes: the ones of a table's bytes are those of its rows.
 -- Theorems: the proofs of the statements in specs/Statements.antt.
+pub mod Parts
 pub mod Comparing
 pub mod Shapes
 pub mod BasisOperands

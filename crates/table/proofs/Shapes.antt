@@ -1,12 +1,12 @@
 -- Tables without fault of shape: their rows, as they lie in the table and carried.
 -- shape-none, shape-rows, shaped, shape-fine: no fault of shape is given exactly where a table whose rows are bytes is shaped.
--- row-bytes, table-bytes: the rows of a list of bytes are bytes, and a table whose rows are bytes is a list of bytes.
+-- row-bytes: the rows of a list of bytes are bytes.
 use mathlib.Core.Path.{_≡_, refl, sym, ap, _∙_}
 use mathlib.Core.Logic.{_↔_}
 use mathlib.Core.Bool.{Bool, true, false, not, true≢false}
 use mathlib.Core.List.{List, [], _∷_}
-use Prim.Native.Nat.{ℕ, zero, suc, _+_, _-_, _*_, _/_, _%_, _^_, _<_, _≤_}
-use native.Mathlib.Nat.{suc-mul, mul-le-mul-right, mod-lt, div-add-mod', div-lt-iff-lt-mul, min-le-left, le-trans, lt-of-le-of-lt, lt-of-lt-of-le, div-eq-of-lt, zero-div}
+use Prim.Native.Nat.{ℕ, _+_, _-_, _*_, _/_, _%_, _^_, _<_, _≤_}
+use native.Mathlib.Nat.{suc-mul, mul-le-mul-right, min-le-left, le-trans, lt-of-le-of-lt, lt-of-lt-of-le, div-eq-of-lt, zero-div}
 use native.Mathlib.Decide.{decLt}
 use native.Mathlib.Omega.{arith}
 use lib.ListN.{length, getD, drop, length-drop, length-take, List·getD-eq-default}
@@ -15,7 +15,7 @@ use lib.Seq.{length-take-le, getD-take, getD-drop}
 use Rattle.gf2.specs.Sums.{sum, every}
 use Rattle.gf2.specs.Coordinates.{coord, value}
 use Rattle.gf2.specs.Operands.{maxWidth, bytesFor, carriedBytes, IsOperand, isClear}
-use Rattle.gf2.specs.Tables.{row, IsTable}
+use Rattle.gf2.specs.Tables.{row}
 use Rattle.gf2.proofs.Parity.{bool-ext}
 use Rattle.gf2.proofs.Sums.{every-at, every-of}
 use Rattle.gf2.proofs.Coordinates.{coord-past, coord-digit, value-eq}
@@ -75,20 +75,6 @@ row-bytes m d t small b = elim (decLt b (bytesFor m)) [
   | yes q ↦ rw (getD-take {A = ℕ} (bytesFor m) (drop (d * bytesFor m) t) b 0 q, getD-drop) (small _)
   | no q ↦ past-end (row m t d) b (rw length-take (le-trans (min-le-left _ _) (omega arith)))
 ]
-
--- byte b of a table is byte b % W of row b / W
-pub table-bytes : (m : ℕ) (t : List ℕ) → IsTable m t → Bytes t
-table-bytes zero t is b = past-end t b (rw (is .size) (omega arith))
-table-bytes (suc p) t is b = elim (decLt b (length t)) [
-  | yes h ↦ let some : 0 < W = omega arith in
-      let l : b / W < suc p = div-lt-iff-lt-mul some .1 (rw (is .size) at h) in
-      let byte = row-getD (suc p) (b / W) t (is .size) l (b % W) (mod-lt b some) ∙ ap (λ k. getD t k 0) (div-add-mod' b W) in
-      rw byte at (is .rows (b / W) l .byte (b % W))
-  | no h ↦ past-end t b (omega arith)
-]
-  where
-    W : ℕ
-    W = bytesFor (suc p)
 
 pub row-short : (m d : ℕ) (t : List ℕ) → Sized m (length t) → d < m → length (row m t d) ≤ carriedBytes
 row-short m d t s l = let g = s .greatest in omega (arith, row-length m d t (s .exact) l)

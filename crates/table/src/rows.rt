@@ -13,7 +13,7 @@ use operand::Operand;
 
 // The bytes of row d, in those of a carried operand.
 pub(crate) fn row_bytes(width: usize, table: &[u8], d: usize) -> [u8; Operand::BYTES]
-    requires { ⌜ (width ≤ maxWidth) × (length (now table) ≡ width * bytesFor width) × (d < width) ⌝ }
+    requires { ⌜ Shaped width (now table) × (d < width) ⌝ }
     ensures { λ r. ⌜ r ≡ carriedRow width (now (table .entry)) d ⌝ }
 {
     let size = limbs::bytes_for(width);

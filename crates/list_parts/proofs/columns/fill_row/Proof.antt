@@ -49,8 +49,6 @@ returns-2 c =
     row-done (s .pre) (sym (b .before .is-kept .ensures) ∙ not-false _ (b .if1 .left)) (row-end (s .pre) (omega (arith, c .loop-test .left)) (c .before .loop .inv .0))
 
 pub fill-row-spec : {M : Type 1} → statement M
-fill-row-spec =
-    tie.close
-    (tie.spec Inv-loop μ-loop (λ c κs. search needs) returns (λ c κs. search needs) (λ c κs. search needs) loop-holds (λ c. search needs) (λ c. search needs)
-    (λ c. search needs) (λ c. search needs) (λ c. search needs) (λ c. search needs) (λ c. search needs) (λ c. search needs) (λ c κs. search needs) loop-less
-    loop-again (λ c. search needs) returns-2)
+fill-row-spec = tie.close (tie.spec Inv-loop μ-loop (λ c κs. search needs) returns (λ c κs. search needs) (λ c κs. search needs) loop-holds
+    (λ c. search needs) (λ c. search needs) (λ c. search needs) (λ c. search needs) (λ c. search needs) (λ c. search needs) (λ c. search needs)
+    (λ c. search needs) (λ c κs. search needs) loop-less loop-again (λ c. search needs) returns-2)

@@ -35,7 +35,5 @@ returns c =
     rw e at (w .inv .1)
 
 pub find-firsts-spec : {M : Type 1} → statement M
-find-firsts-spec =
-    tie.close
-    (tie.spec Inv-loop μ-loop (λ c. search needs) loop-holds (λ c. search needs) (λ c. search needs) (λ c. search needs) (λ c. search needs)
-    first-from-requires (λ c. search needs) loop-again (λ c. search needs) returns)
+find-firsts-spec = tie.close (tie.spec Inv-loop μ-loop (λ c. search needs) loop-holds (λ c. search needs) (λ c. search needs) (λ c. search needs)
+    (λ c. search needs) first-from-requires (λ c. search needs) loop-again (λ c. search needs) returns)

@@ -57,7 +57,5 @@ returns-4 c =
     later-none (a .columns .now) (a .at) (a .from) (c .before .before .if1 .left) (first-after (a .at) (a .from) (s .pre .0) (s .pre .1) (s .pre .2) (s .pre .3)) (s .pre .0) (omega (arith, c .if3 .left))
 
 pub next-one-spec : {M : Type 1} → statement M
-next-one-spec =
-    tie.close
-    (tie.spec (λ c. search needs) (λ c. search needs) (λ c. search needs) (λ c. search needs) cast-one add-one returns returns-2 (λ c. search needs)
-    (λ c. search needs) cast-one-2 mul-one-2 sub-one returns-3 returns-4)
+next-one-spec = tie.close (tie.spec (λ c. search needs) (λ c. search needs) (λ c. search needs) (λ c. search needs) cast-one add-one returns returns-2
+    (λ c. search needs) (λ c. search needs) cast-one-2 mul-one-2 sub-one returns-3 returns-4)

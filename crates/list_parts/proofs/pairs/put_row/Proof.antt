@@ -4,7 +4,7 @@ use Prim.Native.Nat.{_-_, _≤_}
 use native.Mathlib.Omega.{arith}
 use lib.ListN.{length}
 use Rattle.list_parts.specs.Parts.{Put, rowGates}
-use Rattle.list_parts.proofs.PutLaws.{put-none, put-more, put-most, gates-none, gates-more, gates-most}
+use Rattle.list_parts.proofs.PutLaws.{put-most, put-start, put-next, gates-most}
 use borrow.Author.Needs.{needs}
 use Rattle.list_parts.proofs.pairs.put_row.Statement.{statement}
 use Rattle.list_parts.proofs.pairs.put_row.Tie as tie
@@ -16,7 +16,8 @@ abbrev μ-loop : tie.MeasureT-loop
 μ-loop out₀ width mixed i n k₀ j₀ out k j = width - j
 
 loop-holds : tie.Need-loop-holds Inv-loop μ-loop
-loop-holds c = let a = c .before .args in (omega arith, rw (gates-none (a .mixed) (a .width) (a .i)) (put-none _ _), refl)
+unfolding rowGates
+loop-holds c = (omega arith, put-start _ _ _, refl)
 
 put-pair-requires : tie.Need-put-pair-requires Inv-loop μ-loop
 put-pair-requires c κs =
@@ -26,11 +27,10 @@ put-pair-requires c κs =
     (s .pre .0, omega arith, omega arith, omega (arith, s .pre .2, put-most (w .j) (w .inv .1) (gates-most (a .mixed) (a .width) (a .i) (w .j))))
 
 loop-again : tie.Need-loop-again Inv-loop μ-loop
+unfolding rowGates
 loop-again c =
-    let b = c .before .before .before .before .before in
-    let a = b .before .before .args in
-    let w = b .loop in
-    (omega arith, rw (gates-more (a .mixed) (a .width) (a .i) (w .j)) (put-more (w .inv .1) (c .before .before .put-pair .ensures)), c .before .before .put-pair .kept .0 ∙ w .inv .2)
+    let w = c .before .before .before .before .before .loop in
+    (omega arith, put-next _ (w .j) (w .inv .1) (c .before .before .put-pair .ensures), c .before .before .put-pair .kept .0 ∙ w .inv .2)
 
 returns : tie.Need-returns Inv-loop μ-loop
 returns c =
@@ -39,6 +39,5 @@ returns c =
     rw e at (w .inv .1)
 
 pub put-row-spec : {M : Type 1} → statement M
-put-row-spec =
-    tie.close
-    (tie.spec Inv-loop μ-loop loop-holds put-pair-requires (λ c. search needs) (λ c. search needs) loop-again (λ c. search needs) returns)
+put-row-spec = tie.close (tie.spec Inv-loop μ-loop loop-holds put-pair-requires (λ c. search needs) (λ c. search needs) loop-again (λ c. search needs)
+    returns)

@@ -5,7 +5,7 @@ use native.Mathlib.Omega.{arith}
 use native.Mathlib.Nat.{mul-le-mul-right}
 use lib.ListN.{length}
 use Rattle.list_parts.specs.Parts.{Put, pairGates}
-use Rattle.list_parts.proofs.PutLaws.{put-none, put-more, put-most, pairs-none, pairs-more, pairs-most}
+use Rattle.list_parts.proofs.PutLaws.{put-most, put-start, put-next, pairs-most}
 use borrow.Author.Needs.{needs}
 use Rattle.list_parts.proofs.pairs.put_rows.Statement.{statement}
 use Rattle.list_parts.proofs.pairs.put_rows.Tie as tie
@@ -17,7 +17,8 @@ abbrev μ-loop : tie.MeasureT-loop
 μ-loop out₀ width mixed n k₀ i₀ out k i = width - i
 
 loop-holds : tie.Need-loop-holds Inv-loop μ-loop
-loop-holds c = let a = c .before .args in (omega arith, rw (pairs-none (a .mixed) (a .width)) (put-none _ _), refl)
+unfolding pairGates
+loop-holds c = (omega arith, put-start _ _ _, refl)
 
 put-row-requires : tie.Need-put-row-requires Inv-loop μ-loop
 put-row-requires c κs =
@@ -27,11 +28,10 @@ put-row-requires c κs =
     (s .pre .0, c .before .loop-test .taken, omega (arith, s .pre .1, put-most (w .i * a .width) (w .inv .1) (pairs-most (a .mixed) (a .width) (w .i)), mul-le-mul-right {m = w .i} {n = a .width} (a .width) (omega arith)))
 
 loop-again : tie.Need-loop-again Inv-loop μ-loop
+unfolding pairGates
 loop-again c =
-    let b = c .before .before .before .before .before in
-    let a = b .before .before .args in
-    let w = b .loop in
-    (omega arith, rw (pairs-more (a .mixed) (a .width) (w .i)) (put-more (w .inv .1) (c .before .before .put-row .ensures)), c .before .before .put-row .kept .0 ∙ w .inv .2)
+    let w = c .before .before .before .before .before .loop in
+    (omega arith, put-next _ (w .i) (w .inv .1) (c .before .before .put-row .ensures), c .before .before .put-row .kept .0 ∙ w .inv .2)
 
 returns : tie.Need-returns Inv-loop μ-loop
 returns c =
@@ -40,6 +40,5 @@ returns c =
     rw e at (w .inv .1)
 
 pub put-rows-spec : {M : Type 1} → statement M
-put-rows-spec =
-    tie.close
-    (tie.spec Inv-loop μ-loop loop-holds put-row-requires (λ c. search needs) (λ c. search needs) loop-again (λ c. search needs) returns)
+put-rows-spec = tie.close (tie.spec Inv-loop μ-loop loop-holds put-row-requires (λ c. search needs) (λ c. search needs) loop-again (λ c. search needs)
+    returns)

@@ -46,7 +46,5 @@ returns-2 c =
     (x .put, x .sums)
 
 pub put-folds-spec : {M : Type 1} → statement M
-put-folds-spec =
-    tie.close
-    (tie.spec (λ c κs. search needs) returns (λ c. search needs) fill-requires (λ c. search needs) (λ c. search needs) (λ c κs. search needs)
-    (λ c. search needs) (λ c. search needs) put-each-requires (λ c. search needs) (λ c. search needs) returns-2)
+put-folds-spec = tie.close (tie.spec (λ c κs. search needs) returns (λ c. search needs) fill-requires (λ c. search needs) (λ c. search needs)
+    (λ c κs. search needs) (λ c. search needs) (λ c. search needs) put-each-requires (λ c. search needs) (λ c. search needs) returns-2)

@@ -14,7 +14,5 @@ returns c =
     sets-three (a .out .now) _ _ _ (2 + 3 * a .n) (a .kind) (a .left) (a .right) (first .put .ensures) (second .put2 .ensures) (third .put3 .ensures)
 
 pub put-gate-spec : {M : Type 1} → statement M
-put-gate-spec =
-    tie.close
-    (tie.spec (λ c. search needs) (λ c. search needs) (λ c κs. search needs) (λ c. search needs) (λ c κs. search needs) (λ c. search needs)
-    (λ c κs. search needs) (λ c. search needs) returns)
+put-gate-spec = tie.close (tie.spec (λ c. search needs) (λ c. search needs) (λ c κs. search needs) (λ c. search needs) (λ c κs. search needs)
+    (λ c. search needs) (λ c κs. search needs) (λ c. search needs) returns)

@@ -42,6 +42,5 @@ returns c =
     rw e at (w .inv .1)
 
 pub push-pairs-spec : {M : Type 1} → statement M
-push-pairs-spec =
-    tie.close
-    (tie.spec Inv-loop μ-loop loop-holds push-row-requires (λ c. search needs) (λ c. search needs) loop-again (λ c. search needs) returns)
+push-pairs-spec = tie.close (tie.spec Inv-loop μ-loop loop-holds push-row-requires (λ c. search needs) (λ c. search needs) loop-again (λ c. search needs)
+    returns)

@@ -56,7 +56,5 @@ returns-2 c =
     push-plain (s .args .columns .now) (s .args .r) (s .pre .2) (b .before .minus .ensures .0) (b .row-base .ensures) (d .if1 .left) (p .push-run2 .ensures) (c .before .before .push-run3 .ensures)
 
 pub push-row-spec : {M : Type 1} → statement M
-push-row-spec =
-    tie.close
-    (tie.spec (λ c κs. search needs) (λ c. search needs) (λ c κs. search needs) add-start (λ c. search needs) push-run-requires (λ c. search needs) returns
-    sub-push-run push-run-requires-2 push-run-requires-3 (λ c. search needs) returns-2)
+push-row-spec = tie.close (tie.spec (λ c κs. search needs) (λ c. search needs) (λ c κs. search needs) add-start (λ c. search needs) push-run-requires
+    (λ c. search needs) returns sub-push-run push-run-requires-2 push-run-requires-3 (λ c. search needs) returns-2)

@@ -49,7 +49,5 @@ returns c =
     rw e at (w .inv .3)
 
 pub push-run-spec : {M : Type 1} → statement M
-push-run-spec =
-    tie.close
-    (tie.spec Inv-loop μ-loop (λ c κs. search needs) loop-holds (λ c. search needs) (λ c. search needs) push-requires (λ c. search needs)
-    (λ c κs. search needs) (λ c. search needs) loop-again (λ c. search needs) returns)
+push-run-spec = tie.close (tie.spec Inv-loop μ-loop (λ c κs. search needs) loop-holds (λ c. search needs) (λ c. search needs) push-requires
+    (λ c. search needs) (λ c κs. search needs) (λ c. search needs) loop-again (λ c. search needs) returns)

@@ -46,7 +46,5 @@ returns c =
     (rw e at (w .inv .1 .put), rw e at (w .inv .1 .sums))
 
 pub put-each-spec : {M : Type 1} → statement M
-put-each-spec =
-    tie.close
-    (tie.spec Inv-loop μ-loop loop-holds fold-terms-requires (λ c κs. search needs) (λ c. search needs) (λ c. search needs) loop-again (λ c. search needs)
-    (λ c. search needs) returns)
+put-each-spec = tie.close (tie.spec Inv-loop μ-loop loop-holds fold-terms-requires (λ c κs. search needs) (λ c. search needs) (λ c. search needs) loop-again
+    (λ c. search needs) (λ c. search needs) returns)

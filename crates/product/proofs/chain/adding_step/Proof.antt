@@ -22,6 +22,5 @@ returns c =
     (turned-times (s .pre .0 .power) 1 (s .pre .1 .least) (t .turn .ensures) _ _ (m .times .ensures))
 
 pub adding-step-spec : {M : Type 1} → statement M
-adding-step-spec =
-    tie.close
-    (tie.spec (λ c κs. search needs) (λ c κs. search needs) times-requires (λ c. search needs) (λ c. search needs) (λ c. search needs) returns)
+adding-step-spec = tie.close (tie.spec (λ c κs. search needs) (λ c κs. search needs) times-requires (λ c. search needs) (λ c. search needs)
+    (λ c. search needs) returns)

@@ -22,6 +22,5 @@ returns c =
     (turned-times (s .pre .power) _ (s .pre .short) (t .turn .ensures) _ _ (m .times .ensures))
 
 pub doubling-step-spec : {M : Type 1} → statement M
-doubling-step-spec =
-    tie.close
-    (tie.spec (λ c κs. search needs) (λ c κs. search needs) times-requires (λ c. search needs) (λ c. search needs) (λ c. search needs) returns)
+doubling-step-spec = tie.close (tie.spec (λ c κs. search needs) (λ c κs. search needs) times-requires (λ c. search needs) (λ c. search needs)
+    (λ c. search needs) returns)

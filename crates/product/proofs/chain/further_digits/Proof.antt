@@ -27,5 +27,4 @@ returns : tie.Need-returns Inv-loop μ-loop
 returns c = omega (arith, log2-small (c .before .loop .rest) (omega arith))
 
 pub further-digits-spec : {M : Type 1} → statement M
-further-digits-spec =
-    tie.close (tie.spec Inv-loop μ-loop loop-holds add-found (λ c. search needs) loop-again returns)
+further-digits-spec = tie.close (tie.spec Inv-loop μ-loop loop-holds add-found (λ c. search needs) loop-again returns)

@@ -1,16 +1,12 @@
 -- `product::chain::last` meets its contract.
 use mathlib.Core.Path.{refl, ap, _∙_}
 use Prim.Native.Nat.{_-_}
-use native.Mathlib.Omega.{arith}
 use Rattle.gf2.specs.Inverse.{start, digits}
 use Rattle.product.specs.Inner.{stateOf}
 use Rattle.product.proofs.ChainSteps.{start-underway}
 use borrow.Author.Needs.{needs}
 use Rattle.product.proofs.chain.last.Statement.{statement}
 use Rattle.product.proofs.chain.last.Tie as tie
-
-sub-further-digits : tie.Need-sub-further-digits
-sub-further-digits c = omega (arith, c .before .pre .0 .least)
 
 double-requires : tie.Need-double-requires
 double-requires c κs =
@@ -24,5 +20,4 @@ returns c =
     ∙ ap (λ u. stateOf (x .width) (digits (x .width) (x .table .now) (x .a .bytes) (x .width - 1) u (start (x .a .bytes)))) (c .before .before .before .further-digits .ensures)
 
 pub last-spec : {M : Type 1} → statement M
-last-spec =
-    tie.close (tie.spec sub-further-digits (λ c κs. search needs) (λ c. search needs) double-requires returns)
+last-spec = tie.close (tie.spec (λ c. search needs) (λ c κs. search needs) (λ c. search needs) double-requires returns)

@@ -6,30 +6,23 @@ use Prim.Native.Nat.{ℕ}
 use lib.ListN.{length, getD}
 use mir.Val.{Fits}
 use mir.Syntax.{w8}
-use borrow.Author.Tests.{not-true, not-false}
 use Rattle.gf2.specs.Operands.{carriedBytes}
-use Rattle.judging.specs.declared.fault.Fault.{Fault}
-use Rattle.judging.specs.Causes.{faultOf}
 use Rattle.judging.specs.FaultTable.{isZero}
-use Rattle.judging.proofs.CauseLaws.{ends, follows, head-holds, none-given}
-use Rattle.product.specs.Inner.{tableCauses, unitCauses}
+use Rattle.judging.proofs.CauseLaws.{head-holds, none-given}
+use Rattle.table.proofs.Parts.{Part, stopped, further-fault}
+use Rattle.product.specs.Inner.{tableCauses}
 use Rattle.product.proofs.Judged.{clear-zero}
 use borrow.Author.Needs.{needs}
 use Rattle.product.proofs.judge.judge_unit.Statement.{statement}
 use Rattle.product.proofs.judge.judge_unit.Tie as tie
 
-returns : tie.Need-returns
-returns c =
-    let s = c .before .before in
-    let a = s .before .before .args in
-    ends (tableCauses (a .width) (a .table .now) (a .x)) (isZero carriedBytes (a .width) (a .x) ∷ []) (s .judge-table .ensures) (c .before .is-none .ensures) (not-true _ (c .if1 .taken))
+-- the table and the bits, then zero
+first : (c : tie.After-is-none) → let a = c .before .before .before .args in
+    Part (tableCauses (a .width) (a .table .now) (a .x)) (isZero carriedBytes (a .width) (a .x) ∷ []) (c .before .judge-table .result) (c .is-none .result)
+first c = record { given = c .before .judge-table .ensures; tested = c .is-none .ensures }
 
--- where the table and the bits have passed
-after : (c : tie.Else1) → let a = c .before .before .before .before .args in (f : Fault) → f ≡ faultOf (isZero carriedBytes (a .width) (a .x) ∷ []) → f ≡ faultOf (unitCauses (a .width) (a .table .now) (a .x))
-after c f h =
-    let s = c .before .before in
-    let a = s .before .before .args in
-    follows (tableCauses (a .width) (a .table .now) (a .x)) (isZero carriedBytes (a .width) (a .x) ∷ []) (s .judge-table .ensures) (c .before .is-none .ensures) (not-false _ (c .if1 .left)) h
+returns : tie.Need-returns
+returns c = stopped (first (c .before)) (c .if1 .taken)
 
 -- what the test of the bits says of zero
 tested : (c : tie.After-is-clear) → let a = c .before .before .before .before .before .args in (b : Bool) → c .is-clear .result ≡ b → isZero carriedBytes (a .width) (a .x) .test ≡ b
@@ -40,10 +33,10 @@ tested c b e =
     sym (clear-zero (a .width) (a .x) size (λ k. small k .fits)) ∙ sym (c .is-clear .ensures) ∙ e
 
 returns-2 : tie.Need-returns-2
-returns-2 c = after (c .before .before) _ (sym (head-holds (isZero _ _ _) [] (tested (c .before) _ (c .if2 .taken))))
+returns-2 c = let i = c .before .before in further-fault (first (i .before)) (i .if1 .left) (sym (head-holds (isZero _ _ _) [] (tested (c .before) _ (c .if2 .taken))))
 
 returns-3 : tie.Need-returns-3
-returns-3 c = after (c .before .before) _ (sym (none-given (isZero _ _ _ ∷ []) (tested (c .before) _ (c .if2 .left), tt)))
+returns-3 c = let i = c .before .before in further-fault (first (i .before)) (i .if1 .left) (sym (none-given (isZero _ _ _ ∷ []) (tested (c .before) _ (c .if2 .left), tt)))
 
 pub judge-unit-spec : {M : Type 1} → statement M
 judge-unit-spec = tie.close (tie.spec (λ c κs. search needs) (λ c κs. search needs) returns (λ c κs. search needs) returns-2 returns-3)

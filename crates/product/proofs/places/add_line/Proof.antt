@@ -1,7 +1,8 @@
 -- `product::places::add_line` meets its contract.
 use mathlib.Core.Path.{_≡_, _∙_}
-use Prim.Native.Nat.{_+_, _-_, _*_}
+use Prim.Native.Nat.{_+_, _-_, _*_, _≤_}
 use native.Mathlib.Omega.{arith}
+use lib.ListN.{length}
 use Rattle.gf2.specs.Operands.{carriedBytes, bytesFor}
 use Rattle.gf2.specs.Tables.{row}
 use Rattle.gf2.specs.Coordinates.{coord, pack}
@@ -11,20 +12,9 @@ use borrow.Author.Needs.{needs}
 use Rattle.product.proofs.places.add_line.Statement.{statement}
 use Rattle.product.proofs.places.add_line.Tie as tie
 
-mul-from : tie.Need-mul-from
-mul-from c =
-    let a = c .before .before .before in
-    rw (c .bytes-for .ensures) (omega (arith, row-within (a .args .width) (a .args .d) (a .args .table .now) (a .pre .0 .isTable .size) (a .pre .1)))
-
-add-carried : tie.Need-add-carried
-add-carried c =
-    let a = c .before .before .before in
-    rw (c .bytes-for .ensures) (omega (arith, row-within (a .args .width) (a .args .d) (a .args .table .now) (a .pre .0 .isTable .size) (a .pre .1)))
-
-part-carried-end : tie.Need-part-carried-end
-part-carried-end c =
-    let a = c .before .before .before in
-    rw (c .bytes-for .ensures) (omega (arith, row-within (a .args .width) (a .args .d) (a .args .table .now) (a .pre .0 .isTable .size) (a .pre .1)))
+-- the row lies within the table
+within : (c : tie.After-bytes-for) → let a = c .before .before .before .args in a .d * bytesFor (a .width) + bytesFor (a .width) ≤ length (a .table .now)
+within c = let s = c .before .before .before in row-within (s .args .width) (s .args .d) (s .args .table .now) (s .pre .0 .isTable .size) (s .pre .1)
 
 returns : tie.Need-returns
 unfolding row
@@ -38,7 +28,7 @@ returns c =
     line-added (s .pre .0) (a .d) (s .pre .1) (a .e) (s .pre .2) line (c .before .before .before .before .to-limbs .ensures) (c .before .before .add-row .ensures)
 
 pub add-line-spec : {M : Type 1} → statement M
-add-line-spec =
-    tie.close
-    (tie.spec (λ c κs. search needs) mul-from add-carried (λ c. search needs) (λ c. search needs) part-carried-end (λ c κs. search needs)
-    (λ c κs. search needs) (λ c κs. search needs) (λ c. search needs) returns)
+add-line-spec = tie.close (tie.spec (λ c κs. search needs) (λ c. rw (c .bytes-for .ensures) (omega (arith, within c)))
+    (λ c. rw (c .bytes-for .ensures) (omega (arith, within c))) (λ c. search needs) (λ c. search needs)
+    (λ c. rw (c .bytes-for .ensures) (omega (arith, within c))) (λ c κs. search needs) (λ c κs. search needs) (λ c κs. search needs) (λ c. search needs)
+    returns)

@@ -12,7 +12,5 @@ returns c =
     gathered-made (s .pre .0) (s .pre .1) (s .pre .2) (b .before .before .before .spread .ensures) (b .before .window .ensures) (b .below-width .ensures) (w .window2 .ensures) (c .before .before .below-width2 .ensures) (c .before .sum .ensures)
 
 pub gathered-spec : {M : Type 1} → statement M
-gathered-spec =
-    tie.close
-    (tie.spec (λ c κs. search needs) (λ c. search needs) (λ c κs. search needs) (λ c κs. search needs) (λ c. search needs) (λ c κs. search needs)
-    (λ c κs. search needs) (λ c κs. search needs) returns)
+gathered-spec = tie.close (tie.spec (λ c κs. search needs) (λ c. search needs) (λ c κs. search needs) (λ c κs. search needs) (λ c. search needs)
+    (λ c κs. search needs) (λ c κs. search needs) (λ c κs. search needs) returns)

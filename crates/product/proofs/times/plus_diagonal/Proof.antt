@@ -17,7 +17,5 @@ returns-2 c =
     (plus-products (s .pre) (s .args .x) (s .args .y) (m .masked .ensures) (c .before .before .before .below-width .ensures) (c .before .before .square .ensures) (c .before .sum .ensures))
 
 pub plus-diagonal-spec : {M : Type 1} → statement M
-plus-diagonal-spec =
-    tie.close
-    (tie.spec (λ c. search needs) (λ c. search needs) (λ c κs. search needs) (λ c κs. search needs) (λ c κs. search needs) (λ c κs. search needs) returns
-    returns-2)
+plus-diagonal-spec = tie.close (tie.spec (λ c. search needs) (λ c. search needs) (λ c κs. search needs) (λ c κs. search needs) (λ c κs. search needs)
+    (λ c κs. search needs) returns returns-2)

@@ -55,7 +55,5 @@ returns c =
     (c .before .gathered .ensures) (c .plus-diagonal .ensures)
 
 pub times-spec : {M : Type 1} → statement M
-times-spec =
-    tie.close
-    (tie.spec (λ c κs. search needs) (λ c κs. search needs) (λ c κs. search needs) (λ c κs. search needs) add-rows-requires gathered-requires
-    plus-diagonal-requires (λ c. search needs) returns)
+times-spec = tie.close (tie.spec (λ c κs. search needs) (λ c κs. search needs) (λ c κs. search needs) (λ c κs. search needs) add-rows-requires
+    gathered-requires plus-diagonal-requires (λ c. search needs) returns)

@@ -34,5 +34,4 @@ returns-2 c =
     rw (s .before .judge-shape .ensures, judged (shapeCauses (a .width) (a .table .now)) [] (s .before .judge-shape .ensures) (s .is-none .ensures) (c .if1 .left))
 
 pub ones-spec : {M : Type 1} → statement M
-ones-spec =
-    tie.close (tie.spec (λ c κs. search needs) (λ c κs. search needs) (λ c κs. search needs) returns returns-2)
+ones-spec = tie.close (tie.spec (λ c κs. search needs) (λ c κs. search needs) (λ c κs. search needs) returns returns-2)

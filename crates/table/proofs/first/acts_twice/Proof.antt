@@ -17,14 +17,8 @@ use Rattle.table.proofs.first.acts_twice.Tie as tie
 before : (c : tie.After-wrapped) → c .wrapped .result < c .before .before .args .width
 before c = rw (c .wrapped .ensures) (mod-lt _ (omega (arith, c .before .before .pre .0 .least)))
 
-row-bytes-requires : tie.Need-row-bytes-requires
-row-bytes-requires c κs = let p = c .before .before .pre in (p .0 .greatest, p .0 .isTable .size, before c)
-
 turned-requires : tie.Need-turned-requires
 turned-requires c κs = let p = c .before .before .before .pre in row-turns (p .0) _ (before (c .before)) (c .row-bytes .ensures) _ (omega (arith, p .0 .least))
-
-row-bytes-requires-2 : tie.Need-row-bytes-requires-2
-row-bytes-requires-2 c κs = let p = c .before .before .before .before .pre in (p .0 .greatest, p .0 .isTable .size, p .2)
 
 times-first-requires : tie.Need-times-first-requires
 times-first-requires c κs = let p = c .before .before .before .before .before .pre in (p .0, rw (c .row-bytes2 .ensures) (row-operand (p .0) _ (p .2)))
@@ -44,7 +38,5 @@ returns c =
     ∙ same-carried (omega (arith, p .0 .greatest)) (left-operand _ _ _ _) (right-operand _ _ _ _)
 
 pub acts-twice-spec : {M : Type 1} → statement M
-acts-twice-spec =
-    tie.close
-    (tie.spec (λ c. search needs) (λ c. search needs) (λ c κs. search needs) row-bytes-requires turned-requires row-bytes-requires-2 times-first-requires
-    (λ c κs. search needs) returns)
+acts-twice-spec = tie.close (tie.spec (λ c. search needs) (λ c. search needs) (λ c κs. search needs)
+    (λ c κs. let p = c .before .before .pre in (p .0, before c)) turned-requires (λ c κs. search needs) times-first-requires (λ c κs. search needs) returns)

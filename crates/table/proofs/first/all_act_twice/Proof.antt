@@ -20,9 +20,6 @@ abbrev μ-loop : tie.MeasureT-loop
 loop-holds : tie.Need-loop-holds Inv-loop μ-loop
 loop-holds c = (omega arith, every-none _)
 
-acts-twice-requires : tie.Need-acts-twice-requires Inv-loop μ-loop
-acts-twice-requires c κs = let p = c .before .before .before .pre in (p .0, p .1, c .loop-test .taken)
-
 returns : tie.Need-returns Inv-loop μ-loop
 returns c = sym (every-not _ _ _ (c .before .before .loop-test .taken) (sym (c .before .acts-twice .ensures) ∙ not-true _ (c .if1 .taken)))
 
@@ -37,4 +34,5 @@ returns-2 c =
     sym (ap (λ n. every n (associates (a .width) (a .table .now) 0)) (sym e) ∙ l .inv .1)
 
 pub all-act-twice-spec : {M : Type 1} → statement M
-all-act-twice-spec = tie.close (tie.spec Inv-loop μ-loop loop-holds acts-twice-requires returns (λ c. search needs) (λ c. search needs) loop-again returns-2)
+all-act-twice-spec = tie.close (tie.spec Inv-loop μ-loop loop-holds (λ c κs. search needs) returns (λ c. search needs) (λ c. search needs) loop-again
+    returns-2)

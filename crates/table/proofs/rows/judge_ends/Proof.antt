@@ -32,15 +32,6 @@ within c =
     let s = c .before .before .before .before .before in
     rw (c .before .before .bytes-for .ensures) (last-within (s .args .width) (s .args .table .now) (s .pre .1) (c .before .before .before .if1 .left) (c .before .loop .d) (c .loop-test .taken))
 
-mul-all : tie.Need-mul-all Inv-loop μ-loop
-mul-all c = omega (arith, within c)
-
-add-all : tie.Need-add-all Inv-loop μ-loop
-add-all c = omega (arith, within c)
-
-shared-slice-read-all : tie.Need-shared-slice-read-all Inv-loop μ-loop
-shared-slice-read-all c = within (c .before)
-
 loop-again : tie.Need-loop-again Inv-loop μ-loop
 loop-again c =
     let l = c .before .before in
@@ -66,7 +57,5 @@ returns-3 c =
     sym (ends-clear _ _ (s .pre .1) (c .before .before .before .before .if1 .left) (sym (ap (λ y. y / 2 ^ (s .args .width % 8)) (whole (c .before))) ∙ c .if2 .left))
 
 pub judge-ends-spec : {M : Type 1} → statement M
-judge-ends-spec =
-    tie.close
-    (tie.spec Inv-loop μ-loop returns (λ c κs. search needs) loop-holds mul-all add-all shared-slice-read-all (λ c. search needs) (λ c. search needs)
-    loop-again (λ c. search needs) (λ c. search needs) returns-2 returns-3)
+judge-ends-spec = tie.close (tie.spec Inv-loop μ-loop returns (λ c κs. search needs) loop-holds (λ c. omega (arith, within c)) (λ c. omega (arith, within c))
+    (λ c. within (c .before)) (λ c. search needs) (λ c. search needs) loop-again (λ c. search needs) (λ c. search needs) returns-2 returns-3)

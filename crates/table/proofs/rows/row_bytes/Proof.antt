@@ -1,7 +1,8 @@
 -- `table::rows::row_bytes` meets its contract.
 use mathlib.Core.Path.{_≡_, _∙_}
-use Prim.Native.Nat.{_+_, _-_, _*_}
+use Prim.Native.Nat.{_+_, _-_, _*_, _≤_}
 use native.Mathlib.Omega.{arith}
+use lib.ListN.{length}
 use Rattle.gf2.specs.Operands.{bytesFor}
 use Rattle.gf2.specs.Tables.{row}
 use Rattle.table.proofs.Shapes.{row-within}
@@ -9,20 +10,9 @@ use borrow.Author.Needs.{needs}
 use Rattle.table.proofs.rows.row_bytes.Statement.{statement}
 use Rattle.table.proofs.rows.row_bytes.Tie as tie
 
-mul-from : tie.Need-mul-from
-mul-from c =
-    let a = c .before .before in
-    rw (c .bytes-for .ensures) (omega (arith, row-within (a .args .width) (a .args .d) (a .args .table .now) (a .pre .1) (a .pre .2)))
-
-add-carried : tie.Need-add-carried
-add-carried c =
-    let a = c .before .before in
-    rw (c .bytes-for .ensures) (omega (arith, row-within (a .args .width) (a .args .d) (a .args .table .now) (a .pre .1) (a .pre .2)))
-
-part-carried-end : tie.Need-part-carried-end
-part-carried-end c =
-    let a = c .before .before in
-    rw (c .bytes-for .ensures) (omega (arith, row-within (a .args .width) (a .args .d) (a .args .table .now) (a .pre .1) (a .pre .2)))
+-- the row lies within the table
+within : (c : tie.After-bytes-for) → let a = c .before .before .args in a .d * bytesFor (a .width) + bytesFor (a .width) ≤ length (a .table .now)
+within c = let s = c .before .before in row-within (s .args .width) (s .args .d) (s .args .table .now) (s .pre .0 .isTable .size) (s .pre .1)
 
 returns : tie.Need-returns
 unfolding row
@@ -32,6 +22,6 @@ returns c =
     c .carried .ensures ∙ rw (c .before .before .bytes-for .ensures, w)
 
 pub row-bytes-spec : {M : Type 1} → statement M
-row-bytes-spec =
-    tie.close
-    (tie.spec (λ c κs. search needs) mul-from add-carried (λ c. search needs) (λ c. search needs) part-carried-end (λ c κs. search needs) returns)
+row-bytes-spec = tie.close (tie.spec (λ c κs. search needs) (λ c. rw (c .bytes-for .ensures) (omega (arith, within c)))
+    (λ c. rw (c .bytes-for .ensures) (omega (arith, within c))) (λ c. search needs) (λ c. search needs)
+    (λ c. rw (c .bytes-for .ensures) (omega (arith, within c))) (λ c κs. search needs) returns)

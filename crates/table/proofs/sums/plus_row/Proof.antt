@@ -7,9 +7,6 @@ use borrow.Author.Needs.{needs}
 use Rattle.table.proofs.sums.plus_row.Statement.{statement}
 use Rattle.table.proofs.sums.plus_row.Tie as tie
 
-row-bytes-requires : tie.Need-row-bytes-requires
-row-bytes-requires c κs = let p = c .before .pre in (p .0 .greatest, p .0 .isTable .size, p .1)
-
 returns : tie.Need-returns
 returns c =
     let p = c .before .before .before .before in
@@ -17,5 +14,4 @@ returns c =
     ∙ plus-row (p .pre .0) (p .args .d) (p .pre .1) (p .args .total) (c .before .to-limbs .ensures ∙ ap (λ x. packLimbs carriedLimbs (coord x)) (c .before .before .row-bytes .ensures))
 
 pub plus-row-spec : {M : Type 1} → statement M
-plus-row-spec =
-    tie.close (tie.spec row-bytes-requires (λ c κs. search needs) (λ c κs. search needs) returns)
+plus-row-spec = tie.close (tie.spec (λ c κs. search needs) (λ c κs. search needs) (λ c κs. search needs) returns)

@@ -27,21 +27,12 @@ loop-holds c =
     let small : (w : ℕ) → Fits w64 (getD (a .total) w 0) = λ w. search needs in
     (c .before .fits .limb .fits, c .before .pre .1, packed-limbs size (λ w. small w .fits), refl)
 
-cast-zeros : tie.Need-cast-zeros Inv-loop μ-loop
-cast-zeros c = omega (arith, trailing-le 64 (c .before .loop .rest))
-
 -- the row of the lowest one
 within : (c : tie.In-loop Inv-loop μ-loop) → let a = c .before .before .before .args in a .from + trailingZeros 64 (c .before .loop .rest) < a .width
 within c =
     let a = c .before .before .before .args in
     let l = c .before .loop in
     ones-within (a .width) (a .table .now) (a .from) (l .rest) (l .inv .0) (c .loop-test .taken) (l .inv .1)
-
-add-plus-row : tie.Need-add-plus-row Inv-loop μ-loop
-add-plus-row c = omega (arith, within c, c .before .before .before .pre .0 .greatest)
-
-plus-row-requires : tie.Need-plus-row-requires Inv-loop μ-loop
-plus-row-requires c κs = (c .before .before .before .pre .0, within c)
 
 loop-less : tie.Need-loop-less Inv-loop μ-loop
 loop-less c = let l = c .before .before .loop in lowest-less 64 (l .rest) (l .inv .0) (c .before .loop-test .taken)
@@ -61,4 +52,6 @@ returns : tie.Need-returns Inv-loop μ-loop
 returns c = let l = c .before .loop in ones-none _ _ _ (l .inv .2) (c .loop-test .left) ∙ l .inv .3
 
 pub plus-rows-spec : {M : Type 1} → statement M
-plus-rows-spec = tie.close (tie.spec Inv-loop μ-loop loop-holds cast-zeros add-plus-row plus-row-requires (λ c. search needs) loop-less loop-again returns)
+plus-rows-spec = tie.close (tie.spec Inv-loop μ-loop loop-holds (λ c. omega (arith, trailing-le 64 (c .before .loop .rest)))
+    (λ c. omega (arith, within c, c .before .before .before .pre .0 .greatest)) (λ c κs. (c .before .before .before .pre .0, within c)) (λ c. search needs)
+    loop-less loop-again returns)

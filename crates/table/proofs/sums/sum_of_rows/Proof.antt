@@ -24,9 +24,6 @@ loop-holds c =
     let s = c .before .before .before .pre in
     (omega arith, ap (λ (r : OperandAnswer). r .value) (c .before .zero .ensures ∙ zero-done (width-of s)) ∙ ap (carry _) (rows-none _ _))
 
-row-at-requires : tie.Need-row-at-requires Inv-loop μ-loop
-row-at-requires c κs = (c .before .before .before .before .before .pre, c .loop-test .taken)
-
 loop-again : tie.Need-loop-again Inv-loop μ-loop
 loop-again c =
     let s = c .before .before .before .before .before .before .before .before .pre in
@@ -46,7 +43,5 @@ returns c =
     w .inv .1 ∙ ap (carry _) (ap (firstRows (a .width) (a .table .now)) e ∙ rows-all (c .before .before .before .before .before .pre))
 
 pub sum-of-rows-spec : {M : Type 1} → statement M
-sum-of-rows-spec =
-    tie.close
-    (tie.spec Inv-loop μ-loop (λ c κs. search needs) loop-holds row-at-requires (λ c κs. search needs) (λ c. search needs) (λ c. search needs) loop-again
-    returns)
+sum-of-rows-spec = tie.close (tie.spec Inv-loop μ-loop (λ c κs. search needs) loop-holds (λ c κs. search needs) (λ c κs. search needs) (λ c. search needs)
+    (λ c. search needs) loop-again returns)

@@ -33,7 +33,5 @@ returns c =
     c .to-bytes .ensures ∙ ap (λ x. pack carriedBytes (limbCoord x)) (l .inv .1) ∙ limbs-all (p .0) (p .1) (c .before .before .before .to-limbs .ensures) last
 
 pub times-first-spec : {M : Type 1} → statement M
-times-first-spec =
-    tie.close
-    (tie.spec Inv-loop μ-loop (λ c κs. search needs) loop-holds (λ c. search needs) (λ c. search needs) (λ c. search needs) plus-rows-requires
-    (λ c. search needs) (λ c. search needs) loop-again (λ c κs. search needs) returns)
+times-first-spec = tie.close (tie.spec Inv-loop μ-loop (λ c κs. search needs) loop-holds (λ c. search needs) (λ c. search needs) (λ c. search needs)
+    plus-rows-requires (λ c. search needs) (λ c. search needs) loop-again (λ c κs. search needs) returns)

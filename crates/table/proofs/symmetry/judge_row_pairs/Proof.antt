@@ -22,9 +22,6 @@ abbrev μ-loop : tie.MeasureT-loop
 loop-holds : tie.Need-loop-holds Inv-loop μ-loop
 loop-holds c = (omega arith, refl, record { at = λ k l h. absurd (omega arith) })
 
-mirrored-requires : tie.Need-mirrored-requires Inv-loop μ-loop
-mirrored-requires c κs = let s = c .before .before .before .pre in (s, c .before .loop .inv .0, omega (arith, s .least, c .loop-test .taken))
-
 returns : tie.Need-returns Inv-loop μ-loop
 returns c =
     let s = c .before .before .before in
@@ -47,4 +44,5 @@ returns-2 c =
     sym (l .inv .1 ∙ half-search (c .before .before .before .pre) _ (omega (arith, c .loop-test .left)) (l .inv .2))
 
 pub judge-row-pairs-spec : {M : Type 1} → statement M
-judge-row-pairs-spec = tie.close (tie.spec Inv-loop μ-loop loop-holds mirrored-requires returns (λ c. search needs) (λ c. search needs) loop-again returns-2)
+judge-row-pairs-spec = tie.close (tie.spec Inv-loop μ-loop loop-holds (λ c κs. search needs) returns (λ c. search needs) (λ c. search needs) loop-again
+    returns-2)

@@ -13,12 +13,6 @@ use borrow.Author.Needs.{needs}
 use Rattle.table.proofs.symmetry.judge_row_zero.Statement.{statement}
 use Rattle.table.proofs.symmetry.judge_row_zero.Tie as tie
 
-row-bytes-requires : tie.Need-row-bytes-requires
-row-bytes-requires c κs = let s = c .before .pre in (s .greatest, s .isTable .size, omega (arith, s .least))
-
-basis-bytes-requires : tie.Need-basis-bytes-requires
-basis-bytes-requires c κs = let s = c .before .before .pre in (omega arith, s .least, s .greatest)
-
 -- what the test of the carried bytes says of the table's
 tested : (c : tie.After-same-bytes) → let a = c .before .before .before .before .args in c .same-bytes .result ≡ same (row (a .width) (a .table .now) 0) (basis (a .width) 1)
 tested c =
@@ -33,4 +27,4 @@ returns-2 : tie.Need-returns-2
 returns-2 c = sym (head-holds (rowZeroWrong _ _) [] (ap not (sym (tested (c .before)) ∙ c .if1 .left)))
 
 pub judge-row-zero-spec : {M : Type 1} → statement M
-judge-row-zero-spec = tie.close (tie.spec row-bytes-requires basis-bytes-requires (λ c κs. search needs) returns returns-2)
+judge-row-zero-spec = tie.close (tie.spec (λ c κs. search needs) (λ c κs. search needs) (λ c κs. search needs) returns returns-2)

@@ -10,12 +10,6 @@ use borrow.Author.Needs.{needs}
 use Rattle.table.proofs.symmetry.mirrored.Statement.{statement}
 use Rattle.table.proofs.symmetry.mirrored.Tie as tie
 
-row-bytes-requires : tie.Need-row-bytes-requires
-row-bytes-requires c κs = let p = c .before .pre in (p .0 .greatest, p .0 .isTable .size, p .2)
-
-row-bytes-requires-2 : tie.Need-row-bytes-requires-2
-row-bytes-requires-2 c κs = let p = c .before .before .pre in (p .0 .greatest, p .0 .isTable .size, omega (arith, p .1, p .2))
-
 turned-requires : tie.Need-turned-requires
 turned-requires c κs = let p = c .before .before .before .pre in row-turns (p .0) _ (omega (arith, p .1, p .2)) (c .row-bytes2 .ensures) _ (p .2)
 
@@ -34,4 +28,4 @@ returns c =
     ∙ same-carried short (p .0 .isTable .rows (a .d) (p .2)) (turned-is has (a .d))
 
 pub mirrored-spec : {M : Type 1} → statement M
-mirrored-spec = tie.close (tie.spec row-bytes-requires (λ c. search needs) row-bytes-requires-2 turned-requires (λ c κs. search needs) returns)
+mirrored-spec = tie.close (tie.spec (λ c κs. search needs) (λ c. search needs) (λ c κs. search needs) turned-requires (λ c κs. search needs) returns)

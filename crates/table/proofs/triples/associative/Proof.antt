@@ -9,12 +9,6 @@ use borrow.Author.Needs.{needs}
 use Rattle.table.proofs.triples.associative.Statement.{statement}
 use Rattle.table.proofs.triples.associative.Tie as tie
 
-left-product-requires : tie.Need-left-product-requires
-left-product-requires c κs = c .before .pre
-
-right-product-requires : tie.Need-right-product-requires
-right-product-requires c κs = let p = c .before .before .pre in (p .0, p .2, p .3)
-
 returns : tie.Need-returns
 unfolding associates
 returns c =
@@ -24,5 +18,4 @@ returns c =
     ∙ same-carried (omega (arith, s .0 .greatest)) (left-operand _ _ _ _) (right-operand _ _ _ _)
 
 pub associative-spec : {M : Type 1} → statement M
-associative-spec =
-    tie.close (tie.spec left-product-requires right-product-requires (λ c κs. search needs) returns)
+associative-spec = tie.close (tie.spec (λ c κs. search needs) (λ c κs. search needs) (λ c κs. search needs) returns)

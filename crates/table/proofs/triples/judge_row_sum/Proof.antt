@@ -15,12 +15,6 @@ use borrow.Author.Needs.{needs}
 use Rattle.table.proofs.triples.judge_row_sum.Statement.{statement}
 use Rattle.table.proofs.triples.judge_row_sum.Tie as tie
 
-sum-of-rows-requires : tie.Need-sum-of-rows-requires
-sum-of-rows-requires c κs = c .before .pre
-
-basis-bytes-requires : tie.Need-basis-bytes-requires
-basis-bytes-requires c κs = let s = c .before .before .before .pre in (omega arith, omega (arith, s .least), s .greatest)
-
 -- what the test of the carried bytes says of the table's
 tested : (c : tie.After-same-bytes) → let a = c .before .before .before .before .before .args in
     c .same-bytes .result ≡ same (rowSum (a .width) (a .table .now)) (basis (a .width) 0)
@@ -37,4 +31,4 @@ returns-2 : tie.Need-returns-2
 returns-2 c = sym (head-holds (rowSumWrong _ _) [] (ap not (sym (tested (c .before)) ∙ c .if1 .left)))
 
 pub judge-row-sum-spec : {M : Type 1} → statement M
-judge-row-sum-spec = tie.close (tie.spec sum-of-rows-requires basis-bytes-requires (λ c κs. search needs) returns returns-2)
+judge-row-sum-spec = tie.close (tie.spec (λ c κs. search needs) (λ c κs. search needs) (λ c κs. search needs) returns returns-2)

@@ -5,15 +5,8 @@ use borrow.Author.Needs.{needs}
 use Rattle.table.proofs.triples.judge_triples.Statement.{statement}
 use Rattle.table.proofs.triples.judge_triples.Tie as tie
 
-all-act-twice-requires : tie.Need-all-act-twice-requires
-all-act-twice-requires c κs = c .before .pre
-
 returns : tie.Need-returns
 returns c = let p = c .before .before .before .pre in sym (first-passes _ _ (p .0) (p .1) (sym (c .before .all-act-twice .ensures) ∙ c .if1 .taken))
 
-search-triples-requires : tie.Need-search-triples-requires
-search-triples-requires c κs = c .before .before .before .pre
-
 pub judge-triples-spec : {M : Type 1} → statement M
-judge-triples-spec =
-    tie.close (tie.spec all-act-twice-requires returns search-triples-requires (λ c. search needs))
+judge-triples-spec = tie.close (tie.spec (λ c κs. search needs) returns (λ c κs. search needs) (λ c. search needs))

@@ -12,12 +12,6 @@ use borrow.Author.Needs.{needs}
 use Rattle.table.proofs.triples.left_product.Statement.{statement}
 use Rattle.table.proofs.triples.left_product.Tie as tie
 
-wrapped-requires : tie.Need-wrapped-requires
-wrapped-requires c κs = let p = c .before .pre in omega (arith, p .0 .least)
-
-row-bytes-requires : tie.Need-row-bytes-requires
-row-bytes-requires c κs = let p = c .before .before .pre in (p .0 .greatest, p .0 .isTable .size, p .2)
-
 turned-requires : tie.Need-turned-requires
 turned-requires c κs =
     let p = c .before .before .before .pre in
@@ -52,6 +46,5 @@ returns c =
     ∙ left-sum (p .0) (p .1) (a .i) (a .j) (p .2) (p .3)
 
 pub left-product-spec : {M : Type 1} → statement M
-left-product-spec =
-    tie.close
-    (tie.spec (λ c. search needs) wrapped-requires row-bytes-requires turned-requires times-first-requires turned-requires-2 returns)
+left-product-spec = tie.close (tie.spec (λ c. search needs) (λ c κs. search needs) (λ c κs. search needs) turned-requires times-first-requires
+    turned-requires-2 returns)

@@ -12,18 +12,9 @@ use borrow.Author.Needs.{needs}
 use Rattle.table.proofs.triples.right_product.Statement.{statement}
 use Rattle.table.proofs.triples.right_product.Tie as tie
 
-add-wrapped : tie.Need-add-wrapped
-add-wrapped c = let p = c .before .pre in omega (arith, p .0 .greatest, p .2)
-
-wrapped-requires : tie.Need-wrapped-requires
-wrapped-requires c κs = let p = c .before .pre in omega (arith, p .2)
-
 -- the row that is turned
 within : (c : tie.After-wrapped) → c .wrapped .result < c .before .before .args .width
 within c = rw (c .wrapped .ensures) (mod-lt _ (omega (arith, c .before .before .pre .0 .least)))
-
-row-bytes-requires : tie.Need-row-bytes-requires
-row-bytes-requires c κs = let p = c .before .before .pre in (p .0 .greatest, p .0 .isTable .size, within c)
 
 turned-requires : tie.Need-turned-requires
 turned-requires c κs = let p = c .before .before .before .pre in row-turns (p .0) _ (within (c .before)) (c .row-bytes .ensures) _ (p .1)
@@ -47,4 +38,5 @@ returns c =
     c .times-first .ensures ∙ ap (rowsAt (a .width) (a .table .now)) (factor (c .before) ∙ row) ∙ right-sum (p .0) (a .i) (a .j) (p .1) (p .2)
 
 pub right-product-spec : {M : Type 1} → statement M
-right-product-spec = tie.close (tie.spec (λ c. search needs) add-wrapped wrapped-requires row-bytes-requires turned-requires times-first-requires returns)
+right-product-spec = tie.close (tie.spec (λ c. search needs) (λ c. search needs) (λ c κs. search needs)
+    (λ c κs. let p = c .before .before .pre in (p .0, within c)) turned-requires times-first-requires returns)

@@ -33,9 +33,6 @@ search-holds c = (refl, sym (ap faultOf (up-start (rowCauses _ _) _)))
 loop-holds : tie.Need-loop-holds Inv-loop μ-loop Inv-search μ-search
 loop-holds c = (c .before .search .inv .0, sym (ap faultOf (up-start (pairCauses _ _ _) _)))
 
-associative-requires : tie.Need-associative-requires Inv-loop μ-loop Inv-search μ-search
-associative-requires c κs = let s = c .before .before .before .before .before .pre in (s .0, s .1, c .before .before .search-test .taken, c .loop-test .taken)
-
 loop-again : tie.Need-loop-again Inv-loop μ-loop Inv-search μ-search
 loop-again c =
     let l = c .before .before .before .loop in
@@ -63,7 +60,5 @@ returns-2 c =
     sym (s .inv .1 ∙ found-here (rowCauses _ _) _ (s .i) (c .before .before .before .before .search-test .taken) (ap isNone row ∙ some (tripleDiffers (a .width) (a .table .now) (s .i) (l .j))) ∙ row)
 
 pub search-triples-spec : {M : Type 1} → statement M
-search-triples-spec =
-    tie.close
-    (tie.spec Inv-loop μ-loop Inv-search μ-search search-holds loop-holds associative-requires (λ c. search needs) (λ c. search needs) loop-again
-    (λ c. search needs) (λ c. search needs) search-again returns returns-2)
+search-triples-spec = tie.close (tie.spec Inv-loop μ-loop Inv-search μ-search search-holds loop-holds (λ c κs. search needs) (λ c. search needs)
+    (λ c. search needs) loop-again (λ c. search needs) (λ c. search needs) search-again returns returns-2)

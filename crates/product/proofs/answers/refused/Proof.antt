@@ -1,10 +1,10 @@
--- `product::refused` meets its contract.
+-- `product::answers::refused` meets its contract.
 use mathlib.Core.Path.{ap}
 use Rattle.operand.specs.declared.OperandAnswer.{OperandAnswer}
 use Rattle.product.specs.declared.InverseAnswer.{InverseAnswer}
 use borrow.Author.Needs.{needs}
-use Rattle.product.proofs.refused.Statement.{statement}
-use Rattle.product.proofs.refused.Tie as tie
+use Rattle.product.proofs.answers.refused.Statement.{statement}
+use Rattle.product.proofs.answers.refused.Tie as tie
 
 returns : tie.Need-returns
 returns c =
