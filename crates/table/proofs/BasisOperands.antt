@@ -19,7 +19,7 @@ use Rattle.gf2.proofs.Sums.{every-at}
 use Rattle.gf2.proofs.Coordinates.{pack-of}
 use Rattle.gf2.proofs.Operands.{below-in, below-out, from-operand}
 use Rattle.gf2.proofs.Carrying.{carried-from}
-use Rattle.table.specs.Rows.{leftProduct, rightProduct}
+use Rattle.table.specs.Inner.{leftProduct, rightProduct}
 
 pub basis-operand : (m k : ℕ) → IsOperand (bytesFor m) m (basis m k)
 unfolding basis

@@ -28,7 +28,8 @@ use Rattle.judging.proofs.CauseLaws.{none-given}
 use Rattle.judging.proofs.Passed.{width-passes, IsWidth}
 use Rattle.operand.proofs.FaultFree.{done}
 use Rattle.gf2.proofs.Carrying.{coord-carried, carried-from}
-use Rattle.table.specs.Rows.{Shaped, carriedRow, rowsAt, leftProduct, rightProduct}
+use Rattle.table.specs.Rows.{Shaped}
+use Rattle.table.specs.Inner.{carriedRow, rowsAt, leftProduct, rightProduct}
 use Rattle.table.proofs.Shapes.{sized, row-short}
 
 pub minus-lt : (m j i : ℕ) → 0 < m → minus m j i < m

@@ -23,7 +23,8 @@ use Rattle.limbs.specs.Limbs.{carriedLimbs, limbCoord, packLimbs}
 use Rattle.limbs.proofs.LimbCoords.{limb-lt, limb-digit, limb-pack, limbs-lt, limbs-ext, limbs-eq, limbs-zero, limbs-same, bytes-limbs}
 use Rattle.limbs.proofs.LimbLoops.{Limbs}
 use Rattle.gf2.proofs.Carrying.{coord-carried}
-use Rattle.table.specs.Rows.{Shaped, carriedRow, rowsAt, plusRows}
+use Rattle.table.specs.Rows.{Shaped}
+use Rattle.table.specs.Inner.{carriedRow, rowsAt, plusRows}
 use Rattle.table.proofs.Shapes.{sized, row-short}
 
 pub plus-row : {m : ℕ} {t : List ℕ} → Shaped m t → (d : ℕ) → d < m → (x : List ℕ) {limbs : List ℕ} → limbs ≡ packLimbs carriedLimbs (coord (carriedRow m t d))

@@ -20,7 +20,8 @@ use Rattle.judging.specs.FaultTable.{rowsDiffer, tripleDiffers}
 use Rattle.judging.proofs.CauseLaws.{none-given}
 use Rattle.judging.proofs.Searches.{upTo, fine-from}
 use Rattle.limbs.proofs.ByteLists.{Bytes}
-use Rattle.table.specs.Rows.{Shaped, mirrors, leftProduct, rightProduct, associates}
+use Rattle.table.specs.Rows.{Shaped}
+use Rattle.table.specs.Inner.{mirrors, leftProduct, rightProduct, associates}
 use Rattle.table.proofs.BasisOperands.{basis-operand}
 
 module _ (m : ℕ) (t : List ℕ) where

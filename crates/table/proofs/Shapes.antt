@@ -29,7 +29,8 @@ use Rattle.judging.proofs.Passed.{IsWidth, is-width, width-passes, as-laid-down
 use Rattle.limbs.proofs.ByteLists.{Bytes}
 use Rattle.limbs.proofs.LimbLoops.{ored, ored-at, ored-of, ored-shr}
 use Rattle.gf2.proofs.Carrying.{carried-operand}
-use Rattle.table.specs.Rows.{Shaped, carriedRow}
+use Rattle.table.specs.Rows.{Shaped}
+use Rattle.table.specs.Inner.{carriedRow}
 use Rattle.table.specs.Judgements.{shapeFault}
 
 -- 1 and 2 of a table

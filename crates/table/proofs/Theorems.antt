@@ -24,7 +24,8 @@ use Rattle.judging.proofs.CauseLaws.{Fine, fine, none-given, none-fine, keeps, 
 use Rattle.judging.proofs.Searches.{fine-append, fine-parts, fine-from, fine-at, up-start, found-here, each-from}
 use Rattle.judging.proofs.Passed.{are-same, same-passes}
 use Rattle.table.specs.Carried.{carried2, carried3, carried4, carried5}
-use Rattle.table.specs.Rows.{Shaped, leftProduct, rightProduct, associates}
+use Rattle.table.specs.Rows.{Shaped}
+use Rattle.table.specs.Inner.{leftProduct, rightProduct, associates}
 use Rattle.table.specs.Judgements.{tripleFault, symmetryFault, checkFault}
 use Rattle.table.specs.Statements.{Shape, Symmetry, Acceptance, Fields, RowSums, FirstTriples, CarriedPass}
 use Rattle.table.proofs.Shapes.{shape-passes, shape-rows, shape-fine}

@@ -6,7 +6,8 @@ ghost use Rattle.gf2.specs.Operands.{carriedBytes, IsOperand, carriedBy};
 ghost use Rattle.gf2.specs.Tables.{row};
 ghost use Rattle.gf2.specs.Check.{rowSum};
 ghost use Rattle.limbs.specs.Limbs.{carriedLimbs, limbCoord, packLimbs};
-ghost use Rattle.table.specs.Rows.{Shaped, rowsAt, plusRows};
+ghost use Rattle.table.specs.Rows.{Shaped};
+ghost use Rattle.table.specs.Inner.{rowsAt, plusRows};
 use crate::rows;
 use operand::Operand;
 

@@ -4,7 +4,7 @@ use native.Mathlib.Nat.{mod-lt}
 use native.Mathlib.Omega.{arith}
 use Prim.Native.Nat.{_<_}
 use Rattle.gf2.specs.Operands.{turned, same}
-use Rattle.table.specs.Rows.{carriedRow, rowsAt, associates}
+use Rattle.table.specs.Inner.{carriedRow, rowsAt, associates}
 use Rattle.table.proofs.Shapes.{row-operand, row-turns}
 use Rattle.gf2.proofs.Carrying.{same-carried}
 use Rattle.table.proofs.BasisOperands.{left-operand, right-operand}

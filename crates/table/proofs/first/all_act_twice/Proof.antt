@@ -6,7 +6,7 @@ use native.Mathlib.Omega.{arith}
 use borrow.Author.Tests.{not-true, not-false}
 use Rattle.gf2.specs.Sums.{every}
 use Rattle.gf2.proofs.Sums.{every-none, every-more, every-not}
-use Rattle.table.specs.Rows.{associates}
+use Rattle.table.specs.Inner.{associates}
 use borrow.Author.Needs.{needs}
 use Rattle.table.proofs.first.all_act_twice.Statement.{statement}
 use Rattle.table.proofs.first.all_act_twice.Tie as tie

@@ -8,7 +8,7 @@ use mir.Val.{Fits}
 use mir.Syntax.{w64}
 use Rattle.gf2.proofs.TrailingZeros.{lowest-less}
 use Rattle.limbs.specs.Limbs.{carriedLimbs}
-use Rattle.table.specs.Rows.{plusRows}
+use Rattle.table.specs.Inner.{plusRows}
 use Rattle.table.proofs.RowsAtOnes.{Packed, packed-limbs, packed-made, Within, ones-none, ones-step, ones-within, ones-clear}
 use borrow.Author.Needs.{needs}
 use Rattle.table.proofs.sums.plus_rows.Statement.{statement}

@@ -3,7 +3,7 @@ use mathlib.Core.Path.{ap, ap₂, _∙_}
 use Prim.Native.Nat.{_-_, _<_, _≤_}
 use native.Mathlib.Omega.{arith}
 use Rattle.gf2.specs.Operands.{bytesFor, carriedBytes, turned, same}
-use Rattle.table.specs.Rows.{mirrors}
+use Rattle.table.specs.Inner.{mirrors}
 use Rattle.table.proofs.Shapes.{row-turns}
 use Rattle.gf2.proofs.Carrying.{same-carried, turned-carried, turned-is, has-bytes}
 use borrow.Author.Needs.{needs}

@@ -1,7 +1,7 @@
 -- `table::triples::associative` meets its contract.
 use mathlib.Core.Path.{ap₂, _∙_}
 use native.Mathlib.Omega.{arith}
-use Rattle.table.specs.Rows.{associates}
+use Rattle.table.specs.Inner.{associates}
 use Rattle.gf2.specs.Operands.{same}
 use Rattle.gf2.proofs.Carrying.{same-carried}
 use Rattle.table.proofs.BasisOperands.{left-operand, right-operand}

@@ -5,7 +5,7 @@ use native.Mathlib.Nat.{mod-lt}
 use native.Mathlib.Omega.{arith}
 use Rattle.gf2.specs.Operands.{turned}
 use Rattle.gf2.proofs.Operands.{turned-operand}
-use Rattle.table.specs.Rows.{carriedRow, rowsAt}
+use Rattle.table.specs.Inner.{carriedRow, rowsAt}
 use Rattle.table.proofs.Shapes.{row-operand, row-turns}
 use Rattle.table.proofs.RowSums.{minus-at, right-sum}
 use borrow.Author.Needs.{needs}
