@@ -2,10 +2,8 @@
 use mathlib.Core.Path.{_≡_, ap, _∙_}
 use Prim.Native.Nat.{_-_, _≤_}
 use native.Mathlib.Omega.{arith}
-use lib.ListN.{getD}
-use mir.Val.{Fits}
-use mir.Syntax.{w64}
 use Rattle.limbs.specs.Limbs.{carriedLimbs}
+use Rattle.limbs.proofs.LimbLoops.{limbs-fit}
 use Rattle.operand.proofs.QuadraticLimbs.{foldedTo, folded-none, folded-more}
 use borrow.Author.Needs.{needs}
 use Rattle.operand.proofs.quadratic.folded.Statement.{statement}
@@ -19,7 +17,5 @@ folded-spec =
     tie.close
     (tie.spec Inv-loop (λ x total₀ w₀ total w. carriedLimbs - w) (λ c. (omega arith, folded-none _)) (λ c. search needs) (λ c. search needs)
     (λ c. search needs) (λ c. search needs)
-    (λ c. let x = c .before .before .args .t1 in
-    let small : Fits w64 (getD x (c .before .loop .w) 0) = search needs in
-    (omega arith, folded-more x _ _ (small .fits) (c .before .loop .inv .1)))
+    (λ c. (omega arith, folded-more _ _ _ (limbs-fit (c .before .before .args .t1) (λ k. search needs) _) (c .before .loop .inv .1)))
     (λ c. let e : c .before .loop .w ≡ carriedLimbs = omega arith in c .before .loop .inv .1 ∙ ap (foldedTo (c .before .before .args .t1)) e))
