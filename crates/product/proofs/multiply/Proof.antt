@@ -9,7 +9,7 @@ use Rattle.product.proofs.multiply.Statement.{statement}
 use Rattle.product.proofs.multiply.Tie as tie
 
 -- the widths, then the table and the factors
-widths : (c : tie.After-is-none) → let a = c .before .before .before .before .before .before .before .args in
+widths : (c : tie.After-is-none) → let early = c .before .before .before .before .before .before in let a = early .before .args in
     Part (pairWidths (a .width) (a .a) (a .b)) (factorCauses (a .method) (a .width) (a .table .now) (a .a .bytes) (a .b .bytes)) (c .before .judge-pair-widths .result) (c .is-none .result)
 widths c = record { given = c .before .judge-pair-widths .ensures; tested = c .is-none .ensures }
 
@@ -19,7 +19,7 @@ returns c = let p = widths (c .before .before) in refusal _ _ _ (stopped p (c .b
 returns-2 : tie.Need-returns-2
 returns-2 c =
     let i = c .before .before in
-    let a = i .before .before .before .before .before .before .before .args in
+    let early = i .before .before .before .before .before .before in let a = early .before .args in
     further (widths i) (c .before .if1 .left) (λ f. answer f (a .width) (multiplied (a .method) (a .width) (a .table .now) (a .a .bytes) (a .b .bytes))) (c .product .ensures)
 
 pub multiply-spec : {M : Type 1} → statement M

@@ -24,14 +24,14 @@ sizes : (c : tie.Else1) → let a = c .before .before .before .before .before .b
 sizes c = sized _ _ _ (passed (lengths (c .before)) (c .if1 .left))
 
 -- the answer for the carried bytes as one for the W bytes, and the fault of all causes
-answer : (c : tie.After-inverse) → let a = c .before .before .before .before .before .before .before .before .args in InverseOf (a .width) (a .table .now) (a .a .now) (a .result .now) (c .inverse .result)
+answer : (c : tie.After-inverse) → let early = c .before .before .before .before .before .before in let a = early .before .before .args in InverseOf (a .width) (a .table .now) (a .a .now) (a .result .now) (c .inverse .result)
 answer c =
     let t = c .before .before in
     let k = t .before .before .before .before in
     let a = k .before .before .args in
     record { sizes = sizes t; byte = λ j. k .shared-slice-known2 .given j .fits; made = c .inverse .ensures ∙ ap (inverseAnswer (a .width) (a .table .now)) (c .before .carried .ensures) }
 
-whole : (c : tie.After-is-none2) → let a = c .before .before .before .before .before .before .before .before .before .args in
+whole : (c : tie.After-is-none2) → let early = c .before .before .before .before .before .before in let a = early .before .before .before .args in
     Part (inverseBytesCauses (a .width) (a .table .now) (a .a .now) (a .result .now)) [] (c .before .inverse .result .fault) (c .is-none2 .result)
 whole c = let t = c .before .before .before in record { given = further-fault (lengths (t .before)) (t .if1 .left) (inverse-fault (answer (c .before))); tested = c .is-none2 .ensures }
 

@@ -19,22 +19,22 @@ returns : tie.Need-returns
 returns c = let p = lengths (c .before) in (stopped p (c .if1 .taken), kept _ _ _ (stopped-some p (c .if1 .taken)))
 
 -- where the lengths have passed
-sizes : (c : tie.Else1) → let a = c .before .before .before .before .before .before .before .args in SizedPair (a .width) (a .a .now) (a .b .now) (a .result .now)
+sizes : (c : tie.Else1) → let early = c .before .before .before .before .before .before in let a = early .before .args in SizedPair (a .width) (a .a .now) (a .b .now) (a .result .now)
 sizes c = sized-pair _ _ _ _ (passed (lengths (c .before)) (c .if1 .left))
 
 -- the answer for the carried bytes, and the fault of all causes
-answer : (c : tie.After-product) → let a = c .before .before .before .before .before .before .before .before .before .before .args in
+answer : (c : tie.After-product) → let early = c .before .before .before .before .before .before in let a = early .before .before .before .before .args in
     c .product .result ≡ productAnswer (a .method) (a .width) (a .table .now) (carriedBy (a .a .now)) (carriedBy (a .b .now))
 answer c =
     let t = c .before .before .before in
-    let a = t .before .before .before .before .before .before .before .args in
+    let early = t .before .before .before .before .before .before in let a = early .before .args in
     c .product .ensures ∙ ap₂ (productAnswer (a .method) (a .width) (a .table .now)) (c .before .before .carried .ensures) (c .before .carried2 .ensures)
 
-whole : (c : tie.After-is-none2) → let a = c .before .before .before .before .before .before .before .before .before .before .before .args in
+whole : (c : tie.After-is-none2) → let early = c .before .before .before .before .before .before in let a = early .before .before .before .before .before .args in
     Part (methodBytesCauses (a .method) (a .width) (a .table .now) (a .a .now) (a .b .now) (a .result .now)) [] (c .before .product .result .fault) (c .is-none2 .result)
 whole c =
     let t = c .before .before .before .before in
-    let a = t .before .before .before .before .before .before .before .args in
+    let early = t .before .before .before .before .before .before in let a = early .before .args in
     record { given = further-fault (lengths (t .before)) (t .if1 .left) (product-fault (sizes t) (a .table .now) (a .method) (answer (c .before))); tested = c .is-none2 .ensures }
 
 returns-2 : tie.Need-returns-2
@@ -43,7 +43,7 @@ returns-2 c =
     let i = u .before .before .before .before in
     let n = i .before in
     let t = n .before .before .before .before in
-    let a = t .before .before .before .before .before .before .before .args in (
+    let early = t .before .before .before .before .before .before in let a = early .before .args in (
       whole n .given,
       filled _ (multiplied (a .method) (a .width) (a .table .now) (a .a .now) (a .b .now)) _ (known (whole n) (i .if2 .taken))
           (product-written (sizes t) (a .table .now) (a .method) (answer (n .before)) (sym (n .is-none2 .ensures) ∙ i .if2 .taken) (u .copy-out .ensures)),

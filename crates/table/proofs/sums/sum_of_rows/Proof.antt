@@ -26,7 +26,7 @@ loop-holds c =
 
 loop-again : tie.Need-loop-again Inv-loop μ-loop
 loop-again c =
-    let s = c .before .before .before .before .before .before .before .before .pre in
+    let early = c .before .before .before .before .before .before in let s = early .before .before .pre in
     let l = c .before .before .before .loop-test .taken in
     let w = c .before .before .before .before .loop in (
       omega arith,

@@ -54,7 +54,7 @@ returns-2 : tie.Need-returns-2 Inv-loop μ-loop Inv-search μ-search
 returns-2 c =
     let l = c .before .before .before .loop in
     let s = c .before .before .before .before .before .search in
-    let a = c .before .before .before .before .before .before .before .args in
+    let early = c .before .before .before .before .before .before in let a = early .before .args in
     let differs = triple-test _ _ (s .i) (l .j) (sym (c .before .associative .ensures) ∙ not-true _ (c .if1 .taken)) in
     let row = l .inv .1 ∙ one-found (tripleDiffers _ _ (s .i)) _ (l .j) (c .before .before .loop-test .taken) differs in
     sym (s .inv .1 ∙ found-here (rowCauses _ _) _ (s .i) (c .before .before .before .before .search-test .taken) (ap isNone row ∙ some (tripleDiffers (a .width) (a .table .now) (s .i) (l .j))) ∙ row)
