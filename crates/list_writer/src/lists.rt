@@ -127,7 +127,8 @@ fn refused(fault: Fault) -> CountsAnswer
 }
 
 fn list_by(width: usize, table: &[u8], out: &mut [u32], method: Method) -> CountsAnswer
-    ensures { λ r. ⌜ (r ≡ listCall width (now (table .entry)) (listBy method width (now (table .entry))) (now (out .entry))) × (now (out .exit) ≡ listBuffer width (now (table .entry)) (listBy method width (now (table .entry))) (now (out .entry))) ⌝ }
+    ensures { λ r. ⌜ (r ≡ listCall width (now (table .entry)) (listBy method width (now (table .entry))) (now (out .entry)))
+        × (now (out .exit) ≡ listBuffer width (now (table .entry)) (listBy method width (now (table .entry))) (now (out .entry))) ⌝ }
 {
     let all = netlist::tally(width, table, method);
     let fault = all.fault;
@@ -146,19 +147,22 @@ fn list_by(width: usize, table: &[u8], out: &mut [u32], method: Method) -> Count
 }
 
 pub fn list_plain(width: usize, table: &[u8], out: &mut [u32]) -> CountsAnswer
-    ensures { λ r. ⌜ (r ≡ listCall width (now (table .entry)) (plain width (now (table .entry))) (now (out .entry))) × (now (out .exit) ≡ listBuffer width (now (table .entry)) (plain width (now (table .entry))) (now (out .entry))) ⌝ }
+    ensures { λ r. ⌜ (r ≡ listCall width (now (table .entry)) (plain width (now (table .entry))) (now (out .entry)))
+        × (now (out .exit) ≡ listBuffer width (now (table .entry)) (plain width (now (table .entry))) (now (out .entry))) ⌝ }
 {
     list_by(width, table, out, Method::Plain)
 }
 
 pub fn list_reduced(width: usize, table: &[u8], out: &mut [u32]) -> CountsAnswer
-    ensures { λ r. ⌜ (r ≡ listCall width (now (table .entry)) (reduced width (now (table .entry))) (now (out .entry))) × (now (out .exit) ≡ listBuffer width (now (table .entry)) (reduced width (now (table .entry))) (now (out .entry))) ⌝ }
+    ensures { λ r. ⌜ (r ≡ listCall width (now (table .entry)) (reduced width (now (table .entry))) (now (out .entry)))
+        × (now (out .exit) ≡ listBuffer width (now (table .entry)) (reduced width (now (table .entry))) (now (out .entry))) ⌝ }
 {
     list_by(width, table, out, Method::Reduced)
 }
 
 pub fn list_common(width: usize, table: &[u8], out: &mut [u32]) -> CountsAnswer
-    ensures { λ r. ⌜ (r ≡ listCall width (now (table .entry)) (common width (now (table .entry))) (now (out .entry))) × (now (out .exit) ≡ listBuffer width (now (table .entry)) (common width (now (table .entry))) (now (out .entry))) ⌝ }
+    ensures { λ r. ⌜ (r ≡ listCall width (now (table .entry)) (common width (now (table .entry))) (now (out .entry)))
+        × (now (out .exit) ≡ listBuffer width (now (table .entry)) (common width (now (table .entry))) (now (out .entry))) ⌝ }
 {
     list_by(width, table, out, Method::Common)
 }
