@@ -12,7 +12,7 @@ use lib.Dec.{eqb}
 use borrow.Author.Tests.{eqb-true, not-true}
 use Rattle.gf2.specs.Sums.{sum, every}
 use Rattle.gf2.specs.Coordinates.{coord, value, tabulate, pack}
-use Rattle.gf2.specs.Operands.{maxWidth, bytesFor, carriedBytes, choose, IsOperand, isClear, carriedBy, below, fromCoords, zeroes, ones, added}
+use Rattle.gf2.specs.Operands.{maxWidth, bytesFor, carriedBytes, choose, IsOperand, isClear, carriedBy, below, fromCoords, zeroes, ones, added, turned}
 use Rattle.gf2.specs.Quadratic.{trace, rootCoord, root}
 use Rattle.gf2.proofs.Sums.{sum-split, every-at}
 use Rattle.gf2.proofs.Coordinates.{coord-past, coord-pack, pack-ext, pack-byte, length-pack}
@@ -23,11 +23,11 @@ use Rattle.judging.specs.Faults.{isNone}
 use Rattle.judging.specs.Causes.{Cause, faultOf}
 use Rattle.judging.specs.FaultTable.{badWidth, badLength, highBit, turnTooFar, traceIsOne}
 use Rattle.judging.proofs.CauseLaws.{same-head, head-fails, fine, judged, ends, ends-some}
-use Rattle.judging.proofs.Passed.{IsWidth, is-width, as-laid-down, is-clear, turn-passes}
+use Rattle.judging.proofs.Passed.{IsWidth, is-width, as-laid-down, is-clear, turn-passes, width-passes}
 use Rattle.operand.specs.declared.Operand.{Operand}
 use Rattle.operand.specs.declared.OperandAnswer.{OperandAnswer}
 use Rattle.operand.specs.Causes.{operandCauses, turnCauses}
-use Rattle.operand.specs.Calls.{noOperand, answer, traceAnswer}
+use Rattle.operand.specs.Calls.{noOperand, answer, traceAnswer, turnCall}
 
 -- equal faults and, where these are none, equal bytes make equal answers
 pub answer-same : {f g : Fault} (m : ℕ) {x y : List ℕ} → f ≡ g → (isNone g ≡ true → x ≡ y) → answer f m x ≡ answer g m y
@@ -130,6 +130,16 @@ high-same {m} {a} h cs ds e =
 pub high-by : {m : ℕ} {a x : List ℕ} → HasBytes m a → x ≡ carriedBy a → (cs ds : List Cause) → (isClear m a ≡ true → faultOf cs ≡ faultOf ds)
     → faultOf (highBit m x ∷ cs) ≡ faultOf (highBit m a ∷ ds)
 high-by {m} h e cs ds k = ap (λ z. faultOf (highBit m z ∷ cs)) e ∙ high-same h cs ds k
+
+-- a turn whose width has passed: its fault, and its bytes where that is none
+module _ (m k : ℕ) (x : List ℕ) {r : OperandAnswer} (w : IsWidth m) (e : r ≡ turnCall (record { bytes = x; width = m }) k) where
+  pub turn-fault : r .fault ≡ faultOf (highBit m x ∷ turnTooFar m k ∷ [])
+  unfolding answer
+  turn-fault = ap (λ (r : OperandAnswer). r .fault) e ∙ head-fails (badWidth m) (highBit m x ∷ turnTooFar m k ∷ []) (width-passes m w)
+
+  pub turn-bytes : isNone (r .fault) ≡ true → r .value .bytes ≡ turned m k x
+  unfolding answer
+  turn-bytes n = ap (λ (r : OperandAnswer). r .value .bytes) e ∙ ap (λ b. choose b (record { bytes = turned m k x; width = m }) noOperand .bytes) (sym (ap (λ (r : OperandAnswer). isNone (r .fault)) e) ∙ n)
 
 -- bytes whose coordinates from m on are 0 are those of the operand
 clear-pack : (n m : ℕ) (f : ℕ → ℕ) → ((i : ℕ) → m ≤ i → f i ≡ 0) → pack n f ≡ fromCoords n m f

@@ -8,7 +8,6 @@ use crate::Operand;
 use crate::TraceAnswer;
 use crate::judge;
 use crate::quadratic;
-use crate::turn;
 use judging::Fault;
 use judging::is_none;
 
@@ -41,10 +40,16 @@ pub fn turn_into(width: usize, a: &[u8], k: usize, result: &mut [u8]) -> Fault
     if !is_none(sizes) {
         return sizes;
     }
-    let x = limbs::carried(a);
-    let fault = judge::judge_turn(x, width, k);
+    let operand = Operand {
+        bytes: limbs::carried(a),
+        width: width as u16,
+    };
+    let answer = operand.turn(k);
+    let fault = answer.fault;
     if is_none(fault) {
-        limbs::copy_out(turn::turned(x, width, k), result);
+        let value = answer.value;
+        let z = value.bytes;
+        limbs::copy_out(z, result);
     }
     fault
 }
