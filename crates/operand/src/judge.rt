@@ -27,7 +27,7 @@ pub(crate) fn judge_operand(a: Operand) -> Fault
     judge_high(x, m)
 }
 
-// The bits of two operands of W bytes. It has one caller, into which it is inlined.
+// The bits of two operands.
 pub(crate) fn judge_bits(
     x: [u8; Operand::BYTES],
     m: usize,
@@ -54,11 +54,7 @@ pub(crate) fn judge_pair(a: Operand, b: Operand) -> Fault
     if !is_none(widths) {
         return widths;
     }
-    let first = judge_high(x, m);
-    if !is_none(first) {
-        return first;
-    }
-    judge_high(y, n)
+    judge_bits(x, m, y, n)
 }
 
 // The bits of an operand, then a turn's count.

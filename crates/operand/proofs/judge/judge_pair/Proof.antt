@@ -9,20 +9,12 @@ use Rattle.operand.proofs.judge.judge_pair.Tie as tie
 
 returns-2 : tie.Need-returns-2
 returns-2 c =
-    let s = c .before .before .before in
-    follows (badWidth _ ∷ badWidth _ ∷ badLength _ _ ∷ []) (highBit _ _ ∷ highBit _ _ ∷ []) (s .before .before .judge-widths .ensures) (s .before .is-none .ensures) (not-false _ (s .if1 .left))
-    (ends (highBit _ _ ∷ []) (highBit _ _ ∷ []) (c .before .before .judge-high .ensures) (c .before .is-none2 .ensures) (not-true _ (c .if2 .taken)))
-
-returns-3 : tie.Need-returns-3
-returns-3 c =
-    let u = c .before .before in
-    let s = u .before .before in
-    follows (badWidth _ ∷ badWidth _ ∷ badLength _ _ ∷ []) (highBit _ _ ∷ highBit _ _ ∷ []) (s .before .before .judge-widths .ensures) (s .before .is-none .ensures) (not-false _ (s .if1 .left))
-    (follows (highBit _ _ ∷ []) (highBit _ _ ∷ []) (u .before .judge-high .ensures) (u .is-none2 .ensures) (not-false _ (c .before .if2 .left)) (c .judge-high2 .ensures))
+    let s = c .before .before in
+    follows (badWidth _ ∷ badWidth _ ∷ badLength _ _ ∷ []) (highBit _ _ ∷ highBit _ _ ∷ []) (s .before .judge-widths .ensures) (s .is-none .ensures) (not-false _ (c .before .if1 .left)) (c .judge-bits .ensures)
 
 pub judge-pair-spec : {M : Type 1} → statement M
 judge-pair-spec =
     tie.close
     (tie.spec (λ c. search needs) (λ c. search needs) (λ c κs. search needs) (λ c κs. search needs)
     (λ c. ends (badWidth _ ∷ badWidth _ ∷ badLength _ _ ∷ []) (highBit _ _ ∷ highBit _ _ ∷ []) (c .before .before .judge-widths .ensures) (c .before .is-none .ensures) (not-true _ (c .if1 .taken)))
-    (λ c κs. search needs) (λ c κs. search needs) returns-2 (λ c κs. search needs) returns-3)
+    (λ c κs. search needs) returns-2)
