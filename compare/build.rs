@@ -4,8 +4,10 @@
 use std::path::{Path, PathBuf};
 use std::{env, fs};
 
-const CRATES: [&str; 14] = [
+const CRATES: [&str; 17] = [
     "limbs",
+    "ones",
+    "quadratic",
     "judging",
     "operand",
     "table",
@@ -16,7 +18,8 @@ const CRATES: [&str; 14] = [
     "card_writer",
     "netlist",
     "runner",
-    "list_parts",
+    "list_pairs",
+    "list_folds",
     "list_writer",
     "nb",
 ];

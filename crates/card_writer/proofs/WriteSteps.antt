@@ -1,5 +1,5 @@
 -- The steps of the code that writes a card.
--- Put: bytes put at a place, one part after the other, and what is left to be put.
+-- CardPut: bytes put at a place, one part after the other, and what is left to be put.
 -- Places and rows: the loops over the places of a row and over the rows.
 -- Calls: the answers of `write`, and the output afterwards.
 use mathlib.Core.Path.{_≡_, refl, sym, ap, ap₂, _∙_}
@@ -17,12 +17,13 @@ use Rattle.gf2.specs.Sums.{sum}
 use Rattle.gf2.specs.Coordinates.{coord}
 use Rattle.gf2.specs.Operands.{maxWidth}
 use Rattle.gf2.specs.Tables.{row}
-use Rattle.gf2.proofs.Sums.{sum-ext, sum-split, every-at}
+use Rattle.gf2.proofs.Sums.{sum-ext, sum-split, sum-bits, every-at}
 use Rattle.gf2.proofs.Coordinates.{coord-lt}
 use Rattle.gf2.proofs.Operands.{clear-at}
-use Rattle.limbs.specs.Limbs.{carriedLimbs, limbCoord, nextOne, rowLimbs}
+use Rattle.limbs.specs.Limbs.{carriedLimbs, limbCoord}
+use Rattle.ones.specs.RowLimbs.{nextOne, rowLimbs}
 use Rattle.limbs.proofs.LimbCoords.{limb-lt, limb-past, limb-pack, length-limbs}
-use Rattle.limbs.proofs.LimbRows.{next-known, sum-bits, row-limbs}
+use Rattle.ones.proofs.RowLimbs.{next-known, row-limbs}
 use Rattle.judging.specs.declared.fault.Fault.{Fault}
 use Rattle.judging.specs.declared.fault.Fault.the-variants.{None, Call}
 use Rattle.judging.specs.declared.fault.CallFault.the-variants.{OutputShort}
@@ -38,24 +39,24 @@ use Rattle.card.specs.Numbers.{number}
 use Rattle.card.specs.Rows.{places, steps, onesOf, rowCard, rowsCard}
 use Rattle.card.specs.Cards.{card}
 use Rattle.card_writer.specs.Calls.{writeFault, writeCall, writeCard}
-use Rattle.card_writer.specs.Inner.{Put, InCard, limbOnes, Writable}
+use Rattle.card_writer.specs.Inner.{CardPut, InCard, limbOnes, Writable}
 use Rattle.card.proofs.Places.{places-zero, places-one, places-ascend, place-high, place-is, places-are}
 use Rattle.card_writer.proofs.Lengths.{one-byte, two-bytes, card-most}
 use Rattle.card.proofs.Stores.{sets-append, sets-front}
 
 module _ (n at : ℕ) (out : List ℕ) where
-  pub put-short : n < 128 → Put at (number n) (at + 1) out (set out at n)
+  pub put-short : n < 128 → CardPut at (number n) (at + 1) out (set out at n)
   put-short h = rw (one-byte n h) (record { ends = refl; stored = refl })
 
-  pub put-long : 128 ≤ n → Put at (number n) (at + 2) out (set (set out at (128 + n % 128)) (at + 1) (n / 128))
+  pub put-long : 128 ≤ n → CardPut at (number n) (at + 2) out (set (set out at (128 + n % 128)) (at + 1) (n / 128))
   put-long h = rw (two-bytes n h, add-one) (record { ends = refl; stored = refl })
 
 -- the buffer is known by an equation
-pub put-into : {at end : ℕ} {bytes old new last : List ℕ} → last ≡ new → Put at bytes end old new → Put at bytes end old last
+pub put-into : {at end : ℕ} {bytes old new last : List ℕ} → last ≡ new → CardPut at bytes end old new → CardPut at bytes end old last
 put-into e p = record { ends = p .ends; stored = e ∙ p .stored }
 
 -- two parts
-pub put-both : {at mid end : ℕ} {x y old half new : List ℕ} → Put at x mid old half → Put mid y end half new → Put at (x ++ y) end old new
+pub put-both : {at mid end : ℕ} {x y old half new : List ℕ} → CardPut at x mid old half → CardPut mid y end half new → CardPut at (x ++ y) end old new
 put-both {at} {mid} {x = x} {y} {old} p q = record {
   ends = omega (arith, p .ends, q .ends, length-append x y);
   stored = q .stored ∙ rw (p .ends, p .stored) (sym (sets-append old at x y));
@@ -63,13 +64,13 @@ put-both {at} {mid} {x = x} {y} {old} p q = record {
 
 -- what is left to be put at `next`, where a whole is put at `at`
 pub record Left (at : ℕ) (whole old : List ℕ) (next : ℕ) (rest new : List ℕ) : Type 0 where
-  pub completes : {end : ℕ} {last : List ℕ} → Put next rest end new last → Put at whole end old last
+  pub completes : {end : ℕ} {last : List ℕ} → CardPut next rest end new last → CardPut at whole end old last
 
 pub left-all : (at : ℕ) (whole old : List ℕ) → Left at whole old at whole old
 left-all at whole old = record { completes = λ p. p }
 
 module _ {at next : ℕ} {whole rest old new : List ℕ} (to : Left at whole old next rest new) where
-  rest-put : Put at whole (next + length rest) old (sets new next rest)
+  rest-put : CardPut at whole (next + length rest) old (sets new next rest)
   rest-put = to .completes (record { ends = refl; stored = refl })
 
   pub left-fits : InCard at whole → InCard next rest
@@ -78,17 +79,17 @@ module _ {at next : ℕ} {whole rest old new : List ℕ} (to : Left at whole old
   pub left-kept : length new ≡ length old
   left-kept = sym (length-sets new next rest) ∙ ap length (rest-put .stored) ∙ length-sets old at whole
 
-  pub left-more : {x y put : List ℕ} {then : ℕ} → rest ≡ x ++ y → Put next x then new put → Left at whole old then y put
+  pub left-more : {x y put : List ℕ} {then : ℕ} → rest ≡ x ++ y → CardPut next x then new put → Left at whole old then y put
   left-more e p = record { completes = λ q. to .completes (rw e (put-both p q)) }
 
-  pub left-done : rest ≡ [] → Put at whole next old new
+  pub left-done : rest ≡ [] → CardPut at whole next old new
   left-done e = to .completes (rw e (record { ends = sym (add-zero next); stored = refl }))
 
 -- a part that has room, and what follows it
 pub in-first : {at : ℕ} (x y : List ℕ) → InCard at (x ++ y) → InCard at x
 in-first x y h = record { within = omega (arith, h .within, length-append x y) }
 
-pub in-second : {at next : ℕ} {x y old new : List ℕ} → Put at x next old new → InCard at (x ++ y) → InCard next y
+pub in-second : {at next : ℕ} {x y old new : List ℕ} → CardPut at x next old new → InCard at (x ++ y) → InCard next y
 in-second {x = x} {y} p h = record { within = omega (arith, h .within, length-append x y, p .ends) }
 
 -- the places from i on
@@ -159,7 +160,7 @@ module _ {x : List ℕ} {at : ℕ} {old new : List ℕ} {next free left : ℕ} (
     pub steps-fits : InCard at (steps 0 (limbOnes x)) → InCard next (number (r - free))
     steps-fits h = in-first _ (steps (r + 1) (onesFrom x (r + 1))) (rw steps-split at (left-fits (to .remains) h))
 
-    pub steps-more : {put : List ℕ} {then : ℕ} → Put next (number (r - free)) then new put → StepsTo x at old put then (r + 1) (left - 1)
+    pub steps-more : {put : List ℕ} {then : ℕ} → CardPut next (number (r - free)) then new put → StepsTo x at old put then (r + 1) (left - 1)
     steps-more p = record { counted = omega (arith, to .counted, ap length (steps-next .first)); remains = left-more (to .remains) steps-split p }
 
   steps-all : left ≤ 0 → onesFrom x free ≡ []
@@ -169,7 +170,7 @@ module _ {x : List ℕ} {at : ℕ} {old new : List ℕ} {next free left : ℕ} (
       go [] h = refl
       go (p ∷ l) h = absurd (omega arith)
 
-  pub steps-done : left ≤ 0 → Put at (steps 0 (limbOnes x)) next old new
+  pub steps-done : left ≤ 0 → CardPut at (steps 0 (limbOnes x)) next old new
   unfolding steps
   steps-done h = left-done (to .remains) (ap (steps free) (steps-all h))
 
@@ -239,10 +240,10 @@ module _ {m : ℕ} {table : List ℕ} {start count at : ℕ} {old new : List ℕ
   pub rows-fits : InCard at (rowsCard m table start count) → d < start + count → InCard next (rowCard m (row m table d))
   rows-fits f h = in-first _ (rowsCard m table (d + 1) (start + count - (d + 1))) (rw (rows-split h) at (left-fits (to .remains) f))
 
-  pub rows-more : {then : ℕ} {put : List ℕ} → d < start + count → Put next (rowCard m (row m table d)) then new put → RowsPut m table start count at old put then (d + 1)
+  pub rows-more : {then : ℕ} {put : List ℕ} → d < start + count → CardPut next (rowCard m (row m table d)) then new put → RowsPut m table start count at old put then (d + 1)
   rows-more h p = record { within = omega arith; remains = left-more (to .remains) (rows-split h) p }
 
-  pub rows-done : start + count ≤ d → Put at (rowsCard m table start count) next old new
+  pub rows-done : start + count ≤ d → CardPut at (rowsCard m table start count) next old new
   unfolding rowsCard
   rows-done h = let z : start + count - d ≡ 0 = omega arith in left-done (to .remains) (rw z)
 
@@ -252,8 +253,8 @@ module _ (m : ℕ) (table : List ℕ) where
   unfolding card
   card-in h = record { within = omega (arith, card-most m table h) }
 
-  pub card-put : {form rows end : ℕ} {old a b new : List ℕ} → Put 0 (number 1) form old a → Put form (number m) rows a b → Put rows (rowsCard m table 0 m) end b new
-      → Put 0 (card m table) end old new
+  pub card-put : {form rows end : ℕ} {old a b new : List ℕ} → CardPut 0 (number 1) form old a → CardPut form (number m) rows a b → CardPut rows (rowsCard m table 0 m) end b new
+      → CardPut 0 (card m table) end old new
   unfolding card
   card-put p q r = put-both p (put-both q r)
 

@@ -12,7 +12,7 @@ use Rattle.card.specs.Rows.{places}
 use Rattle.card_writer.specs.Calls.{longest}
 
 -- bytes are put at a place of a buffer, as far as it goes, and r is the place after them
-pub record Put (at : ℕ) (bytes : List ℕ) (r : ℕ) (old new : List ℕ) : Type 0 where
+pub record CardPut (at : ℕ) (bytes : List ℕ) (r : ℕ) (old new : List ℕ) : Type 0 where
   pub ends : r ≡ at + length bytes
   pub stored : new ≡ sets old at bytes
 

@@ -8,14 +8,14 @@ ghost use Rattle.card.specs.Numbers.{number, numberLimit};
 ghost use Rattle.card.specs.Rows.{steps, rowCard, rowsCard};
 ghost use Rattle.card.specs.Cards.{card};
 ghost use Rattle.card_writer.specs.Calls.{longest, writeCall, writeCard};
-ghost use Rattle.card_writer.specs.Inner.{Put, InCard, limbOnes, Writable};
+ghost use Rattle.card_writer.specs.Inner.{CardPut, InCard, limbOnes, Writable};
 use card::CardAnswer;
 use judging::CallFault;
 use judging::Fault;
 
 fn put_number(out: &mut [u8], at: usize, n: usize) -> usize
     requires { ⌜ (n < numberLimit) × (at ≤ longest maxWidth) ⌝ }
-    ensures { λ r. ⌜ Put at (number n) r (now (out .entry)) (now (out .exit)) ⌝ }
+    ensures { λ r. ⌜ CardPut at (number n) r (now (out .entry)) (now (out .exit)) ⌝ }
 {
     if n < 128 {
         card::put(out, at, n as u8);
@@ -29,13 +29,13 @@ fn put_number(out: &mut [u8], at: usize, n: usize) -> usize
 // The steps to the places of a row's ones, of which there are `count`.
 fn put_places(out: &mut [u8], at: usize, row: &[u64; limbs::LIMBS], count: usize) -> usize
     requires { ⌜ (count ≡ length (limbOnes (now row))) × InCard at (steps 0 (limbOnes (now row))) ⌝ }
-    ensures { λ r. ⌜ Put at (steps 0 (limbOnes (now (row .entry)))) r (now (out .entry)) (now (out .exit)) ⌝ }
+    ensures { λ r. ⌜ CardPut at (steps 0 (limbOnes (now (row .entry)))) r (now (out .entry)) (now (out .exit)) ⌝ }
 {
     let mut next = at;
     let mut free = 0;
     let mut left = count;
     while 0 < left {
-        let i = limbs::next_one(row, free);
+        let i = ones::next_one(row, free);
         let then = put_number(out, next, i - free);
         next = then;
         free = i + 1;
@@ -47,10 +47,10 @@ fn put_places(out: &mut [u8], at: usize, row: &[u64; limbs::LIMBS], count: usize
 // Row d of a table.
 fn put_row(out: &mut [u8], at: usize, table: &[u8], width: usize, d: usize) -> usize
     requires { ⌜ Writable width (now table) × (d < width) × InCard at (rowCard width (row width (now table) d)) ⌝ }
-    ensures { λ r. ⌜ Put at (rowCard width (row width (now (table .entry)) d)) r (now (out .entry)) (now (out .exit)) ⌝ }
+    ensures { λ r. ⌜ CardPut at (rowCard width (row width (now (table .entry)) d)) r (now (out .entry)) (now (out .exit)) ⌝ }
 {
-    let row = limbs::row_limbs(width, table, d);
-    let n = limbs::ones_in(&row);
+    let row = ones::row_limbs(width, table, d);
+    let n = ones::ones_in(&row);
     let next = put_number(out, at, n);
     put_places(out, next, &row, n)
 }
@@ -65,7 +65,7 @@ fn put_rows(
     count: usize,
 ) -> usize
     requires { ⌜ Writable width (now table) × (start + count ≤ width) × InCard at (rowsCard width (now table) start count) ⌝ }
-    ensures { λ r. ⌜ Put at (rowsCard width (now (table .entry)) start count) r (now (out .entry)) (now (out .exit)) ⌝ }
+    ensures { λ r. ⌜ CardPut at (rowsCard width (now (table .entry)) start count) r (now (out .entry)) (now (out .exit)) ⌝ }
 {
     let mut next = at;
     let mut d = start;
@@ -80,7 +80,7 @@ fn put_rows(
 // The card, at the front of the output; its length.
 fn put_card(out: &mut [u8], width: usize, table: &[u8]) -> usize
     requires { ⌜ Writable width (now table) ⌝ }
-    ensures { λ r. ⌜ Put 0 (card width (now (table .entry))) r (now (out .entry)) (now (out .exit)) ⌝ }
+    ensures { λ r. ⌜ CardPut 0 (card width (now (table .entry))) r (now (out .entry)) (now (out .exit)) ⌝ }
 {
     let form = put_number(out, 0, 1);
     let rows = put_number(out, form, width);

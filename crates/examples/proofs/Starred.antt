@@ -15,8 +15,8 @@ use Rattle.netlist.specs.Gates.{andGates, xorGates}
 use Rattle.netlist.specs.Lists.{each, only, pairs, ands, onto, start, folds, folded, plainTerms, plain, mixes, reducedTerms, reduced, allOnes, fullRows, common}
 use Rattle.netlist.specs.Calls.{answer}
 use Rattle.nb.specs.Packing.{packedFault, packedAnswer}
-use Rattle.examples.specs.Starred.{Holds, AllHold, starred}
+use Rattle.examples.specs.Starred.{ComesOut, AllHold, starred}
 
 pub all-starred : AllHold starred
-unfolding Holds sum every coord value tabulate pack minus isClear below fromCoords zeroes ones added turned squared trace rootCoord root row basis pairProduct onesIn product rowSum halvings binaryOnes doubling adding digits inverse productsMade isNone faultOf from same onesCall andGates xorGates each only pairs ands onto start folds folded plainTerms plain mixes reducedTerms reduced allOnes fullRows common answer packedFault packedAnswer
+unfolding ComesOut sum every coord value tabulate pack minus isClear below fromCoords zeroes ones added turned squared trace rootCoord root row basis pairProduct onesIn product rowSum halvings binaryOnes doubling adding digits inverse productsMade isNone faultOf from same onesCall andGates xorGates each only pairs ands onto start folds folded plainTerms plain mixes reducedTerms reduced allOnes fullRows common answer packedFault packedAnswer
 all-starred = ((refl, refl), ((refl, refl), ((refl, refl), ((refl, refl), ((refl, refl), ((refl, refl), ((refl, refl), ((refl, refl), (refl, (refl, (refl, ((refl, refl, refl, refl, refl), tt))))))))))))

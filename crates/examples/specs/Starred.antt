@@ -34,14 +34,14 @@ pub data Example : Type 0 where
 abbrev pub lent : List ℕ
 lent = 255 ∷ []
 
-unfoldable pub Holds : Example → Type 0
-Holds (product m rows a b c) = (faultAnswer (productBytesCauses m rows a b lent) ≡ packed 0 0 0) × (productInto m rows a b lent ≡ c)
-Holds (inverse m rows a b made) = (inverseAnswer m rows a lent ≡ packed 0 made 0) × (inverseInto m rows a lent ≡ b)
-Holds (noInverse m rows a number) = (inverseAnswer m rows a lent ≡ packed number 0 0) × (inverseInto m rows a lent ≡ lent)
-Holds (solution m c z) = (faultAnswer (solveBytesCauses m c lent) ≡ packed 0 0 0) × (solveInto m c lent ≡ z)
-Holds (noSolution m c number) = (faultAnswer (solveBytesCauses m c lent) ≡ packed number 0 0) × (solveInto m c lent ≡ lent)
-Holds (refused m rows number first second) = faultAnswer (checkCauses m rows) ≡ packed number first second
-Holds (accepted m rows ones plain reduced common) =
+unfoldable pub ComesOut : Example → Type 0
+ComesOut (product m rows a b c) = (faultAnswer (productBytesCauses m rows a b lent) ≡ packed 0 0 0) × (productInto m rows a b lent ≡ c)
+ComesOut (inverse m rows a b made) = (inverseAnswer m rows a lent ≡ packed 0 made 0) × (inverseInto m rows a lent ≡ b)
+ComesOut (noInverse m rows a number) = (inverseAnswer m rows a lent ≡ packed number 0 0) × (inverseInto m rows a lent ≡ lent)
+ComesOut (solution m c z) = (faultAnswer (solveBytesCauses m c lent) ≡ packed 0 0 0) × (solveInto m c lent ≡ z)
+ComesOut (noSolution m c number) = (faultAnswer (solveBytesCauses m c lent) ≡ packed number 0 0) × (solveInto m c lent ≡ lent)
+ComesOut (refused m rows number first second) = faultAnswer (checkCauses m rows) ≡ packed number first second
+ComesOut (accepted m rows ones plain reduced common) =
     (faultAnswer (checkCauses m rows) ≡ packed 0 0 0)
     × (onesAnswer m rows ≡ packed 0 ones 0)
     × (countsAnswer (countsPlainCall m rows) ≡ packed 0 (m * m) plain)
@@ -51,7 +51,7 @@ Holds (accepted m rows ones plain reduced common) =
 -- each of a list holds
 abbrev pub AllHold : List Example → Type 0
 AllHold [] = Unit
-AllHold (e ∷ es) = Holds e × AllHold es
+AllHold (e ∷ es) = ComesOut e × AllHold es
 
 -- the starred examples, in document 01's order; its bytes are hexadecimal
 abbrev pub starred : List Example

@@ -93,15 +93,15 @@ module _ (m : ℕ) where
     pub passes-sound : 2 ≤ m → shapeTest && rulesTest ≡ true → IsTable m table × Accepted m table
     passes-sound two e = let h = and-both shapeTest rulesTest e in let is = shape-sound (h .0) in (is, rules-sound two is (h .1))
 
-pub record Carried : Type 0 where
+pub record CarriedTables : Type 0 where
   pub width2 : IsTable 2 (0x02 ∷ 0x03 ∷ []) × Accepted 2 (0x02 ∷ 0x03 ∷ [])
   pub width3 : IsTable 3 (0x02 ∷ 0x05 ∷ 0x06 ∷ []) × Accepted 3 (0x02 ∷ 0x05 ∷ 0x06 ∷ [])
   pub width4 : IsTable 4 (0x02 ∷ 0x08 ∷ 0x0F ∷ 0x04 ∷ []) × Accepted 4 (0x02 ∷ 0x08 ∷ 0x0F ∷ 0x04 ∷ [])
   pub width5 : IsTable 5 (0x02 ∷ 0x09 ∷ 0x18 ∷ 0x06 ∷ 0x14 ∷ []) × Accepted 5 (0x02 ∷ 0x09 ∷ 0x18 ∷ 0x06 ∷ 0x14 ∷ [])
 
-pub carried : Carried
+pub carried-tables : CarriedTables
 unfolding same operandTest rule5Test rule6Test shapeTest rulesTest every sum coord value tabulate pack minus isClear below fromCoords turned row basis pairProduct product
-carried = record {
+carried-tables = record {
   width2 = passes-sound 2 _ (lit≤ tt) refl;
   width3 = passes-sound 3 _ (lit≤ tt) refl;
   width4 = passes-sound 4 _ (lit≤ tt) refl;

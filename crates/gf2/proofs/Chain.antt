@@ -1,44 +1,22 @@
 -- The chain of doublings and addings that gives the inverse.
--- log2-bounds: 2^(log2 n) ≤ n < 2^(log2 n + 1).
 -- products-made: its number of products, under any table.
 -- inverse-vec: under rules 4, 5 and 6 it gives t (m-1) of VectorField, turned by one; power-vec: powers as vectors.
 use mathlib.Core.Path.{_≡_, refl, sym, _∙_, ap}
 use mathlib.Core.List.{List}
 use Prim.Native.Nat.{ℕ, zero, suc, _+_, _-_, _*_, _/_, _%_, _^_, _<_, _≤_}
-use native.Mathlib.Nat.{div-div-eq-div-mul, pow-suc, div-one, div-eq-of-lt-le}
-use native.Mathlib.Decide.{decLt}
+use native.Mathlib.Nat.{div-div-eq-div-mul, pow-suc, div-one}
 use native.Mathlib.Omega.{arith}
-use borrow.Author.Tests.{lt-ltb, le-ltb}
 use Rattle.gf2.specs.Sums.{sum}
 use Rattle.gf2.specs.Operands.{turned}
 use Rattle.gf2.specs.Tables.{IsTable}
-use Rattle.gf2.specs.Inverse.{halvings, log2, binaryOnes, Chain, start, doubling, adding, digits, inverse, productsMade}
+use Rattle.gf2.specs.Inverse.{log2, binaryOnes, Chain, start, doubling, adding, digits, inverse, productsMade}
 use Rattle.gf2.specs.Statements.{power}
+use Rattle.gf2.proofs.Logarithm.{top-digit}
 use Rattle.gf2.proofs.Index.{Ix, at}
 use Rattle.gf2.proofs.Vector.{Vec, turn}
 use Rattle.gf2.proofs.VectorField.{Laws, t, t-one, t-suc, t-add, pow}
 use Rattle.gf2.proofs.OperandVectors.{bytes, length-bytes, ones-vec, turned-bytes}
 use Rattle.gf2.proofs.TableVectors.{rows, product-bytes}
-
-halvings-bounds : (fuel n : ℕ) → 1 ≤ n → n ≤ fuel → (2 ^ halvings fuel n ≤ n) × (n < 2 ^ suc (halvings fuel n))
-unfolding halvings
-halvings-bounds zero n h l = absurd (omega arith)
-halvings-bounds (suc fuel) n h l = elim (decLt n 2) [
-  | yes q ↦ rw (lt-ltb n 2 q) (omega arith, omega arith)
-  | no q ↦ rw (le-ltb n 2 (omega arith)) (more (halvings-bounds fuel (n / 2) (omega arith) (omega arith)))
-]
-  where
-    more : (2 ^ halvings fuel (n / 2) ≤ n / 2) × (n / 2 < 2 ^ suc (halvings fuel (n / 2))) →
-        (2 ^ suc (halvings fuel (n / 2)) ≤ n) × (n < 2 ^ suc (suc (halvings fuel (n / 2))))
-    more b = let k = halvings fuel (n / 2) in (omega (arith, pow-suc 2 k), omega (arith, pow-suc 2 (suc k)))
-
-pub log2-bounds : (n : ℕ) → 1 ≤ n → (2 ^ log2 n ≤ n) × (n < 2 ^ (log2 n + 1))
-log2-bounds n h = let b = halvings-bounds n n h (omega arith) in let e : log2 n + 1 ≡ suc (log2 n) = omega arith in (b .0, rw e (b .1))
-
--- the highest digit is 1
-pub top-digit : (n : ℕ) → 1 ≤ n → n / 2 ^ log2 n ≡ 1
-top-digit n h = let b = halvings-bounds n n h (omega arith) in
-    div-eq-of-lt-le {k = 1} (2 ^ log2 n) {m = n} (omega arith) (omega (arith, pow-suc 2 (log2 n)))
 
 module _ (m : ℕ) (table a : List ℕ) where
   -- a digit adds itself to k and to the count
@@ -66,17 +44,17 @@ module _ (p : ℕ) (table : List ℕ) (is : IsTable (suc p) table) (c : Laws (ro
   a = bytes p n v
 
   -- a state holds the power that its k says
-  pub record Holds (s : Chain) : Type 0 where
+  pub record PowerHeld (s : Chain) : Type 0 where
     pub power : s .t ≡ bytes p n (t T (s .k) v)
 
-  doubling-holds : (s : Chain) → Holds s → Holds (doubling (suc p) table s)
+  doubling-holds : (s : Chain) → PowerHeld s → PowerHeld (doubling (suc p) table s)
   unfolding doubling
   doubling-holds s h = record {
     power = rw (h .power, turned-bytes p n fits, product-bytes p table is n fits, t-add T c (s .k) (s .k) v)
         (ap (λ k. bytes p n (t T k v)) (omega arith));
   }
 
-  adding-holds : (d : ℕ) (s : Chain) → Holds s → Holds (adding (suc p) table a d s)
+  adding-holds : (d : ℕ) (s : Chain) → PowerHeld s → PowerHeld (adding (suc p) table a d s)
   unfolding adding
   adding-holds zero s h = h
   adding-holds (suc d) s h = record {
@@ -84,7 +62,7 @@ module _ (p : ℕ) (table : List ℕ) (is : IsTable (suc p) table) (c : Laws (ro
         (ap (λ k. bytes p n (t T k v)) (omega arith));
   }
 
-  digits-holds : (e unread : ℕ) (s : Chain) → Holds s → s .k ≡ e / 2 ^ unread → digits (suc p) table a e unread s .t ≡ bytes p n (t T e v)
+  digits-holds : (e unread : ℕ) (s : Chain) → PowerHeld s → s .k ≡ e / 2 ^ unread → digits (suc p) table a e unread s .t ≡ bytes p n (t T e v)
   unfolding digits
   digits-holds e zero s h q = h .power ∙ ap (λ k. bytes p n (t T k v)) (q ∙ div-one e)
   digits-holds e (suc u) s h q = digits-holds e u _ (adding-holds (e / 2 ^ u % 2) _ (doubling-holds s h)) next
@@ -102,7 +80,7 @@ module _ (p : ℕ) (table : List ℕ) (is : IsTable (suc p) table) (c : Laws (ro
       ap (turned (suc p) 1) (digits-holds (suc p - 1) (log2 (suc p - 1)) (start a) first (sym (top-digit (suc p - 1) (omega arith))))
       ∙ turned-bytes p n fits 1 _ ∙ ap (λ k. bytes p n (turn (at 1) (t T k v))) (omega arith)
     where
-      first : Holds (start a)
+      first : PowerHeld (start a)
       first = record { power = ap (bytes p n) (sym (t-one T v)) }
 
   pub power-vec : (k : ℕ) → power (suc p) table k (bytes p n v) ≡ bytes p n (pow (rows p table) k v)

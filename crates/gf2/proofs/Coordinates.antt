@@ -1,23 +1,24 @@
 -- Laws of coordinates and bytes.
 -- Values: the bits of a number, and the number of given bits.
 -- Lists: the elements of a tabulated list.
--- Digits: a list of numbers of d bits as one row of coordinates, for bytes and words alike.
+-- Digits: a list of numbers of d bits as one row of coordinates, for bytes and limbs alike.
 -- Bytes: `coord` of `pack` and `pack` of `coord`; equal bytes from equal coordinates.
 -- Bitwise operations: their bits, modulo 2.
 use mathlib.Core.Path.{_≡_, refl, sym, ap, ap₂, _∙_}
 use mathlib.Core.List.{List, [], _∷_, _++_}
 use Prim.Native.Nat.{ℕ, zero, suc, _+_, _-_, _*_, _/_, _%_, _^_, _<_, _≤_, min}
 use native.Mathlib.Nat.{zero-min, min-zero, suc-min-suc, add-zero, add-suc, add-mul, mul-comm, add-mul-div-right, div-add-mod', div-eq-of-lt, div-lt-iff-lt-mul, zero-div, mod-eq-of-lt, mod-lt, lt-of-lt-of-le, pow-suc, pow-succ', mul-assoc}
+use native.Mathlib.Numerals.{add-one}
 use native.Mathlib.Decide.{ℕ-discrete, decLt}
 use native.Mathlib.Omega.{arith}
 use lib.Arith.{digits-lt, digits-div, digits-mod}
 use lib.ListN.{length, getD, replicate, length-append, length-replicate, getD-replicate, List·getD-append, List·getD-eq-default}
 use lib.Seq.{getD-at, ext-getD}
 use lib.Bits.{bitAnd, and-shr, and-step, bitXor, xor-shr, xor-add-and, xor-lt}
-use lib.Pow.{pow-pos, pow-mono, pow-add, shl-shr, shr-shr, mod-pow-add, mod-mod-pow, field}
+use lib.Pow.{pow-pos, pow-mono, pow-add, shl-shr, shl-exact, shr-shr, mod-pow-add, mod-mod-pow, field}
 use Rattle.gf2.specs.Sums.{sum}
 use Rattle.gf2.specs.Coordinates.{coord, value, tabulate, pack}
-use Rattle.gf2.proofs.Sums.{sum-ext}
+use Rattle.gf2.proofs.Sums.{sum-ext, sum-next}
 
 pub value-ext : (n : ℕ) (f g : ℕ → ℕ) → ((j : ℕ) → j < n → f j % 2 ≡ g j % 2) → value n f ≡ value n g
 unfolding value
@@ -84,7 +85,7 @@ unfolding tabulate
 tabulate-ext zero f g h = refl
 tabulate-ext (suc n) f g h = ap₂ (λ l x. l ++ (x ∷ [])) (tabulate-ext n f g (λ i l. h i (omega arith))) (h n (omega arith))
 
--- coordinate i is bit i % d of element i / d: bytes are d = 8, words d = 64
+-- coordinate i is bit i % d of element i / d: bytes are d = 8, limbs d = 64
 abbrev pub digit : ℕ → List ℕ → ℕ → ℕ
 digit d l i = getD l (i / d) 0 / 2 ^ (i % d) % 2
 
@@ -186,6 +187,17 @@ and-bit a b k = rw and-shr (omega (arith, and-step (a / 2 ^ k) (b / 2 ^ k), min-
 pub value-xor : (n : ℕ) (f g : ℕ → ℕ) → bitXor (value n f) (value n g) ≡ value n (λ j. f j + g j)
 value-xor n f g = value-eq n (λ j. f j + g j) _ (xor-lt n _ _ (value-lt n f) (value-lt n g)) (λ j l.
     xor-bit (value n f) (value n g) j ∙ omega (arith, value-bit n f j l, value-bit n g j l))
+
+-- one bit more in a byte
+pub byte-next : (f : ℕ → ℕ) (j x y : ℕ) → x ≡ value j f → y ≡ f j % 2 → j < 8 → (y * 2 ^ j % 2 ^ 8 ≡ y * 2 ^ j) × (x + y * 2 ^ j ≡ value (j + 1) f) × (x + y * 2 ^ j < 256)
+byte-next f j x y e h l = (
+  shl-exact {a = y} 1 j 8 (omega arith) (omega arith),
+  there,
+  rw there (lt-of-lt-of-le (value-lt (j + 1) f) (pow-mono {i = j + 1} {j = 8} (omega arith))),
+)
+  where
+    there : x + y * 2 ^ j ≡ value (j + 1) f
+    there = unfold value in (rw (add-one, sum-next) (ap₂ (λ a b. a + b * 2 ^ j) e h))
 
 -- the bits of x % 2 ^ k
 pub mod-bit : (x k j : ℕ) → j < k → x % 2 ^ k / 2 ^ j % 2 ≡ x / 2 ^ j % 2

@@ -2,6 +2,7 @@
 -- Monoid: sums of n terms in any commutative monoid.
 -- Parity: bits added modulo 2, and the parity of a number.
 -- Sums: laws of sums of numbers and of tests of every number below a bound.
+-- Counts: sums that count, and sums over pairs.
 -- Coordinates: laws of bytes and their coordinates.
 -- Remainders: the remainder of a product.
 -- TrailingZeros: the zeros below the lowest one of a number.
@@ -19,12 +20,14 @@
 -- OperandVectors: operands as vectors.
 -- TableVectors: tables, products and rules as vectors.
 -- FieldVectors: the field of operands and that of vectors.
+-- Logarithm: the logarithm rounded down.
 -- Chain: the chain of doublings and addings: its powers and its number of products.
 -- Theorems: the proofs of the statements in specs/Statements.antt.
 -- CarriedTables: the check as a test that computes; the four carried tables pass it.
 pub mod Monoid
 pub mod Parity
 pub mod Sums
+pub mod Counts
 pub mod Coordinates
 pub mod Remainders
 pub mod TrailingZeros
@@ -42,6 +45,7 @@ pub mod VectorCounts
 pub mod OperandVectors
 pub mod TableVectors
 pub mod FieldVectors
+pub mod Logarithm
 pub mod Chain
 pub mod Theorems
 pub mod CarriedTables

@@ -1,13 +1,16 @@
 -- Laws of `sum` and `every`.
--- Sums: equal terms, terms added, no term but 0, no term above a bound, a sum split at a place, two sums exchanged, a sum by digits, a sum modulo 2.
+-- Sums: equal terms, terms added, no term but 0, none, one and one more, no term above a bound, a sum split at a place, two sums exchanged, a sum by digits, a sum modulo 2,
+-- a sum of bits, and the ones of a number as the sum of its bits.
 -- Tests: a test that holds of every number below a bound, both ways; a search for one of which it doesn't.
 use mathlib.Core.Path.{_≡_, refl, sym, ap, ap₂, fun-ext, _∙_}
 use mathlib.Core.Bool.{Bool, true, false, _&&_, true≢false}
-use Prim.Native.Nat.{ℕ, zero, suc, _+_, _-_, _*_, _%_, _<_, _≤_}
+use Prim.Native.Nat.{ℕ, zero, suc, _+_, _-_, _*_, _/_, _%_, _^_, _<_, _≤_}
 use native.Mathlib.Decide.{ℕ-discrete}
-use native.Mathlib.Nat.{add-zero, zero-mul, suc-mul}
+use native.Mathlib.Nat.{add-zero, zero-add, zero-mul, suc-mul, pow-suc}
 use native.Mathlib.Numerals.{add-one}
 use native.Mathlib.Omega.{arith}
+use lib.Pow.{shr-shr}
+use lib.Count.{ones, ones-step}
 use Rattle.gf2.specs.Sums.{sum, every}
 use Rattle.gf2.proofs.Monoid.{nats, big, sum-big, big-ext, big-plus, big-append, big-swap}
 
@@ -21,6 +24,18 @@ pub sum-none : (n : ℕ) (f : ℕ → ℕ) → ((i : ℕ) → i < n → f i ≡ 
 unfolding sum
 sum-none zero f z = refl
 sum-none (suc n) f z = rw (sum-none n f (λ i l. z i (omega arith)), z n (omega arith))
+
+pub sum-zero : (f : ℕ → ℕ) → sum 0 f ≡ 0
+unfolding sum
+sum-zero f = refl
+
+pub sum-one : (f : ℕ → ℕ) → sum 1 f ≡ f 0
+unfolding sum
+sum-one f = zero-add (f 0)
+
+pub sum-next : (f : ℕ → ℕ) (n : ℕ) → sum (suc n) f ≡ sum n f + f n
+unfolding sum
+sum-next f n = refl
 
 pub sum-split : (n k : ℕ) (f : ℕ → ℕ) → sum (n + k) f ≡ sum n f + sum k (λ i. f (n + i))
 sum-split n k f = sum-big (n + k) f ∙ big-append nats n k f ∙ sym (ap₂ _+_ (sum-big n f) (sum-big k (λ i. f (n + i))))
@@ -53,6 +68,23 @@ pub sum-mod : (n : ℕ) (f : ℕ → ℕ) → sum n (λ i. f i % 2) % 2 ≡ sum 
 unfolding sum
 sum-mod zero f = refl
 sum-mod (suc n) f = omega (arith, sum-mod n f)
+
+-- terms that are equal modulo 2
+pub sum-cong : (n : ℕ) (f g : ℕ → ℕ) → ((i : ℕ) → i < n → f i % 2 ≡ g i % 2) → sum n f % 2 ≡ sum n g % 2
+sum-cong n f g h = sym (sum-mod n f) ∙ ap (λ x. x % 2) (sum-ext n _ _ h) ∙ sum-mod n g
+
+-- a sum of bits
+pub sum-bits : (n : ℕ) (f : ℕ → ℕ) → ((i : ℕ) → f i < 2) → sum n f ≤ n
+sum-bits n f h = omega (arith, sum-most n 1 f (λ i. omega (arith, h i)))
+
+-- the ones of a number are the sum of its bits
+pub count-bits : (k n : ℕ) → n < 2 ^ k → ones n ≡ sum k (λ j. n / 2 ^ j % 2)
+unfolding sum ones
+count-bits zero n h = let z : n ≡ 0 = omega arith in ap ones z
+count-bits (suc k) n h =
+    let s : suc k ≡ 1 + k = omega arith in
+    ones-step n ∙ sym (ap (λ c. sum c (λ j. n / 2 ^ j % 2)) s ∙ sum-split 1 k (λ j. n / 2 ^ j % 2)
+    ∙ ap₂ _+_ (omega arith) (sum-ext k _ (λ j. n / 2 / 2 ^ j % 2) (λ j l. ap (λ y. y % 2) (sym (shr-shr n 1 j))) ∙ sym (count-bits k (n / 2) (omega (arith, pow-suc 2 k)))))
 
 both : (a b : Bool) → (a && b) ≡ true → (a ≡ true) × (b ≡ true)
 both true b e = (refl, e)

@@ -24,7 +24,8 @@ use Rattle.gf2.proofs.VectorCounts.{onesOf, halfPairs, count-pairs, dia
 use Rattle.gf2.proofs.OperandVectors.{bit-coord, bytes-fit, vec, bytes, operand-vec, zeroes-vec, ones-vec, bytes-inj}
 use Rattle.gf2.proofs.TableVectors.{rows, row-vec, pair-odd, product-vec, product-bytes, reduced-vec, distance-vec, symmetric, rule6, rule7}
 use Rattle.gf2.proofs.FieldVectors.{laws, accepted, from-unit, from-field, from-squares, to-field, to-squares}
-use Rattle.gf2.proofs.Chain.{log2-bounds, products-made, inverse-vec, power-vec}
+use Rattle.gf2.proofs.Logarithm.{log2-bounds}
+use Rattle.gf2.proofs.Chain.{products-made, inverse-vec, power-vec}
 
 pub theoremA : TheoremA
 theoremA zero table two is = absurd (omega arith)

@@ -8,6 +8,7 @@ pub use fault::Fault;
 pub use fault::FaultNumber;
 pub use fault::is_none;
 pub use fault::number;
+pub use parts::judge_both_high;
 pub use parts::judge_high;
 pub use parts::judge_length;
 pub use parts::judge_pair_sizes;

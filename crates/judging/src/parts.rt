@@ -114,3 +114,14 @@ pub fn judge_high(x: [u8; limbs::BYTES], width: usize) -> Fault
         Fault::HighBit
     }
 }
+
+// The bits of two operands.
+pub fn judge_both_high(x: [u8; limbs::BYTES], m: usize, y: [u8; limbs::BYTES], n: usize) -> Fault
+    ensures { λ r. ⌜ r ≡ faultOf (highBit m x ∷ highBit n y ∷ []) ⌝ }
+{
+    let first = judge_high(x, m);
+    if !is_none(first) {
+        return first;
+    }
+    judge_high(y, n)
+}

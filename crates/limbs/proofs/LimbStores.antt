@@ -1,5 +1,5 @@
 -- Limbs stored in a list of bytes.
--- Put: the loop that stores the bytes of one limb. Cleared: the loop that stores 0.
+-- LimbPut: the loop that stores the bytes of one limb. Cleared: the loop that stores 0.
 -- Stored: the whole limbs, the last eight bytes where a limb ends past the list, and what is past the limbs.
 use mathlib.Core.Path.{_≡_, refl, sym, ap, _∙_}
 use mathlib.Core.List.{List, [], _∷_}
@@ -13,15 +13,15 @@ use lib.Seq.{ext-getD, getD-set-same, getD-set-other}
 use Rattle.gf2.specs.Coordinates.{value, tabulate, pack}
 use Rattle.gf2.specs.Operands.{carriedBytes}
 use Rattle.gf2.proofs.Coordinates.{value-ext, value-bits, value-bit, value-eq, length-tabulate, getD-tabulate}
-use Rattle.limbs.specs.Limbs.{carriedLimbs, limbCoord, Put, Cleared, Stored}
+use Rattle.limbs.specs.Limbs.{carriedLimbs, limbCoord, LimbPut, Cleared, Stored}
 use Rattle.limbs.proofs.LimbCoords.{limb-digit, limb-past}
 use Rattle.limbs.proofs.LimbLoops.{pair-coord}
 
-pub put-none : (limb b : ℕ) (l : List ℕ) → Put 0 limb b l l
+pub put-none : (limb b : ℕ) (l : List ℕ) → LimbPut 0 limb b l l
 put-none limb b l = record { size = refl; front = λ i h. refl; bytes = λ j h. absurd (omega arith) }
 
-module _ {t limb b : ℕ} {l₀ l : List ℕ} (done : Put t limb b l₀ l) where
-  pub put-more : {at x : ℕ} → at ≡ b + t → b + t < length l₀ → x ≡ limb / 2 ^ (8 * t) % 256 → Put (t + 1) limb b l₀ (set l at x)
+module _ {t limb b : ℕ} {l₀ l : List ℕ} (done : LimbPut t limb b l₀ l) where
+  pub put-more : {at x : ℕ} → at ≡ b + t → b + t < length l₀ → x ≡ limb / 2 ^ (8 * t) % 256 → LimbPut (t + 1) limb b l₀ (set l at x)
   put-more {at} {x} p h e = record {
     size = length-set l at x ∙ done .size;
     front = λ i k. getD-set-other l at i x 0 (λ q. omega arith) ∙ done .front i k;
@@ -32,7 +32,7 @@ module _ {t limb b : ℕ} {l₀ l : List ℕ} (done : Put t limb b l₀ l) where
   }
 
   -- all eight bytes, or as many as the list has
-  pub put-all : ((j : ℕ) → j < 8 → b + j < length l₀ → j < t) → Put 8 limb b l₀ l
+  pub put-all : ((j : ℕ) → j < 8 → b + j < length l₀ → j < t) → LimbPut 8 limb b l₀ l
   put-all h = record { size = done .size; front = done .front; bytes = λ j k r. done .bytes j (h j k r) r }
 
 pub cleared-none : (b : ℕ) (l : List ℕ) → Cleared b b l l
@@ -52,7 +52,7 @@ pub cleared-all : {a b n : ℕ} {l₀ l : List ℕ} → Cleared a b l₀ l → n
 cleared-all done h = record { size = done .size; front = done .front; zeroes = λ i r s. done .zeroes i r (omega arith) }
 
 -- a limb whose bits are the coordinates f from byte b on
-put-coords : {limb b : ℕ} {l after : List ℕ} (f : ℕ → ℕ) → Put 8 limb b l after → ((t : ℕ) → t < 64 → limb / 2 ^ t % 2 ≡ f (b * 8 + t) % 2)
+put-coords : {limb b : ℕ} {l after : List ℕ} (f : ℕ → ℕ) → LimbPut 8 limb b l after → ((t : ℕ) → t < 64 → limb / 2 ^ t % 2 ≡ f (b * 8 + t) % 2)
     → (i : ℕ) → b ≤ i → i < b + 8 → i < length l → getD after i 0 ≡ value 8 (λ j. f (i * 8 + j))
 put-coords {limb} {b} {l} {after} f put bits i h k r =
     let e : i ≡ b + (i - b) = omega arith in
@@ -73,7 +73,7 @@ pub stored-by : {x : List ℕ} {m n : ℕ} {l : List ℕ} → Stored x m n l →
 stored-by done m' n' h = record { bytes = λ i p q. done .bytes i (h i p q .0) (h i p q .1) }
 
 -- a limb more, which has room
-pub stored-limb : {x : List ℕ} (w : ℕ) {n : ℕ} {l after : List ℕ} → Stored x (w * 8) n l → Put 8 (getD x w 0) (8 * w) l after → 8 * w + 8 ≤ length l → Stored x ((w + 1) * 8) n after
+pub stored-limb : {x : List ℕ} (w : ℕ) {n : ℕ} {l after : List ℕ} → Stored x (w * 8) n l → LimbPut 8 (getD x w 0) (8 * w) l after → 8 * w + 8 ≤ length l → Stored x ((w + 1) * 8) n after
 stored-limb {x} w done put h = record {
   bytes = λ i p q. elim (decLt i (8 * w)) [
     | yes r ↦ put .front i r ∙ done .bytes i (omega arith) q
@@ -82,7 +82,7 @@ stored-limb {x} w done put h = record {
 }
 
 -- the last eight bytes
-pub stored-last : {x : List ℕ} {m n : ℕ} {l after : List ℕ} {limb : ℕ} → Stored x m (n / 8 * 8) l → Put 8 limb (n - 8) l after → n ≡ length l → 8 ≤ n
+pub stored-last : {x : List ℕ} {m n : ℕ} {l after : List ℕ} {limb : ℕ} → Stored x m (n / 8 * 8) l → LimbPut 8 limb (n - 8) l after → n ≡ length l → 8 ≤ n
     → limb ≡ value 64 (λ j. limbCoord (getD x (n / 8 - 1) 0 ∷ getD x (n / 8) 0 ∷ []) (8 * (n % 8) + j)) → Stored x m n after
 stored-last {x} {m} {n} {l} {after} {limb} done put size h e = record {
   bytes = λ i p q. elim (decLt i (n - 8)) [
@@ -118,7 +118,7 @@ cleared-pack {x} {l} {after} {m} {n} {t} size done clear e h k = stored-pack all
     }
 
 -- a list of less than eight bytes
-pub part-pack : (x : List ℕ) {l after : List ℕ} → Put 8 (getD x 0 0) 0 l after → length l < 8 → after ≡ pack (length l) (limbCoord x)
+pub part-pack : (x : List ℕ) {l after : List ℕ} → LimbPut 8 (getD x 0 0) 0 l after → length l < 8 → after ≡ pack (length l) (limbCoord x)
 part-pack x {l} {after} put h = stored-pack all (omega arith) (put .size)
   where
     all : Stored x 8 (length l) after

@@ -1,13 +1,11 @@
 -- A carried operand as limbs of 64 bits: the coordinates of its bytes, in larger digits.
 use mathlib.Core.Path.{_≡_}
-use mathlib.Core.Bool.{_&&_}
 use mathlib.Core.List.{List}
-use Prim.Native.Nat.{ℕ, zero, suc, _+_, _-_, _*_, _/_, _%_, _^_, _<_, _≤_}
-use lib.Dec.{ltb, leb, eqb}
+use Prim.Native.Nat.{ℕ, _+_, _-_, _*_, _/_, _%_, _^_, _<_, _≤_}
+use lib.Dec.{leb}
 use lib.ListN.{length, getD}
-use Rattle.gf2.specs.Coordinates.{coord, value, tabulate}
-use Rattle.gf2.specs.Operands.{maxWidth, carriedBytes, choose}
-use Rattle.gf2.specs.Tables.{row}
+use Rattle.gf2.specs.Coordinates.{value, tabulate}
+use Rattle.gf2.specs.Operands.{carriedBytes, choose}
 
 -- the limbs of `carriedBytes` bytes
 abbrev pub carriedLimbs : ℕ
@@ -25,21 +23,8 @@ packLimbs n f = tabulate n (λ w. value 64 (λ j. f (w * 64 + j)))
 abbrev pub raised : ℕ → (ℕ → ℕ) → ℕ → ℕ
 raised n f i = choose (leb n i) (f (i - n)) 0
 
--- the first of start, start + 1, .., `count` of them, where f isn't 0; start + count where there is none
-unfoldable pub firstOne : (ℕ → ℕ) → ℕ → ℕ → ℕ
-firstOne f start zero = start
-firstOne f start (suc count) = choose (eqb (f start) 0) (firstOne f (start + 1) count) start
-
--- the first place from `from` on that is 1; where there is none, the place after the last, or `from` where that is greater
-abbrev pub nextOne : List ℕ → ℕ → ℕ
-nextOne x from = firstOne (limbCoord x) from (64 * carriedLimbs - from)
-
--- row d of any table of width m; 0 where there is no row d, or m is no width
-unfoldable pub rowLimbs : ℕ → List ℕ → ℕ → List ℕ
-rowLimbs m table d = packLimbs carriedLimbs (choose (ltb d m && leb m maxWidth) (coord (row m table d)) (λ i. 0))
-
 -- the first t bytes of a limb, in a list from place b on as far as that goes; what stands before them is as it was
-pub record Put (t limb b : ℕ) (before after : List ℕ) : Type 0 where
+pub record LimbPut (t limb b : ℕ) (before after : List ℕ) : Type 0 where
   pub size : length after ≡ length before
   pub front : (i : ℕ) → i < b → getD after i 0 ≡ getD before i 0
   pub bytes : (j : ℕ) → j < t → b + j < length before → getD after (b + j) 0 ≡ limb / 2 ^ (8 * j) % 256

@@ -2,7 +2,6 @@
 // The three sizes of the house stand here.
 mod bytes;
 mod limbs;
-mod rows;
 
 pub use bytes::bytes_for;
 pub use bytes::carried;
@@ -12,16 +11,14 @@ pub use bytes::is_clear;
 pub use bytes::xored;
 pub use limbs::limb_at;
 pub use limbs::limb_below;
+pub use limbs::limb_of;
 pub use limbs::low_limbs;
 pub use limbs::lower_pair;
 pub use limbs::raise_pair;
+pub use limbs::slice_limbs;
 pub use limbs::to_bytes;
 pub use limbs::to_limbs;
 pub use limbs::xored_limbs;
-pub use rows::next_one;
-pub use rows::ones_in;
-pub use rows::ones_of;
-pub use rows::row_limbs;
 
 // The greatest width.
 pub const MAX_WIDTH: usize = 255;

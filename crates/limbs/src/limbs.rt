@@ -1,4 +1,4 @@
-// A carried operand in words of 64 bits: coordinate i is bit i % 64 of limb i / 64.
+// A carried operand in limbs of 64 bits: coordinate i is bit i % 64 of limb i / 64.
 // The way from bytes to limbs and back, by whole limbs where the bytes reach; sums, the coordinates below a width, a limb by its
 // place, and two limbs in a row shifted.
 ghost use mathlib.Core.Path.{_≡_};
@@ -8,7 +8,7 @@ ghost use lib.ListN.{length, getD};
 ghost use lib.Bits.{bitAnd};
 ghost use Rattle.gf2.specs.Coordinates.{coord, value, pack};
 ghost use Rattle.gf2.specs.Operands.{carriedBytes, below};
-ghost use Rattle.limbs.specs.Limbs.{carriedLimbs, limbCoord, packLimbs, raised, Put, Cleared, Stored};
+ghost use Rattle.limbs.specs.Limbs.{carriedLimbs, limbCoord, packLimbs, raised, LimbPut, Cleared, Stored};
 use crate::BYTES;
 use crate::LIMBS;
 
@@ -63,7 +63,7 @@ fn few(s: &[u8]) -> u64
 }
 
 // Limb w of a slice, 0 past its end. Where the slice ends in it, its last eight bytes are read and shifted down.
-pub(crate) fn slice_limb(s: &[u8], w: usize) -> u64
+fn slice_limb(s: &[u8], w: usize) -> u64
     requires { ⌜ w < 2 ^ 60 ⌝ }
     ensures { λ r. ⌜ r ≡ value 64 (λ j. coord (now (s .entry)) (w * 64 + j)) ⌝ }
 {
@@ -81,8 +81,18 @@ pub(crate) fn slice_limb(s: &[u8], w: usize) -> u64
     eight(s, n - 8) >> (8 * (b + 8 - n))
 }
 
+// The same for any w.
+pub fn limb_of(s: &[u8], w: usize) -> u64
+    ensures { λ r. ⌜ r ≡ value 64 (λ j. coord (now (s .entry)) (w * 64 + j)) ⌝ }
+{
+    if s.len() / 8 < w {
+        return 0;
+    }
+    slice_limb(s, w)
+}
+
 // The coordinates of a slice, in the limbs of a carried operand.
-pub(crate) fn slice_limbs(s: &[u8]) -> [u64; LIMBS]
+pub fn slice_limbs(s: &[u8]) -> [u64; LIMBS]
     ensures { λ r. ⌜ r ≡ packLimbs carriedLimbs (coord (now (s .entry))) ⌝ }
 {
     let mut out = [0u64; LIMBS];
@@ -117,7 +127,7 @@ fn byte_of(limb: u64, j: usize) -> u8
 // A limb into eight bytes of a slice, from b on. Stores in a row, which are compiled to one.
 fn put_whole(limb: u64, b: usize, out: &mut [u8])
     requires { ⌜ (b < carriedBytes) × (b + 8 ≤ length (now out)) ⌝ }
-    ensures { λ _. ⌜ Put 8 limb b (now (out .entry)) (now (out .exit)) ⌝ }
+    ensures { λ _. ⌜ LimbPut 8 limb b (now (out .entry)) (now (out .exit)) ⌝ }
 {
     let mut j = 0;
     while j < 8 {
@@ -129,7 +139,7 @@ fn put_whole(limb: u64, b: usize, out: &mut [u8])
 // A limb into the bytes of a slice of less than eight.
 fn put_part(limb: u64, out: &mut [u8])
     requires { ⌜ length (now out) < 8 ⌝ }
-    ensures { λ _. ⌜ Put 8 limb 0 (now (out .entry)) (now (out .exit)) ⌝ }
+    ensures { λ _. ⌜ LimbPut 8 limb 0 (now (out .entry)) (now (out .exit)) ⌝ }
 {
     let mut j = 0;
     while j < out.len() {

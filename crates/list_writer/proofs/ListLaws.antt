@@ -8,6 +8,7 @@ use native.Mathlib.Omega.{arith}
 use lib.ListN.{length, getD, set, take, length-append}
 use lib.Seq.{sets, length-sets, take-at, getD-set-same, set-set}
 use lib.Dec.{ltb, eqb}
+use Rattle.gf2.proofs.Sums.{sum-zero}
 use Rattle.gf2.specs.Coordinates.{coord}
 use Rattle.gf2.specs.Operands.{maxWidth, choose, minus}
 use Rattle.gf2.specs.Tables.{IsTable, row}
@@ -15,19 +16,20 @@ use Rattle.table.specs.Rows.{Shaped}
 use Rattle.netlist.specs.Gates.{Gate, Netlist, wordLimit, gateWords, words}
 use Rattle.netlist.specs.Lists.{each, only, pairs, ands, mixes, fold, end, start, folds, ends, folded, andWire, mixWire, has, isShared, allOnes, plainTerms, plain, reducedTerms, reduced, sharedTerms, sharedWire, otherTerms, sharing}
 use Rattle.netlist.specs.Statements.{Sized}
-use Rattle.netlist.proofs.SumLaws.{sum-zero}
 use Rattle.netlist.proofs.FoldLaws.{length-fold}
 use Rattle.netlist.proofs.NetlistLaws.{length-ands, length-outputs}
 use Rattle.netlist.proofs.ListLaws.{minus-lt, ones-at, pair-coord, shared-row}
 use Rattle.netlist.proofs.TableLaws.{width-square}
 use Rattle.netlist.proofs.StoreLaws.{sets-append, sets-whole}
 use Rattle.netlist.proofs.WordLaws.{length-words}
-use Rattle.list_parts.specs.declared.terms.Terms.{Terms}
-use Rattle.list_parts.specs.declared.columns.Rows.{Rows}
-use Rattle.list_parts.specs.declared.columns.Rows.the-variants.{All, Full, Others}
-use Rattle.list_parts.specs.Parts.{Put, rowGates, pairGate, pairGates, pairsFrom, keptBit, squareTerm, tableTerms, foldGates, foldWires}
-use Rattle.list_parts.proofs.TermLaws.{each-ext, each-most, only-most}
-use Rattle.list_parts.proofs.PutLaws.{put-more, pairs-fit, pairs-most, count-fits, Folded, folded-same}
+use Rattle.list_pairs.specs.Pairs.{GatesPut, rowGates, pairGate, pairGates, pairsFrom}
+use Rattle.list_pairs.proofs.PutLaws.{each-most, only-most, put-more, pairs-fit, pairs-most}
+use Rattle.list_folds.specs.declared.terms.Terms.{Terms}
+use Rattle.list_folds.specs.declared.columns.Rows.{Rows}
+use Rattle.list_folds.specs.declared.columns.Rows.the-variants.{All, Full, Others}
+use Rattle.list_folds.specs.TableFolds.{keptBit, squareTerm, tableTerms, foldGates, foldWires}
+use Rattle.list_folds.proofs.TermLaws.{each-ext}
+use Rattle.list_folds.proofs.FoldedLaws.{count-fits, Folded, folded-same}
 use Rattle.list_writer.specs.Inner.{Written, listed}
 
 -- the gates of pairs
@@ -105,18 +107,18 @@ overwritten l [] e h = absurd (omega arith)
 overwritten l (o ∷ os) e h = ap (λ z. sets z 1 os) (set-set l 0 e o)
 
 -- a list: the gates before the folds, then these
-list-written : (t : Terms) {m n k : ℕ} {table : List ℕ} {gates : List Gate} {U : ℕ → List ℕ} {old mid wires out new : List ℕ} → Shaped m table → n < wordLimit / 2 → Put 0 old gates n mid →
-    ((r : ℕ) → r < m → tableTerms t m table r ≡ U r) → Put n mid (foldGates t m table m n) k out × (new ≡ sets wires 0 (foldWires t m table m n)) → Written (folded m gates U) old wires out new
+list-written : (t : Terms) {m n k : ℕ} {table : List ℕ} {gates : List Gate} {U : ℕ → List ℕ} {old mid wires out new : List ℕ} → Shaped m table → n < wordLimit / 2 → GatesPut 0 old gates n mid →
+    ((r : ℕ) → r < m → tableTerms t m table r ≡ U r) → GatesPut n mid (foldGates t m table m n) k out × (new ≡ sets wires 0 (foldWires t m table m n)) → Written (folded m gates U) old wires out new
 unfolding folded
 list-written t {m = m} {gates = gates} h few p e x =
     let start-at = p .next ∙ zero-add (length gates) in
-    let f = count-fits (h .least) (h .greatest) few {count = m} (omega arith) in
+    let f = count-fits {count = m} (h .least) (h .greatest) few (omega arith) in
     let y = folded-same (sym f) (λ r l. e r (omega (arith, f))) (record { put = x .0; sums = x .1 }) in
     record { words = rw start-at at (put-more p (y .put) .words); outputs = rw start-at at (y .sums) }
 
 -- the plain, the reduced and the sharing list
-module _ {m : ℕ} {table : List ℕ} (h : Shaped m table) {n : ℕ} {old mid : List ℕ} (p : Put 0 old (pairsFrom false m 0) n mid) where
-  put-ands : Put 0 old (ands m) n mid
+module _ {m : ℕ} {table : List ℕ} (h : Shaped m table) {n : ℕ} {old mid : List ℕ} (p : GatesPut 0 old (pairsFrom false m 0) n mid) where
+  put-ands : GatesPut 0 old (ands m) n mid
   put-ands = rw (pairs-fit {n = 0} (h .least) (h .greatest) (omega arith) false ∙ pairs-ands m) at p
 
   ands-number : n ≡ m * m
@@ -125,38 +127,38 @@ module _ {m : ℕ} {table : List ℕ} (h : Shaped m table) {n : ℕ} {old mid : 
   ands-few : n + m * m < wordLimit / 2
   ands-few = omega (arith, ands-number, width-square m m (h .greatest) (h .greatest))
 
-  pub plain-written : {k : ℕ} {wires out new : List ℕ} → Put n mid (foldGates (none-last All false) m table m n) k out × (new ≡ sets wires 0 (foldWires (none-last All false) m table m n)) →
+  pub plain-written : {k : ℕ} {wires out new : List ℕ} → GatesPut n mid (foldGates (none-last All false) m table m n) k out × (new ≡ sets wires 0 (foldWires (none-last All false) m table m n)) →
       Written (plain m table) old wires out new
   unfolding plain
   plain-written x = list-written (none-last All false) h (omega (arith, ands-few)) put-ands (plain-terms m table (h .isTable)) x
 
-  module _ {q : ℕ} {next : List ℕ} (y : Put n mid (pairsFrom true m n) q next) where
-    put-mixed : Put n mid (pairGates true m m) q next
+  module _ {q : ℕ} {next : List ℕ} (y : GatesPut n mid (pairsFrom true m n) q next) where
+    put-mixed : GatesPut n mid (pairGates true m m) q next
     put-mixed = rw (pairs-fit {n = n} (h .least) (h .greatest) (omega (arith, ands-few)) true) at y
 
-    pub reduced-written : {k : ℕ} {wires out new : List ℕ} → Put q next (foldGates (none-last All true) m table m q) k out × (new ≡ sets wires 0 (foldWires (none-last All true) m table m q)) →
+    pub reduced-written : {k : ℕ} {wires out new : List ℕ} → GatesPut q next (foldGates (none-last All true) m table m q) k out × (new ≡ sets wires 0 (foldWires (none-last All true) m table m q)) →
         Written (reduced m table) old wires out new
     unfolding reduced
     reduced-written x = list-written (none-last All true) h (omega (arith, ands-few, put-mixed .next, pairs-most true m m)) (put-more put-ands (rw (pairs-mixes m) at put-mixed)) (reduced-terms m table (h .isTable)) x
 
   module _ {q : ℕ} {next sums : List ℕ} (wires : List ℕ) (some : 1 ≤ length wires)
-      (x : Put n mid (foldGates (none-last Full false) m table 1 n) q next × (sums ≡ sets wires 0 (foldWires (none-last Full false) m table 1 n))) where
+      (x : GatesPut n mid (foldGates (none-last Full false) m table 1 n) q next × (sums ≡ sets wires 0 (foldWires (none-last Full false) m table 1 n))) where
     abbrev terms : List ℕ
     terms = sharedTerms m table
 
     one : Folded m 1 n (λ r. terms) mid wires q next sums
     one =
         let few : n < wordLimit / 2 = omega (arith, ands-few) in
-        let f = count-fits (h .least) (h .greatest) few {count = 1} (omega (arith, h .least)) in
+        let f = count-fits {count = 1} (h .least) (h .greatest) few (omega (arith, h .least)) in
         folded-same (sym f) (λ r l. shared-terms m table (h .isTable) r (omega (arith, f, h .least))) (record { put = x .0; sums = x .1 })
 
-    shared-put : Put 0 old (ands m ++ fold (2 * m + m * m) terms) q next
-    shared-put = put-more put-ands (subst (λ z. Put n mid z q next) (one-fold (2 * m + n) (λ r. terms) ∙ ap (λ k. fold (2 * m + k) terms) ands-number) (one .put))
+    shared-put : GatesPut 0 old (ands m ++ fold (2 * m + m * m) terms) q next
+    shared-put = put-more put-ands (subst (λ z. GatesPut n mid z q next) (one-fold (2 * m + n) (λ r. terms) ∙ ap (λ k. fold (2 * m + k) terms) ands-number) (one .put))
 
     sum-of : sums ≡ set wires 0 (sharedWire m table)
     sum-of = one .sums ∙ ap (sets wires 0) (one-end (2 * m + n) (λ r. terms)) ∙ ap (λ k. set wires 0 (end (2 * m + k) terms)) ands-number
 
-    pub sharing-written : {k : ℕ} {out new : List ℕ} → Put q next (foldGates (others (getD sums 0 0)) m table m q) k out × (new ≡ sets sums 0 (foldWires (others (getD sums 0 0)) m table m q)) →
+    pub sharing-written : {k : ℕ} {out new : List ℕ} → GatesPut q next (foldGates (others (getD sums 0 0)) m table m q) k out × (new ≡ sets sums 0 (foldWires (others (getD sums 0 0)) m table m q)) →
         Written (sharing m table) old wires out new
     unfolding sharing
     sharing-written y =

@@ -11,8 +11,8 @@ ghost use Rattle.netlist.specs.Methods.{listBy};
 ghost use Rattle.list_writer.specs.Inner.{Written, Told, listed};
 use judging::CallFault;
 use judging::Fault;
-use list_parts::Rows;
-use list_parts::Terms;
+use list_folds::Rows;
+use list_folds::Terms;
 use netlist::AndCount;
 use netlist::CountsAnswer;
 use netlist::Method;
@@ -25,7 +25,7 @@ fn put_words(out: &mut [u32], at: usize, words: &[u32], n: usize)
 {
     let mut k = 0;
     while k < n {
-        list_parts::put(out, at + k, words[k]);
+        list_pairs::put(out, at + k, words[k]);
         k += 1;
     }
 }
@@ -40,8 +40,8 @@ fn put_plain(out: &mut [u32], ends: &mut [u32], width: usize, table: &[u8])
         last: false,
         wire: 0,
     };
-    let n = list_parts::put_pairs(out, width, false, 0);
-    list_parts::put_folds(out, ends, width, table, pairs, width, n);
+    let n = list_pairs::put_pairs(out, width, false, 0);
+    list_folds::put_folds(out, ends, width, table, pairs, width, n);
 }
 
 fn put_reduced(out: &mut [u32], ends: &mut [u32], width: usize, table: &[u8])
@@ -54,9 +54,9 @@ fn put_reduced(out: &mut [u32], ends: &mut [u32], width: usize, table: &[u8])
         last: false,
         wire: 0,
     };
-    let ands = list_parts::put_pairs(out, width, false, 0);
-    let n = list_parts::put_pairs(out, width, true, ands);
-    list_parts::put_folds(out, ends, width, table, pairs, width, n);
+    let ands = list_pairs::put_pairs(out, width, false, 0);
+    let n = list_pairs::put_pairs(out, width, true, ands);
+    list_folds::put_folds(out, ends, width, table, pairs, width, n);
 }
 
 // The shared pairs are one fold, whose wire is then the last term for every coordinate.
@@ -70,15 +70,15 @@ fn put_sharing(out: &mut [u32], ends: &mut [u32], width: usize, table: &[u8])
         last: false,
         wire: 0,
     };
-    let ands = list_parts::put_pairs(out, width, false, 0);
-    let n = list_parts::put_folds(out, ends, width, table, shared, 1, ands);
+    let ands = list_pairs::put_pairs(out, width, false, 0);
+    let n = list_folds::put_folds(out, ends, width, table, shared, 1, ands);
     let others = Terms {
         rows: Rows::Others,
         mixed: false,
         last: true,
         wire: ends[0],
     };
-    list_parts::put_folds(out, ends, width, table, others, width, n);
+    list_folds::put_folds(out, ends, width, table, others, width, n);
 }
 
 // The gates, and the output wires aside; `full` is the number of rows whose pairs are shared.
@@ -110,8 +110,8 @@ fn put_list(out: &mut [u32], width: usize, table: &[u8], method: Method, full: u
     ensures { λ _. ⌜ now (out .exit) ≡ listed width (listBy method width (now (table .entry))) (now (out .entry)) ⌝ }
 {
     let mut ends = [0u32; limbs::MAX_WIDTH];
-    list_parts::put(out, 0, width as u32);
-    list_parts::put(out, 1, g as u32);
+    list_pairs::put(out, 0, width as u32);
+    list_pairs::put(out, 1, g as u32);
     put_gates(out, &mut ends, width, table, method, full);
     put_words(out, 2 + 3 * g, &ends, width);
 }

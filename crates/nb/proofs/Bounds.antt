@@ -2,7 +2,7 @@
 use mathlib.Core.Path.{_≡_, refl, sym, subst}
 use mathlib.Core.Bool.{true}
 use mathlib.Core.List.{List, [], _∷_}
-use Prim.Native.Nat.{ℕ, zero, suc, _-_, _*_, _/_, _%_, _^_, _<_, _≤_}
+use Prim.Native.Nat.{ℕ, suc, _-_, _*_, _/_, _%_, _^_, _<_, _≤_}
 use native.Mathlib.Omega.{arith}
 use lib.ListN.{length}
 use Rattle.gf2.specs.Sums.{sum}
@@ -10,6 +10,7 @@ use Rattle.gf2.specs.Operands.{maxWidth, bytesFor}
 use Rattle.gf2.specs.Tables.{onesIn}
 use Rattle.gf2.specs.Quadratic.{trace}
 use Rattle.gf2.specs.Inverse.{log2, binaryOnes, productsMade}
+use Rattle.gf2.proofs.Sums.{sum-bits}
 use Rattle.gf2.proofs.Chain.{products-made}
 use Rattle.judging.specs.declared.fault.Fault.{Fault}
 use Rattle.judging.specs.Faults.{isNone}
@@ -24,7 +25,7 @@ use Rattle.table.specs.declared.OnesAnswer.{OnesAnswer}
 use Rattle.table.specs.Judgements.{symmetryFault}
 use Rattle.table.specs.Calls.{onesCall}
 use Rattle.product.specs.Causes.{inverseBytesCauses}
-use Rattle.product.proofs.ChainSteps.{log2-le}
+use Rattle.gf2.proofs.Logarithm.{log2-le}
 use Rattle.netlist.specs.declared.CountsAnswer.{CountsAnswer}
 use Rattle.netlist.specs.Gates.{Netlist, words, andGates, xorGates}
 use Rattle.netlist.specs.Lists.{plain, reduced, common}
@@ -47,15 +48,10 @@ use Rattle.card_writer.proofs.Lengths.{card-most}
 use Rattle.nb.specs.Packing.{valueLimit, isSmall, Packs}
 use Rattle.nb.proofs.PackLaws.{small-causes, small-both, small-shape, small-symmetry, small-read}
 
-sum-bits : (n : ℕ) (f : ℕ → ℕ) → sum n (λ j. f j % 2) ≤ n
-unfolding sum
-sum-bits zero f = omega arith
-sum-bits (suc n) f = omega (arith, sum-bits n f)
-
 made-small : (m : ℕ) (t a : List ℕ) → 2 ≤ m → m ≤ maxWidth → productsMade m t a < valueLimit
 unfolding binaryOnes
 made-small m t a h l =
-    omega (arith, products-made m t a h, log2-le (m - 1), sum-bits (suc (log2 (m - 1))) (λ j. (m - 1) / 2 ^ j))
+    omega (arith, products-made m t a h, log2-le (m - 1), sum-bits (suc (log2 (m - 1))) (λ j. (m - 1) / 2 ^ j % 2) (λ j. omega arith))
 
 -- the products of an inverse
 pub inverse-packs : (m : ℕ) (t a old : List ℕ) → Packs (faultOf (inverseBytesCauses m t a old)) (productsMade m t a) 0

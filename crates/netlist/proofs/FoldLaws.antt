@@ -14,7 +14,7 @@ use Rattle.gf2.specs.Sums.{sum}
 use Rattle.netlist.specs.Gates.{Gate, AND, XOR, andGates, xorGates}
 use Rattle.netlist.specs.Lists.{each, only, pairs, before, onto, lastWire, fold, end}
 use Rattle.netlist.specs.Running.{gateValue, valueOn, run}
-use Rattle.netlist.proofs.SumLaws.{num}
+use Rattle.gf2.proofs.Counts.{num}
 
 -- Pieces
 pub length-each : {A : Type 0} (n : ℕ) (f : ℕ → List A) → length (each n f) ≡ sum n (λ i. length (f i))
@@ -77,9 +77,9 @@ Earlier n [] = Unit {0}
 Earlier n (g ∷ gs) = GateBelow n g × Earlier (suc n) gs
 
 -- each gate's wire has the gate's value
-unfoldable pub Holds : (ℕ → ℕ) → ℕ → List Gate → Type 0
-Holds v n [] = Unit {0}
-Holds v n (g ∷ gs) = (v n ≡ gateValue v g) × Holds v (suc n) gs
+unfoldable pub OnWires : (ℕ → ℕ) → ℕ → List Gate → Type 0
+OnWires v n [] = Unit {0}
+OnWires v n (g ∷ gs) = (v n ≡ gateValue v g) × OnWires v (suc n) gs
 
 pub below-mono : (n k : ℕ) (l : List ℕ) → n ≤ k → Below n l → Below k l
 unfolding Below
@@ -180,8 +180,8 @@ value-ext : (n : ℕ) (v u : ℕ → ℕ) (g : Gate) → GateBelow n g → ((k :
 value-ext n v u (AND l r) b h = ap₂ _*_ (h l (b .0)) (h r (b .1))
 value-ext n v u (XOR l r) b h = ap₂ (λ x y. (x + y) % 2) (h l (b .0)) (h r (b .1))
 
-pub run-holds : (gs : List Gate) (w : List ℕ) → Earlier (length w) gs → Holds (valueOn (run gs w)) (length w) gs
-unfolding run Holds Earlier
+pub run-holds : (gs : List Gate) (w : List ℕ) → Earlier (length w) gs → OnWires (valueOn (run gs w)) (length w) gs
+unfolding run OnWires Earlier
 run-holds [] w e = tt
 run-holds (g ∷ gs) w e = (
   run-keeps gs u (length w) (rw length-append (omega arith)) ∙ getD-append-seam w (gateValue (valueOn w) g) [] 0
@@ -225,12 +225,12 @@ unfolding run
 run-bits [] w h = h
 run-bits (g ∷ gs) w h = run-bits gs _ (bits-append w _ h (bits-one _ (bits-value w g h)))
 
-pub holds-append : (v : ℕ → ℕ) (n : ℕ) (gs hs : List Gate) → Holds v n (gs ++ hs) → Holds v n gs × Holds v (n + length gs) hs
-unfolding Holds
+pub holds-append : (v : ℕ → ℕ) (n : ℕ) (gs hs : List Gate) → OnWires v n (gs ++ hs) → OnWires v n gs × OnWires v (n + length gs) hs
+unfolding OnWires
 holds-append v n [] hs h = (tt, rw add-zero h)
 holds-append v n (g ∷ gs) hs h = let r = holds-append v (suc n) gs hs (h .1) in ((h .0, r .0), rw (add-suc, ← suc-add) (r .1))
 
-pub holds-each : (v : ℕ → ℕ) (n k : ℕ) (f : ℕ → List Gate) → Holds v n (each k f) → (i : ℕ) → i < k → Holds v (n + length (each i f)) (f i)
+pub holds-each : (v : ℕ → ℕ) (n k : ℕ) (f : ℕ → List Gate) → OnWires v n (each k f) → (i : ℕ) → i < k → OnWires v (n + length (each i f)) (f i)
 unfolding each
 holds-each v n zero f h i l = absurd (omega arith)
 holds-each v n (suc k) f h i l = let r = holds-append v n (each k f) (f k) h in elim (ℕ-discrete i k) [
@@ -238,13 +238,13 @@ holds-each v n (suc k) f h i l = let r = holds-append v n (each k f) (f k) h in 
   | no ne ↦ holds-each v n k f (r .0) i (omega arith)
 ]
 
-holds-only : (v : ℕ → ℕ) (n : ℕ) (b : Bool) (g : Gate) → b ≡ true → Holds v n (only b g) → v n ≡ gateValue v g
-unfolding Holds only
+holds-only : (v : ℕ → ℕ) (n : ℕ) (b : Bool) (g : Gate) → b ≡ true → OnWires v n (only b g) → v n ≡ gateValue v g
+unfolding OnWires only
 holds-only v n true g e h = h .0
 holds-only v n false g e h = absurd (true≢false (sym e))
 
 -- the gate of a pair that is picked
-pub holds-pairs : (v : ℕ → ℕ) (n m : ℕ) (test : ℕ → ℕ → Bool) (f : ℕ → ℕ → Gate) → Holds v n (pairs m test f) →
+pub holds-pairs : (v : ℕ → ℕ) (n m : ℕ) (test : ℕ → ℕ → Bool) (f : ℕ → ℕ → Gate) → OnWires v n (pairs m test f) →
     (i j : ℕ) → i < m → j < m → test i j ≡ true → v (n + before m test i j) ≡ gateValue v (f i j)
 unfolding pairs
 holds-pairs v n m test f h i j li lj e =
@@ -283,12 +283,12 @@ pub total-pairs : (v : ℕ → ℕ) (m : ℕ) (test : ℕ → ℕ → Bool) (f :
 unfolding pairs
 total-pairs v m test f = simp (total-each, total-only)
 
-onto-value : (v : ℕ → ℕ) (n w : ℕ) (ts : List ℕ) → Holds v n (onto n w ts) → v (lastWire n w ts) % 2 ≡ (v w + total v ts) % 2
-unfolding Holds onto lastWire total
+onto-value : (v : ℕ → ℕ) (n w : ℕ) (ts : List ℕ) → OnWires v n (onto n w ts) → v (lastWire n w ts) % 2 ≡ (v w + total v ts) % 2
+unfolding OnWires onto lastWire total
 onto-value v n w [] h = omega arith
 onto-value v n w (t ∷ ts) h = omega (arith, onto-value v (suc n) n ts (h .1), h .0)
 
-pub fold-value : (v : ℕ → ℕ) (n : ℕ) (l : List ℕ) → 0 < length l → Holds v n (fold n l) → v (end n l) % 2 ≡ total v l % 2
+pub fold-value : (v : ℕ → ℕ) (n : ℕ) (l : List ℕ) → 0 < length l → OnWires v n (fold n l) → v (end n l) % 2 ≡ total v l % 2
 unfolding total
 fold-value v n [] p h = absurd (omega arith)
 fold-value v n (w ∷ ts) p h = onto-value v n w ts h

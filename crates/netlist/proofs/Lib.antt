@@ -1,5 +1,4 @@
 -- The laws of the definitions in specs/.
--- SumLaws: sums of numbers, tests as numbers, sums over pairs.
 -- FoldLaws: gates whose wires are earlier, runs, folds, gates by kind.
 -- NetlistLaws: a list that starts with gates and then folds for each r; the run of a list on two operands.
 -- ListLaws: the plain, the reduced and the common list of a table.
@@ -10,7 +9,6 @@
 -- GateTests: the test of a list's gates and output wires decides.
 -- TableLaws: the bits of a table in its bytes, and bounds.
 -- CallLaws: the numbers of all gates, and the answers of the calls.
-pub mod SumLaws
 pub mod FoldLaws
 pub mod NetlistLaws
 pub mod ListLaws

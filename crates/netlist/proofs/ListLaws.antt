@@ -18,7 +18,7 @@ use Rattle.gf2.specs.Tables.{IsTable, row, pairProduct, onesIn}
 use Rattle.gf2.specs.Products.{product, reduced as reducedProduct}
 use Rattle.gf2.specs.Check.{Symmetric}
 use Rattle.gf2.specs.Statements.{CountsPairs, pairsWith, pairsBelow}
-use Rattle.gf2.proofs.Sums.{sum-ext, sum-plus, sum-split, sum-mod, every-at, every-of}
+use Rattle.gf2.proofs.Sums.{sum-ext, sum-plus, sum-split, sum-next, sum-cong, every-at, every-of}
 use Rattle.gf2.proofs.Parity.{bool-ext, and-both}
 use Rattle.gf2.proofs.Coordinates.{coord-lt}
 use Rattle.gf2.proofs.Operands.{coord-from, coord-turned, minus-below, minus-round}
@@ -28,8 +28,8 @@ use Rattle.netlist.specs.Gates.{Gate, XOR, Netlist, andGates, xorGates}
 use Rattle.netlist.specs.Lists.{pairs, before, andWire, ands, fold, folded, has, plainTerms, plain, mixes, mixWire, reducedTerms, reduced, allOnes, fullRows, isShared, sharedTerms, sharedWire, otherTerms, sharing, ifNone, common}
 use Rattle.netlist.specs.Running.{valueOn, wires}
 use Rattle.netlist.specs.Counts.{plainXors, reducedXors, commonXors}
-use Rattle.netlist.proofs.SumLaws.{num, num-and, num-bit, sum-const, sum-triangle, sum-below, sum-mono, sum-next}
-use Rattle.netlist.proofs.FoldLaws.{Below, Earlier, Holds, AllAnd, AllXor, total, total-append, total-cons, total-one, total-pairs, length-pairs, length-fold, below-append, below-cons, below-one, below-pairs, below-mono, end-below, earlier-append, earlier-fold, earlier-pairs, holds-append, holds-pairs, fold-value, and-append, xor-append, and-pairs, xor-pairs, xor-fold}
+use Rattle.gf2.proofs.Counts.{num, num-and, num-bit, sum-const, sum-triangle, sum-below, sum-mono}
+use Rattle.netlist.proofs.FoldLaws.{Below, Earlier, OnWires, AllAnd, AllXor, total, total-append, total-cons, total-one, total-pairs, length-pairs, length-fold, below-append, below-cons, below-one, below-pairs, below-mono, end-below, earlier-append, earlier-fold, earlier-pairs, holds-append, holds-pairs, fold-value, and-append, xor-append, and-pairs, xor-pairs, xor-fold}
 use Rattle.netlist.proofs.NetlistLaws.{folded-value, folded-start, folded-length, folded-ands, folded-xors, folded-earlier, outputs-below, length-outputs, length-ands, and-below, earlier-ands, wires-hold, and-value, picked-value}
 
 -- a list of which every gate's wires are earlier, and every output wire is there
@@ -67,9 +67,6 @@ turned-place m i s li ls = elim (decLt (s + i) m) [
   | yes h ↦ (s + i, h, minus-below m (s + i) i (omega arith) h ∙ omega arith)
   | no h ↦ (s + i - m, omega arith, minus-round m (s + i - m) i (omega arith) li ∙ omega arith)
 ]
-
-sum-cong : (n : ℕ) (f g : ℕ → ℕ) → ((i : ℕ) → i < n → f i % 2 ≡ g i % 2) → sum n f % 2 ≡ sum n g % 2
-sum-cong n f g h = sym (sum-mod n f) ∙ ap (λ x. x % 2) (sum-ext n _ _ h) ∙ sum-mod n g
 
 module _ (m : ℕ) (table : List ℕ) where
   -- Pairs
@@ -183,7 +180,7 @@ module _ (m : ℕ) (table : List ℕ) where
         folded-value m (ands m) (plainTerms m table) _ hold r l (rw (length-plain r l) ones-positive)
         ∙ ap (λ x. x % 2) (unfold plainTerms in (picked-value m a b (plain m table) (folded-start m (ands m) (plainTerms m table) _ hold) (has m table r) ∙ has-products a b r))
       where
-        hold : Holds (valueOn (wires m (plain m table) a b)) (2 * m) (folded m (ands m) (plainTerms m table) .gates)
+        hold : OnWires (valueOn (wires m (plain m table) a b)) (2 * m) (folded m (ands m) (plainTerms m table) .gates)
         hold = unfold plain in wires-hold m a b (plain m table) (plain-sound .earlier)
 
     pub plain-gates : Gates (plain m table) (m * m) (plainXors m (onesIn m table))
@@ -276,10 +273,10 @@ module _ (m : ℕ) (table : List ℕ) where
       abbrev v : ℕ → ℕ
       v = valueOn (wires m (reduced m table) a b)
 
-      reduced-hold : Holds v (2 * m) (folded m mixed (reducedTerms m table) .gates)
+      reduced-hold : OnWires v (2 * m) (folded m mixed (reducedTerms m table) .gates)
       reduced-hold = unfold reduced in wires-hold m a b (reduced m table) (reduced-sound .earlier)
 
-      reduced-start : Holds v (2 * m) (ands m) × Holds v (2 * m + m * m) (mixes m)
+      reduced-start : OnWires v (2 * m) (ands m) × OnWires v (2 * m + m * m) (mixes m)
       reduced-start = rw (length-ands m) at (holds-append v (2 * m) (ands m) (mixes m) (folded-start m mixed (reducedTerms m table) v reduced-hold))
 
       mix-value : (i j : ℕ) → i < m → j < m → ltb i j ≡ true → v (mixWire m i j) ≡ (coord a i * coord b j + coord a j * coord b i) % 2
@@ -388,10 +385,10 @@ module _ (m : ℕ) (table : List ℕ) where
       abbrev u : ℕ → ℕ
       u = valueOn (wires m (sharing m table) a b)
 
-      sharing-hold : Holds u (2 * m) (folded m begun (otherTerms m table) .gates)
+      sharing-hold : OnWires u (2 * m) (folded m begun (otherTerms m table) .gates)
       sharing-hold = unfold sharing in wires-hold m a b (sharing m table) (sharing-sound .earlier)
 
-      sharing-start : Holds u (2 * m) (ands m) × Holds u (2 * m + m * m) shares
+      sharing-start : OnWires u (2 * m) (ands m) × OnWires u (2 * m + m * m) shares
       sharing-start = rw (length-ands m) at (holds-append u (2 * m) (ands m) shares (folded-start m begun (otherTerms m table) u sharing-hold))
 
       abbrev over : (ℕ → ℕ → Bool) → ℕ

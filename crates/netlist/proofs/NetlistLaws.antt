@@ -12,13 +12,13 @@ use lib.ListN.{length, getD, length-append, List·getD-append, List·getD-eq-def
 use lib.Seq.{getD-append-add}
 use Rattle.gf2.specs.Sums.{sum}
 use Rattle.gf2.specs.Coordinates.{coord, tabulate}
-use Rattle.gf2.proofs.Sums.{sum-ext}
+use Rattle.gf2.proofs.Sums.{sum-ext, sum-next}
 use Rattle.gf2.proofs.Coordinates.{length-tabulate, getD-tabulate, coord-lt}
 use Rattle.netlist.specs.Gates.{Gate, AND, Netlist, andGates, xorGates}
 use Rattle.netlist.specs.Lists.{each, pairs, before, andWire, ands, fold, end, start, folds, ends, folded}
 use Rattle.netlist.specs.Running.{valueOn, inputs, wires}
-use Rattle.netlist.proofs.SumLaws.{num, sum-next, sum-one, sum-const, sum-mono}
-use Rattle.netlist.proofs.FoldLaws.{Below, Earlier, Holds, Bits, AllXor, total, length-each, length-single, getD-single, length-pairs, length-fold, below-mono, below-each, below-one, earlier-append, earlier-each, earlier-fold, earlier-pairs, end-below, run-keeps, run-holds, run-bits, bits-append, holds-append, holds-each, holds-pairs, total-pairs, fold-value, and-append, xor-append, all-xor-each, xor-fold}
+use Rattle.gf2.proofs.Counts.{num, sum-ones, sum-const, sum-mono}
+use Rattle.netlist.proofs.FoldLaws.{Below, Earlier, OnWires, Bits, AllXor, total, length-each, length-single, getD-single, length-pairs, length-fold, below-mono, below-each, below-one, earlier-append, earlier-each, earlier-fold, earlier-pairs, end-below, run-keeps, run-holds, run-bits, bits-append, holds-append, holds-each, holds-pairs, total-pairs, fold-value, and-append, xor-append, all-xor-each, xor-fold}
 
 -- the folds for each r, from wire n on
 module _ (n : ℕ) (terms : ℕ → List ℕ) where
@@ -50,7 +50,7 @@ module _ (n : ℕ) (terms : ℕ → List ℕ) where
   unfolding ends
   length-ends m = length-single m _
 
-  folds-value : (v : ℕ → ℕ) (m : ℕ) → Holds v n (folds m n terms) → (r : ℕ) → r < m → 0 < length (terms r) → v (getD (ends m n terms) r 0) % 2 ≡ total v (terms r) % 2
+  folds-value : (v : ℕ → ℕ) (m : ℕ) → OnWires v n (folds m n terms) → (r : ℕ) → r < m → 0 < length (terms r) → v (getD (ends m n terms) r 0) % 2 ≡ total v (terms r) % 2
   unfolding folds ends
   folds-value v m h r l p =
       ap (λ w. v w % 2) (getD-single m (λ r. end (start n terms r) (terms r)) 0 r l)
@@ -75,11 +75,11 @@ module _ (m : ℕ) (gates : List Gate) (terms : ℕ → List ℕ) where
   abbrev list : Netlist
   list = folded m gates terms
 
-  pub folded-value : (v : ℕ → ℕ) → Holds v (2 * m) (list .gates) → (r : ℕ) → r < m → 0 < length (terms r) → v (getD (list .outputs) r 0) % 2 ≡ total v (terms r) % 2
+  pub folded-value : (v : ℕ → ℕ) → OnWires v (2 * m) (list .gates) → (r : ℕ) → r < m → 0 < length (terms r) → v (getD (list .outputs) r 0) % 2 ≡ total v (terms r) % 2
   unfolding folded
   folded-value v h r l p = folds-value (2 * m + length gates) terms v m (holds-append v (2 * m) gates _ h .1) r l p
 
-  pub folded-start : (v : ℕ → ℕ) → Holds v (2 * m) (list .gates) → Holds v (2 * m) gates
+  pub folded-start : (v : ℕ → ℕ) → OnWires v (2 * m) (list .gates) → OnWires v (2 * m) gates
   unfolding folded
   folded-start v h = holds-append v (2 * m) gates _ h .0
 
@@ -117,11 +117,11 @@ module _ (m : ℕ) (gates : List Gate) (terms : ℕ → List ℕ) where
 -- where ai·bj stands
 pub before-all : (m i j : ℕ) → before m (λ i j. true) i j ≡ i * m + j
 unfolding before
-before-all m i j = ap₂ _+_ (sum-ext i _ (λ k. m) (λ k l. sum-one m) ∙ sum-const i m) (sum-one j)
+before-all m i j = ap₂ _+_ (sum-ext i _ (λ k. m) (λ k l. sum-ones m) ∙ sum-const i m) (sum-ones j)
 
 pub length-ands : (m : ℕ) → length (ands m) ≡ m * m
 unfolding ands
-length-ands m = length-pairs m (λ i j. true) (λ i j. AND i (m + j)) ∙ sum-ext m _ (λ k. m) (λ k l. sum-one m) ∙ sum-const m m
+length-ands m = length-pairs m (λ i j. true) (λ i j. AND i (m + j)) ∙ sum-ext m _ (λ k. m) (λ k l. sum-ones m) ∙ sum-const m m
 
 pub and-below : (m i j : ℕ) → i < m → j < m → i * m + j < m * m
 and-below m i j li lj = omega (arith, rw suc-mul at (mul-le-mul-right {m = suc i} {n = m} m li))
@@ -171,12 +171,12 @@ module _ (m : ℕ) (a b : List ℕ) where
     pub wires-b : (i : ℕ) → i < m → valueOn (wires m list a b) (m + i) ≡ coord b i
     wires-b i l = kept (m + i) (omega arith) ∙ inputs-b i l
 
-    pub wires-hold : Earlier (2 * m) (list .gates) → Holds (valueOn (wires m list a b)) (2 * m) (list .gates)
+    pub wires-hold : Earlier (2 * m) (list .gates) → OnWires (valueOn (wires m list a b)) (2 * m) (list .gates)
     unfolding wires
     wires-hold e = rw length-inputs at (run-holds (list .gates) (inputs m a b) (rw length-inputs e))
 
     -- where the ANDs hold
-    module _ (h : Holds (valueOn (wires m list a b)) (2 * m) (ands m)) where
+    module _ (h : OnWires (valueOn (wires m list a b)) (2 * m) (ands m)) where
       pub and-value : (i j : ℕ) → i < m → j < m → valueOn (wires m list a b) (andWire m i j) ≡ coord a i * coord b j
       unfolding ands
       and-value i j li lj =

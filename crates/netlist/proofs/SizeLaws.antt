@@ -14,16 +14,15 @@ use Rattle.gf2.specs.Coordinates.{coord}
 use Rattle.gf2.specs.Operands.{maxWidth, bytesFor}
 use Rattle.gf2.specs.Tables.{IsTable, row, basis, onesIn}
 use Rattle.gf2.specs.Check.{Rule4, Symmetric}
-use Rattle.gf2.proofs.Sums.{sum-ext, sum-split}
+use Rattle.gf2.proofs.Sums.{sum-ext, sum-split, sum-bits, sum-zero, sum-next, sum-most}
 use Rattle.gf2.proofs.Coordinates.{coord-lt}
 use Rattle.gf2.proofs.Operands.{coord-from}
 use Rattle.gf2.proofs.OperandVectors.{bytes-fit}
-use Rattle.limbs.proofs.LimbRows.{sum-bits}
 use Rattle.netlist.specs.Gates.{Gate, AND, XOR, Netlist, andGates, xorGates}
 use Rattle.netlist.specs.Lists.{plain, reduced, common, fullRows}
 use Rattle.netlist.specs.Counts.{plainXors, reducedXors, commonXors}
 use Rattle.netlist.specs.Statements.{Sized}
-use Rattle.netlist.proofs.SumLaws.{num, sum-zero, sum-next, sum-most, count-one}
+use Rattle.gf2.proofs.Counts.{num, count-one}
 use Rattle.netlist.proofs.ListLaws.{Sound, Gates, shared-ones, plain-sound, plain-gates, reduced-sound, reduced-gates, common-sound, common-gates}
 use Rattle.netlist.proofs.WordLaws.{size-words}
 

@@ -13,17 +13,18 @@ use Rattle.gf2.specs.Sums.{sum}
 use Rattle.gf2.specs.Coordinates.{coord}
 use Rattle.gf2.specs.Operands.{maxWidth, bytesFor}
 use Rattle.gf2.specs.Tables.{row, onesIn}
-use Rattle.gf2.proofs.Sums.{sum-ext, sum-clear, every-at, every-of}
+use Rattle.gf2.proofs.Sums.{sum-ext, sum-clear, sum-bits, sum-next, every-at, every-of}
 use Rattle.gf2.proofs.Parity.{bool-ext}
 use Rattle.gf2.proofs.Coordinates.{coord-lt}
-use Rattle.limbs.specs.Limbs.{carriedLimbs, limbCoord, rowLimbs}
+use Rattle.limbs.specs.Limbs.{carriedLimbs, limbCoord}
+use Rattle.ones.specs.RowLimbs.{rowLimbs}
 use Rattle.limbs.proofs.LimbCoords.{limb-pack}
-use Rattle.limbs.proofs.LimbRows.{sum-bits, row-limbs}
+use Rattle.ones.proofs.RowLimbs.{row-limbs}
 use Rattle.table.specs.Rows.{Shaped}
 use Rattle.table.proofs.TableOnes.{ones-small}
 use Rattle.netlist.specs.Lists.{allOnes}
 use Rattle.netlist.specs.Inner.{Countable}
-use Rattle.netlist.proofs.SumLaws.{sum-next, sum-one}
+use Rattle.gf2.proofs.Counts.{sum-ones}
 
 -- a product with a width
 pub width-times : (m x k : ℕ) → m ≤ maxWidth → x ≤ k → m * x ≤ maxWidth * k
@@ -60,7 +61,7 @@ pub full-count : {m : ℕ} {table : List ℕ} (d : ℕ) → Shaped m table → d
 unfolding allOnes
 full-count {m} {table} d s l {x} {n} ex en = bool-ext _ _
     (λ e. every-of m _ (λ i h. eq-eqb _ 1 (ones-each m f (coord-lt (row m table d)) (sym count ∙ eqb-true n m e) i h)))
-    (λ e. eq-eqb n m (count ∙ sum-ext m f (λ i. 1) (λ i h. eqb-true _ _ (every-at m _ e i h)) ∙ sum-one m))
+    (λ e. eq-eqb n m (count ∙ sum-ext m f (λ i. 1) (λ i h. eqb-true _ _ (every-at m _ e i h)) ∙ sum-ones m))
   where
     f : ℕ → ℕ
     f = coord (row m table d)

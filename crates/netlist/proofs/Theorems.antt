@@ -11,7 +11,7 @@ use Rattle.gf2.specs.Operands.{bytesFor, ones, fromCoords}
 use Rattle.gf2.specs.Tables.{IsTable, row, onesIn}
 use Rattle.gf2.specs.Products.{product}
 use Rattle.gf2.specs.Check.{Accepted}
-use Rattle.gf2.proofs.Sums.{sum-none}
+use Rattle.gf2.proofs.Sums.{sum-none, sum-next}
 use Rattle.gf2.proofs.Operands.{coord-from, from-eq, from-ext, from-coord, from-operand}
 use Rattle.gf2.proofs.OperandVectors.{bytes-fit}
 use Rattle.gf2.proofs.Theorems.{theoremA, theoremE}
@@ -21,8 +21,8 @@ use Rattle.netlist.specs.Lists.{plain, reduced, common, allOnes, fullRow
 use Rattle.netlist.specs.Running.{valueOn, wires, result}
 use Rattle.netlist.specs.Counts.{commonXors}
 use Rattle.netlist.specs.Calls.{countedAs, countsCall}
-use Rattle.netlist.specs.Statements.{Computes, Counted, Sized, Holds, TheoremLists, TheoremCounts, TheoremCommon}
-use Rattle.netlist.proofs.SumLaws.{num, sum-next, sum-mono, count-one}
+use Rattle.netlist.specs.Statements.{Computes, Counted, Sized, ListHolds, TheoremLists, TheoremCounts, TheoremCommon}
+use Rattle.gf2.proofs.Counts.{num, sum-mono, count-one}
 use Rattle.netlist.proofs.NetlistLaws.{wires-bits}
 use Rattle.netlist.proofs.ListLaws.{Gates, Gives, coord-product, ones-at, ones-of, plain-gives, plain-gates, reduced-gives, reduced-gates, common-gives, common-gates}
 use Rattle.netlist.proofs.SizeLaws.{plain-sized, reduced-sized, common-sized}
@@ -46,7 +46,7 @@ module _ (m : ℕ) (table : List ℕ) where
       resized = resized;
     }
 
-    holds : {x : ℕ} → Gates list (m * m) x → Sized m list → Holds m table list x
+    holds : {x : ℕ} → Gates list (m * m) x → Sized m list → ListHolds m table list x
     holds gates size = record {
       computes = computes;
       counted = record { andCount = gates .ands; xorCount = gates .xors };

@@ -46,16 +46,16 @@ pub record Sized (m : ℕ) (list : Netlist) : Type 0 where
   pub mostGates : length (list .gates) ≤ m * m * m
   pub mostWords : length (words m list) ≤ 2 + 3 * (m * m * m) + m
 
-pub record Holds (m : ℕ) (table : List ℕ) (list : Netlist) (xors : ℕ) : Type 0 where
+pub record ListHolds (m : ℕ) (table : List ℕ) (list : Netlist) (xors : ℕ) : Type 0 where
   pub computes : Computes m table list
   pub counted : Counted list (listAnds m) xors
   pub sized : Sized m list
 
 -- Under rules 4 and 5 each list gives the product, and has the gates that are counted without it.
 pub record ListsHold (m : ℕ) (table : List ℕ) : Type 0 where
-  pub ofPlain : Holds m table (plain m table) (plainXors m (onesIn m table))
-  pub ofReduced : Holds m table (reduced m table) (reducedXors m (onesIn m table))
-  pub ofCommon : Holds m table (common m table) (commonXors m (onesIn m table) (fullRows m table))
+  pub ofPlain : ListHolds m table (plain m table) (plainXors m (onesIn m table))
+  pub ofReduced : ListHolds m table (reduced m table) (reducedXors m (onesIn m table))
+  pub ofCommon : ListHolds m table (common m table) (commonXors m (onesIn m table) (fullRows m table))
 
 abbrev pub TheoremLists : Type 0
 TheoremLists = (m : ℕ) (table : List ℕ) → 2 ≤ m → IsTable m table → Symmetric m table → ListsHold m table

@@ -113,7 +113,7 @@ fn numbers(width: usize, table: &[u8], method: Method) -> Numbers
     requires { ⌜ Shaped width (now table) × Symmetric width (now table) ⌝ }
     ensures { λ r. ⌜ r ≡ tallyCall method width (now (table .entry)) ⌝ }
 {
-    let ones = limbs::ones_of(table);
+    let ones = ones::ones_of(table);
     let full = shared_by(width, table, method);
     let xors = xors_by(width, ones, full, method);
     let gates = gates_by(width, ones, full, method);

@@ -10,8 +10,8 @@ fn full_row(width: usize, table: &[u8], d: usize) -> bool
     requires { ⌜ (Shaped width (now table)) × (d < width) ⌝ }
     ensures { λ r. ⌜ r ≡ allOnes width (row width (now (table .entry)) d) ⌝ }
 {
-    let row = limbs::row_limbs(width, table, d);
-    limbs::ones_in(&row) == width
+    let row = ones::row_limbs(width, table, d);
+    ones::ones_in(&row) == width
 }
 
 pub(crate) fn full_rows(width: usize, table: &[u8]) -> usize

@@ -16,7 +16,7 @@ use Rattle.gf2.proofs.IndexSums.{Σ, Σ-plus, Σ-shift, odd-Σ}
 use Rattle.gf2.proofs.Vector.{Vec, turn, add, zeros, add-comm, add-assoc, add-zeros, add-self, turn-turn, turn-z, turn-suc, turn-all, turn-add, fixed}
 use Rattle.gf2.proofs.Operands.{coord-from, from-operand, operand-ext, minus-below, minus-round, turned-operand, added-operand, coord-turned, coord-added}
 use Rattle.gf2.proofs.OperandVectors.{vec, bytes, operand-vec, vec-bytes, zeroes-vec, added-bytes, turned-bytes, bytes-inj}
-use Rattle.operand.proofs.QuadraticLimbs.{root-sum}
+use Rattle.quadratic.proofs.QuadraticLimbs.{root-sum}
 use Rattle.operand.specs.Statements.{times, TurnLaws, SumLaws, quadratic, QuadraticLaws, OperandLaws}
 
 -- two bits whose sum is 0 are equal; equal sums of two and two, with the middle two exchanged

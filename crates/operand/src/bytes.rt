@@ -1,13 +1,11 @@
 // The calls on operands of W bytes: lengths are judged, then the bits of the carried bytes; the result is written where there is no fault.
 ghost use mathlib.Core.Path.{_≡_};
-ghost use lib.ListN.{length};
 ghost use Rattle.judging.specs.Causes.{faultOf};
 ghost use Rattle.operand.specs.Causes.{constantCauses, turnBytesCauses, sumBytesCauses, solveBytesCauses};
 ghost use Rattle.operand.specs.Calls.{zeroInto, oneInto, turnInto, sumInto, solveInto, traceOf};
 use crate::Operand;
 use crate::TraceAnswer;
 use crate::judge;
-use crate::quadratic;
 use judging::Fault;
 use judging::is_none;
 
@@ -64,7 +62,12 @@ pub fn sum_into(width: usize, a: &[u8], b: &[u8], result: &mut [u8]) -> Fault
     }
     let x = limbs::carried(a);
     let y = limbs::carried(b);
-    let fault = judge::judge_bits(x, width, y, width);
+    // In line: a call for both costs half as much as the sum.
+    let left = judging::judge_high(x, width);
+    if !is_none(left) {
+        return left;
+    }
+    let fault = judging::judge_high(y, width);
     if is_none(fault) {
         limbs::copy_out(limbs::xored(x, y), result);
     }

@@ -8,7 +8,6 @@ ghost use Rattle.judging.specs.Causes.{faultOf};
 ghost use Rattle.judging.specs.FaultTable.{highBit, turnTooFar, traceIsOne};
 ghost use Rattle.operand.specs.Causes.{operandCauses, pairCauses};
 use crate::Operand;
-use crate::quadratic;
 use judging::CallFault;
 use judging::Fault;
 use judging::is_none;
@@ -27,22 +26,6 @@ pub(crate) fn judge_operand(a: Operand) -> Fault
     judge_high(x, m)
 }
 
-// The bits of two operands.
-pub(crate) fn judge_bits(
-    x: [u8; Operand::BYTES],
-    m: usize,
-    y: [u8; Operand::BYTES],
-    n: usize,
-) -> Fault
-    ensures { λ r. ⌜ r ≡ faultOf (highBit m x ∷ highBit n y ∷ []) ⌝ }
-{
-    let first = judge_high(x, m);
-    if !is_none(first) {
-        return first;
-    }
-    judge_high(y, n)
-}
-
 pub(crate) fn judge_pair(a: Operand, b: Operand) -> Fault
     ensures { λ r. ⌜ r ≡ faultOf (pairCauses a b) ⌝ }
 {
@@ -54,7 +37,7 @@ pub(crate) fn judge_pair(a: Operand, b: Operand) -> Fault
     if !is_none(widths) {
         return widths;
     }
-    judge_bits(x, m, y, n)
+    judging::judge_both_high(x, m, y, n)
 }
 
 // The bits of an operand, then a turn's count.

@@ -15,7 +15,6 @@ use judging::judge_width;
 
 mod bytes;
 mod judge;
-mod quadratic;
 mod turn;
 
 pub use bytes::one_into;

@@ -8,53 +8,18 @@ use native.Mathlib.Omega.{arith}
 use lib.ListN.{length}
 use lib.Dec.{lit≤}
 use lib.Pow.{pow-mono, shr-le}
-use borrow.Author.Tests.{lt-ltb, le-ltb}
 use Rattle.gf2.specs.Operands.{carriedBytes, maxWidth, IsOperand, turned}
 use Rattle.gf2.specs.Products.{product}
-use Rattle.gf2.specs.Inverse.{halvings, log2, Chain, start, doubling, adding, digits, chain, inverse, productsMade}
+use Rattle.gf2.specs.Inverse.{log2, Chain, start, doubling, adding, digits, chain, inverse, productsMade}
 use Rattle.gf2.proofs.Operands.{length-from, from-operand}
-use Rattle.gf2.proofs.Chain.{log2-bounds, top-digit}
+use Rattle.gf2.proofs.Logarithm.{log2-bounds, top-digit}
 use Rattle.operand.specs.declared.Operand.{Operand}
 use Rattle.operand.specs.declared.OperandAnswer.{OperandAnswer}
 use Rattle.operand.specs.Calls.{turnCall}
 use Rattle.table.specs.Rows.{Shaped}
 use Rattle.product.specs.declared.chain.State.{State}
-use Rattle.product.specs.Inner.{Sound, carried, chainOf, stateOf, Underway}
+use Rattle.product.specs.Inner.{Sound, operandOf, chainOf, stateOf, Underway}
 use Rattle.product.proofs.SoundOperands.{is-carried, made-sound, turn-value, turn-made}
-
--- log2 by one halving more; fuel enough makes no difference
-halvings-small : (fuel n : ℕ) → n < 2 → halvings fuel n ≡ 0
-unfolding halvings
-halvings-small zero n h = refl
-halvings-small (suc fuel) n h = rw (lt-ltb n 2 h)
-
-halvings-fuel : (f g n : ℕ) → n ≤ f → n ≤ g → halvings f n ≡ halvings g n
-unfolding halvings
-halvings-fuel zero g n h l = sym (halvings-small g n (omega arith))
-halvings-fuel (suc f) zero n h l = halvings-small (suc f) n (omega arith)
-halvings-fuel (suc f) (suc g) n h l = elim (decLt n 2) [
-  | yes q ↦ rw (lt-ltb n 2 q)
-  | no q ↦ rw (le-ltb n 2 (omega arith)) (ap suc (halvings-fuel f g (n / 2) (omega arith) (omega arith)))
-]
-
-pub log2-small : (n : ℕ) → n < 2 → log2 n ≡ 0
-log2-small n h = halvings-small n n h
-
-pub log2-half : (n : ℕ) → 2 ≤ n → log2 n ≡ log2 (n / 2) + 1
-unfolding halvings
-log2-half zero h = absurd (omega arith)
-log2-half (suc n) h = rw (le-ltb (suc n) 2 h) (omega (arith, halvings-fuel n (suc n / 2) (suc n / 2) (omega arith) (omega arith)))
-
-halvings-le : (fuel n : ℕ) → halvings fuel n ≤ fuel
-unfolding halvings
-halvings-le zero n = omega arith
-halvings-le (suc fuel) n = elim (decLt n 2) [
-  | yes q ↦ rw (lt-ltb n 2 q) (omega arith)
-  | no q ↦ rw (le-ltb n 2 (omega arith)) (omega (arith, halvings-le fuel (n / 2)))
-]
-
-pub log2-le : (n : ℕ) → log2 n ≤ n
-log2-le n = halvings-le n n
 
 -- a small number has few digits, so that a shift by their number is no overflow
 pub few-digits : (u k : ℕ) → maxWidth < 2 ^ k → 2 ^ u ≤ maxWidth → u < k
@@ -110,8 +75,8 @@ module _ {m : ℕ} {x : Operand} (s : Sound m x) (k : ℕ) (h : k < m) {r : Oper
   pub turned-sound : Sound m (r .value)
   turned-sound = made-sound s _ (turn-made s k h e)
 
-  pub turned-times : (t y : List ℕ) {p : Operand} → p ≡ carried m (product m t (r .value .bytes) y) → p ≡ carried m (product m t (turned m k (x .bytes)) y)
-  turned-times t y q = q ∙ ap (λ (o : Operand). carried m (product m t (o .bytes) y)) (turn-value s k h e)
+  pub turned-times : (t y : List ℕ) {p : Operand} → p ≡ operandOf m (product m t (r .value .bytes) y) → p ≡ operandOf m (product m t (turned m k (x .bytes)) y)
+  turned-times t y q = q ∙ ap (λ (o : Operand). operandOf m (product m t (o .bytes) y)) (turn-value s k h e)
 
 -- the last state of the chain, reached from s with u digits unread
 abbrev lastFrom : ℕ → List ℕ → Operand → ℕ → Chain → State
@@ -134,7 +99,7 @@ module _ {m : ℕ} {t : List ℕ} {a : Operand} {s : State} {u d : ℕ} (w : Und
   skipped-last e q = rw e q
 
   -- the power that a step hands on
-  step-sound : (k : ℕ) (y : List ℕ) → Sound m (carried m (product m t (turned m k (s .t .bytes)) y))
+  step-sound : (k : ℕ) (y : List ℕ) → Sound m (operandOf m (product m t (turned m k (s .t .bytes)) y))
   step-sound k y = record {
     least = w .base .least;
     greatest = w .base .greatest;
@@ -144,7 +109,7 @@ module _ {m : ℕ} {t : List ℕ} {a : Operand} {s : State} {u d : ℕ} (w : Und
 
 -- the state that a doubling hands on
 module _ {m : ℕ} {t : List ℕ} {a : Operand} {s : State} {u : ℕ} (w : Underway m t a s u 0) (some : 0 < u) {r : State}
-    (e : r ≡ record { t = carried m (product m t (turned m (s .k) (s .t .bytes)) (s .t .bytes)); k = 2 * s .k; count = s .count + 1 }) where
+    (e : r ≡ record { t = operandOf m (product m t (turned m (s .k) (s .t .bytes)) (s .t .bytes)); k = 2 * s .k; count = s .count + 1 }) where
   pub doubled-underway : Underway m t a r (u - 1) ((m - 1) / 2 ^ (u - 1) % 2)
   doubled-underway = rw e (record {
     shaped = w .shaped;
@@ -164,7 +129,7 @@ module _ {m : ℕ} {t : List ℕ} {a : Operand} {s : State} {u : ℕ} (w : Under
 
 -- the state that the adding of a digit 1 hands on
 module _ {m : ℕ} {t : List ℕ} {a : Operand} {s : State} {u d : ℕ} (w : Underway m t a s u d) (one : d ≡ 1) {r : State}
-    (e : r ≡ record { t = carried m (product m t (turned m 1 (s .t .bytes)) (a .bytes)); k = s .k + 1; count = s .count + 1 }) where
+    (e : r ≡ record { t = operandOf m (product m t (turned m 1 (s .t .bytes)) (a .bytes)); k = s .k + 1; count = s .count + 1 }) where
   pub added-underway : Underway m t a r u 0
   added-underway = rw e (record {
     shaped = w .shaped;
@@ -200,9 +165,9 @@ module _ {m : ℕ} (t : List ℕ) {a : Operand} (sa : Sound m a) {s : State} (e 
   last-sound : Sound m (s .t)
   last-sound = rw e (record { least = sa .least; greatest = sa .greatest; width = refl; operand = digits-fine m t (a .bytes) (m - 1) (log2 (m - 1)) (start (a .bytes)) (sa .operand) })
 
-  pub last-turned : {r : OperandAnswer} → r ≡ turnCall (s .t) 1 → r .value ≡ carried m (inverse m t (a .bytes))
+  pub last-turned : {r : OperandAnswer} → r ≡ turnCall (s .t) 1 → r .value ≡ operandOf m (inverse m t (a .bytes))
   unfolding inverse
-  last-turned q = turn-value last-sound 1 (sa .least) q ∙ ap (λ (z : State). carried m (turned m 1 (z .t .bytes))) e
+  last-turned q = turn-value last-sound 1 (sa .least) q ∙ ap (λ (z : State). operandOf m (turned m 1 (z .t .bytes))) e
 
   pub last-count : s .count ≡ productsMade m t (a .bytes)
   unfolding productsMade

@@ -31,20 +31,16 @@ use Rattle.table.specs.Rows.{Shaped}
 use Rattle.table.proofs.Shapes.{shape-rows, shape-none, row-bytes}
 use Rattle.table.proofs.Theorems.{rules}
 use Rattle.product.specs.declared.InverseAnswer.{InverseAnswer}
-use Rattle.product.specs.declared.kernel.Method.{Method}
-use Rattle.product.specs.declared.kernel.Method.the-variants.{Plain, Reduced}
+use Rattle.scatter.specs.declared.methods.Method.{Method}
+use Rattle.scatter.specs.declared.methods.Method.the-variants.{Plain, Reduced}
 use Rattle.product.specs.declared.bytes.CountAnswer.{CountAnswer}
 use Rattle.product.specs.Causes.{inverseBytesCauses}
 use Rattle.product.specs.Calls.{counted, inverseCount}
-use Rattle.product.specs.Inner.{IsWidth, Sound, Serves, multiplied, carried, tableCauses, rulesBy, factorCauses, unitCauses, productAnswer, inverseAnswer}
+use Rattle.product.specs.Inner.{IsWidth, Sound, Serves, multiplied, operandOf, rowCauses, rulesBy, factorCauses, unitCauses, productAnswer, inverseAnswer}
 
 -- what an inverse judges of W bytes after the lengths
 abbrev pub unitBytes : ℕ → List ℕ → List ℕ → List Cause
-unitBytes m t a = tableCauses m t a ++ (isZero (bytesFor m) m a ∷ [])
-
--- 2 and 3 of a table
-abbrev pub rowCauses : ℕ → List ℕ → List Cause
-rowCauses m t = notTable m t ∷ highBitInRow m t ∷ []
+unitBytes m t a = rowCauses m t ++ (highBit m a ∷ isZero (bytesFor m) m a ∷ [])
 
 -- a width that has passed, as the contracts have it
 pub passed : {m : ℕ} → IsPassed m → IsWidth m
@@ -54,8 +50,8 @@ pub first-passed : (m : ℕ) (cs : List Cause) → isNone (faultOf (badWidth m �
 first-passed m cs e = passed (is-width m (fine (badWidth m ∷ cs) e .0))
 
 -- the bytes of a carried operand
-abbrev pub Carried : List ℕ → Type 0
-Carried x = (length x ≡ carriedBytes) × Bytes x
+abbrev pub HasCarriedBytes : List ℕ → Type 0
+HasCarriedBytes x = (length x ≡ carriedBytes) × Bytes x
 
 module _ {m : ℕ} (w : IsWidth m) (t : List ℕ) where
   width-fails : badWidth m .test ≡ false
@@ -65,8 +61,8 @@ module _ {m : ℕ} (w : IsWidth m) (t : List ℕ) where
   pub shape-after : {f : Fault} → f ≡ faultOf (shapeCauses m t) → f ≡ faultOf (rowCauses m t)
   shape-after e = e ∙ head-fails (badWidth m) (rowCauses m t) width-fails
 
-  pub table-shaped : Bytes t → (x : List ℕ) → Fine (tableCauses m t x) → Shaped m t
-  table-shaped small x p = shape-rows (λ d l. row-bytes m d t small) (width-fails, (p .0, (p .1 .0, tt)))
+  pub table-shaped : Bytes t → Fine (rowCauses m t) → Shaped m t
+  table-shaped small p = shape-rows (λ d l. row-bytes m d t small) (width-fails, p)
 
   -- rules 4 and 5 of a table whose shape was judged before
   pub rules-after : {f : Fault} → Shaped m t → f ≡ faultOf (shapeCauses m t ++ ruleCauses m t) → f ≡ faultOf (ruleCauses m t)
@@ -77,20 +73,20 @@ module _ {m : ℕ} (w : IsWidth m) (t : List ℕ) where
   serves Reduced s p = (s, rules m t .0 p)
 
   -- carried bytes whose bits have passed
-  sound : {x : List ℕ} → Carried x → highBit m x .test ≡ false → Sound m (carried m x)
+  sound : {x : List ℕ} → HasCarriedBytes x → highBit m x .test ≡ false → Sound m (operandOf m x)
   sound {x} h p =
       record { least = w .0; greatest = w .1; width = refl; operand = record { size = h .0; byte = h .1; clear = clear-at m x (is-clear m x p) } }
 
   -- factors that have passed, and an operand that has
-  pub factors-fine : (k : Method) (x y : List ℕ) → Bytes t → Carried x → Carried y → isNone (faultOf (factorCauses k m t x y)) ≡ true → Serves k m t × Sound m (carried m x) × Sound m (carried m y)
+  pub factors-fine : (k : Method) (x y : List ℕ) → Bytes t → HasCarriedBytes x → HasCarriedBytes y → isNone (faultOf (factorCauses k m t x y)) ≡ true → Serves k m t × Sound m (operandOf m x) × Sound m (operandOf m y)
   factors-fine k x y small hx hy e =
       let p = fine (factorCauses k m t x y) e in
-      (serves k (table-shaped small x (p .0, (p .1 .0, (p .1 .1 .0, tt)))) (p .1 .1 .1 .1), sound hx (p .1 .1 .0), sound hy (p .1 .1 .1 .0))
+      (serves k (table-shaped small (p .0, (p .1 .0, tt))) (p .1 .1 .1 .1), sound hx (p .1 .1 .0), sound hy (p .1 .1 .1 .0))
 
-  pub unit-fine : (x : List ℕ) → Bytes t → Carried x → isNone (faultOf (unitCauses m t x)) ≡ true → Shaped m t × Sound m (carried m x)
+  pub unit-fine : (x : List ℕ) → Bytes t → HasCarriedBytes x → isNone (faultOf (unitCauses m t x)) ≡ true → Shaped m t × Sound m (operandOf m x)
   unit-fine x small h e =
       let p = fine (unitCauses m t x) e in
-      (table-shaped small x (p .0, (p .1 .0, (p .1 .1 .0, tt))), sound h (p .1 .1 .0))
+      (table-shaped small (p .0, (p .1 .0, tt)), sound h (p .1 .1 .0))
 
   -- the causes of carried bytes are those of the W bytes
   pub factors-same : (k : Method) {a b : List ℕ} → HasBytes m a → HasBytes m b → faultOf (factorCauses k m t (carriedBy a) (carriedBy b)) ≡ faultOf (factorCauses k m t a b)
@@ -148,11 +144,11 @@ clear-zero w x size small = bool-ext _ _
     (λ e. clear-of 0 x (λ i l. ap (λ z. coord z i) (same-decides x _ .0 e ∙ sym (zero-bytes w)) ∙ coord-none carriedBytes i))
 
 -- the answers of a product and of an inverse without a fault, and of an inverse with one
-pub answered : (cs : List Cause) {m : ℕ} {x : List ℕ} {r : Operand} → isNone (faultOf cs) ≡ true → r ≡ carried m x → _≡_ {A = OperandAnswer} (record { fault = None; value = r }) (answer (faultOf cs) m x)
+pub answered : (cs : List Cause) {m : ℕ} {x : List ℕ} {r : Operand} → isNone (faultOf cs) ≡ true → r ≡ operandOf m x → _≡_ {A = OperandAnswer} (record { fault = None; value = r }) (answer (faultOf cs) m x)
 unfolding answer
 answered cs n e = rw (n, none-is cs n, e)
 
-pub inverse-answered : (cs : List Cause) {m n : ℕ} {x : List ℕ} {r : InverseAnswer} → isNone (faultOf cs) ≡ true → r ≡ (record { fault = None; value = carried m x; count = n }) →
+pub inverse-answered : (cs : List Cause) {m n : ℕ} {x : List ℕ} {r : InverseAnswer} → isNone (faultOf cs) ≡ true → r ≡ (record { fault = None; value = operandOf m x; count = n }) →
     r ≡ counted (answer (faultOf cs) m x) n
 unfolding answer
 inverse-answered cs n e = rw (n, none-is cs n) e

@@ -1,4 +1,4 @@
--- What rows of a table add at the places of their ones: a row in words, operands written twice, what a row meets, row after row.
+-- What rows of a table add at the slots of their ones: a row in limbs, operands written twice, what a row meets, row after row.
 use mathlib.Core.Path.{_≡_, refl, sym, ap, ap₂, _∙_}
 use mathlib.Core.Bool.{Bool, true, false}
 use mathlib.Core.List.{List}
@@ -21,16 +21,17 @@ use Rattle.limbs.proofs.TurnLimbs.{raised-in, raised-out}
 use Rattle.gf2.proofs.Carrying.{coord-carried}
 use Rattle.table.specs.Rows.{Shaped}
 use Rattle.table.proofs.Shapes.{row-short, sized}
-use Rattle.product.specs.Inner.{Clear, Within, isOneWay, metLimbs, rowsTo, Sound}
-use Rattle.product.specs.declared.kernel.Method.{Method}
-use Rattle.scatter.specs.Cells.{twiceLimbs, places, HasPlaces, cell, Added, rowAdds, metAt}
-use Rattle.scatter.proofs.CellLaws.{added-none, added-more, added-same, seen-at, places-there}
+use Rattle.product.specs.Inner.{Clear, Within, metLimbs, rowsTo, Sound, isOneWay}
+use Rattle.scatter.specs.declared.methods.Method.{Method}
+use Rattle.scatter.specs.Cells.{twiceLimbs, slots, HasSlots, cell, Added, plusRow, metAt}
+use Rattle.scatter.proofs.CellLaws.{added-none, added-more, added-same, seen-at, slots-there}
+use Rattle.scatter.proofs.OnesLaws.{row-added}
 use Rattle.product.proofs.GatherLaws.{gathered-rows}
 
--- a row of a table, carried and in words
-pub line-added : {m : ℕ} {t : List ℕ} → Shaped m t → (d : ℕ) → d < m → (e : List ℕ) {bytes line a b : List ℕ} → HasPlaces a → bytes ≡ pack carriedBytes (coord (row m t d)) → line ≡ packLimbs carriedLimbs (coord bytes)
-    → Added (rowAdds a e line) a b → Added (λ s i. coord (row m t d) s * limbCoord e i) a b
-line-added {m} {t} shaped d l e {bytes} {line} {a} there q r p = added-same _ _ p (λ s i h. ap₂ (λ c y. choose c (y * limbCoord e i) 0 % 2) (places-there a there) (same s))
+-- a row of a table, carried and in limbs
+pub line-added : {m : ℕ} {t : List ℕ} → Shaped m t → (d : ℕ) → d < m → (e : List ℕ) {bytes line a b : List ℕ} → HasSlots a → bytes ≡ pack carriedBytes (coord (row m t d)) → line ≡ packLimbs carriedLimbs (coord bytes)
+    → b ≡ plusRow a e line → Added (λ s i. coord (row m t d) s * limbCoord e i) a b
+line-added {m} {t} shaped d l e {bytes} {line} {a} there q r p = added-same _ _ (row-added line e (ap length r ∙ length-limbs carriedLimbs _) there p) (λ s i h. ap₂ (λ c y. choose c (y * limbCoord e i) 0 % 2) (slots-there a there) (same s))
   where
     same : (s : ℕ) → limbCoord line s ≡ coord (row m t d) s
     same s = ap (λ f. f s) (limbs-same bytes r (ap length q ∙ length-pack carriedBytes _)) ∙ ap (λ z. coord z s) q ∙ coord-carried carriedBytes (row m t d) (row-short m d t (sized shaped) l) s
@@ -93,10 +94,10 @@ module _ (how : Method) (m : ℕ) (t x y : List ℕ) (from : ℕ) where
         more : (s i : ℕ) → rowsTo how m t x y from k s i + coord (row m t (from + k)) s * metLimbs how m (from + k) x y i ≡ rowsTo how m t x y from (k + 1) s i
         more s i = unfold sum in rw add-one
 
-  -- from empty places on
+  -- from empty slots on
   module _ (n c : ℕ) {g : List ℕ} (p : Added (rowsTo how m t x y from n) (replicate c 0) g) where
-    rows-cell : (s i : ℕ) → i < places → cell g s i ≡ rowsTo how m t x y from n s i % 2
-    rows-cell s i l = p .coords s i l ∙ ap (λ z. (z + rowsTo how m t x y from n s i) % 2) (limb-zero c (s * places + i)) ∙ ap (λ z. z % 2) (omega arith)
+    rows-cell : (s i : ℕ) → i < slots → cell g s i ≡ rowsTo how m t x y from n s i % 2
+    rows-cell s i l = p .coords s i l ∙ ap (λ z. (z + rowsTo how m t x y from n s i) % 2) (limb-zero c (s * slots + i)) ∙ ap (λ z. z % 2) (omega arith)
 
     pub rows-within : Shaped m t → Clear m x → Clear m y → from + n ≤ m → Within m g
     rows-within shaped cx cy h = record {
@@ -104,7 +105,7 @@ module _ (how : Method) (m : ℕ) (t x y : List ℕ) (from : ℕ) where
       clear = λ s i q l. rows-cell s i l ∙ ap (λ z. z % 2) (sum-none n _ (λ k b. ap (λ z. coord (row m t (from + k)) s * z) (met-clear shaped cx cy (from + k) i q) ∙ mul-zero _));
     }
 
--- an operand's coordinates in words
+-- an operand's coordinates in limbs
 module _ {m : ℕ} {a : Operand} (s : Sound m a) {x : List ℕ} (e : x ≡ packLimbs carriedLimbs (coord (a .bytes))) where
   pub limbs-clear : Clear m x
   limbs-clear i h = ap (λ f. f i) (limbs-same (a .bytes) e (s .operand .size)) ∙ s .operand .clear i h

@@ -1,7 +1,7 @@
 -- The laws of this crate's definitions.
 -- SoundOperands: what the calls on operands answer where there is no fault.
--- GatherLaws: the places gathered.
--- KernelLaws: what rows add at the places of their ones.
+-- GatherLaws: the slots gathered.
+-- KernelLaws: what rows add at the slots of their ones.
 -- RowProducts: the product by a method, by the places of the ones in the method's rows.
 -- TimesLaws: the product by either method.
 -- ChainSteps: the steps of the inverse's chain.

@@ -12,9 +12,10 @@ use Rattle.gf2.specs.Sums.{sum}
 use Rattle.gf2.specs.Coordinates.{coord}
 use Rattle.gf2.specs.Operands.{carriedBytes, minus, choose, fromCoords}
 use Rattle.gf2.specs.Tables.{row}
-use Rattle.product.specs.Inner.{Serves, multiplied, firstRow, rowCount, isOneWay}
-use Rattle.product.specs.declared.kernel.Method.{Method}
-use Rattle.product.specs.declared.kernel.Method.the-variants.{Plain, Reduced}
+use Rattle.product.specs.Inner.{Serves, multiplied, isOneWay}
+use Rattle.scatter.specs.Methods.{firstRow, rowCount}
+use Rattle.scatter.specs.declared.methods.Method.{Method}
+use Rattle.scatter.specs.declared.methods.Method.the-variants.{Plain, Reduced}
 use Rattle.product.proofs.KernelLaws.{metBytes}
 use Rattle.gf2.proofs.Monoid.{big, big-ext}
 use Rattle.gf2.proofs.Parity.{_⊕_, bits, xor-zero, odd, odd-add, odd-mul, odd-sum, odd-true, bit, bit-odd}

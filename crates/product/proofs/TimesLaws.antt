@@ -15,9 +15,10 @@ use Rattle.limbs.specs.Limbs.{carriedLimbs, limbCoord, packLimbs}
 use Rattle.limbs.proofs.LimbCoords.{limb-pack}
 use Rattle.table.specs.Rows.{Shaped}
 use Rattle.scatter.specs.Cells.{Added}
-use Rattle.product.specs.declared.kernel.Method.{Method}
-use Rattle.product.specs.declared.kernel.Method.the-variants.{Plain, Reduced}
-use Rattle.product.specs.Inner.{Sound, Serves, carried, made, multiplied, firstRow, rowCount, rowsTo, gatheredAt, diagonalAt}
+use Rattle.scatter.specs.declared.methods.Method.{Method}
+use Rattle.scatter.specs.declared.methods.Method.the-variants.{Plain, Reduced}
+use Rattle.product.specs.Inner.{Sound, Serves, operandOf, made, multiplied, rowsTo, gatheredAt, diagonalAt}
+use Rattle.scatter.specs.Methods.{firstRow, rowCount}
 use Rattle.product.proofs.SoundOperands.{fits, is-made, sum-made, square-made}
 use Rattle.product.proofs.KernelLaws.{limbs-coord, rows-made}
 use Rattle.product.proofs.RowProducts.{diagonalBytes, rowsAt, by-rows}
@@ -31,7 +32,7 @@ pub rows-inside : (how : Method) (m : ℕ) → 2 ≤ m → firstRow how + rowCou
 rows-inside Plain m two = omega arith
 rows-inside Reduced m two = omega arith
 
--- those rows, by name, on empty places
+-- those rows, by name, on empty slots
 pub rows-by : (how : Method) (m : ℕ) (t x y : List ℕ) (n : ℕ) {from count : ℕ} {g₀ g : List ℕ} → from ≡ firstRow how → count ≡ rowCount how m → g₀ ≡ replicate n 0
     → Added (rowsTo how m t x y from count) g₀ g → Added (rowsTo how m t x y (firstRow how) (rowCount how m)) (replicate n 0) g
 rows-by how m t x y n p q r h = rw (p, q, r) at h
@@ -39,14 +40,14 @@ rows-by how m t x y n p q r h = rw (p, q, r) at h
 -- what the rows give, with nothing and with the diagonal
 module _ {m : ℕ} {rows : Operand} (s : Sound m rows) (x y : List ℕ) where
   pub plus-none : rows ≡ made m (λ i. coord (rows .bytes) i + diagonalAt Plain m x y i)
-  plus-none = is-made s ∙ ap (carried m) (from-ext carriedBytes m _ _ (λ i l. ap (λ z. z % 2) (sym (add-zero _))))
+  plus-none = is-made s ∙ ap (operandOf m) (from-ext carriedBytes m _ _ (λ i l. ap (λ z. z % 2) (sym (add-zero _))))
 
   pub plus-products : {e : List ℕ} {products : Operand} {square sum : OperandAnswer} → e ≡ packLimbs carriedLimbs (λ i. limbCoord x i * limbCoord y i)
       → products ≡ made m (limbCoord e) → square ≡ squareCall products → sum ≡ sumCall rows (square .value)
       → sum .value ≡ made m (λ i. coord (rows .bytes) i + diagonalAt Reduced m x y i)
   plus-products {e} p q r t =
       sum-made (s .least) (s .greatest) (coord (rows .bytes)) (λ i. limbCoord e (minus m i 1)) (is-made s) (square-made (s .least) (s .greatest) (limbCoord e) q r) t
-      ∙ ap (carried m) (from-ext carriedBytes m _ _ (λ i l. ap (λ z. (coord (rows .bytes) i + z) % 2) (at (minus m i 1) (minus-lt i)) ∙ inner _ _))
+      ∙ ap (operandOf m) (from-ext carriedBytes m _ _ (λ i l. ap (λ z. (coord (rows .bytes) i + z) % 2) (at (minus m i 1) (minus-lt i)) ∙ inner _ _))
     where
       at : (j : ℕ) → j < m → limbCoord e j ≡ limbCoord x j * limbCoord y j % 2
       at j l = let big = s .greatest in ap (λ z. limbCoord z j) p ∙ limb-pack carriedLimbs _ j (omega arith)
@@ -64,8 +65,8 @@ module _ {m : ℕ} (t : List ℕ) {a b : Operand} {x y : List ℕ} (sa : Sound m
   diagonal-same Reduced i = ap₂ _*_ (limbs-coord sa ex _) (limbs-coord sb ey _)
 
   pub times-made : (how : Method) {g : List ℕ} {rows r : Operand} → Serves how m t → Added (rowsTo how m t x y (firstRow how) (rowCount how m)) (replicate n 0) g
-      → rows ≡ made m (gatheredAt m g) → r ≡ made m (λ i. coord (rows .bytes) i + diagonalAt how m x y i) → r ≡ carried m (multiplied how m t (a .bytes) (b .bytes))
-  times-made how {g} serves p q e = e ∙ ap (carried m)
+      → rows ≡ made m (gatheredAt m g) → r ≡ made m (λ i. coord (rows .bytes) i + diagonalAt how m x y i) → r ≡ operandOf m (multiplied how m t (a .bytes) (b .bytes))
+  times-made how {g} serves p q e = e ∙ ap (operandOf m)
       (from-ext carriedBytes m _ (rowsAt how m t (a .bytes) (b .bytes)) (λ i l.
       parts _ _ (ap (λ z. coord (z .bytes) i) q ∙ coord-from carriedBytes m (gatheredAt m g) (fits m (sa .greatest)) i l) (rows-made sa sb ex ey how (firstRow how) (rowCount how m) n (serves-shaped how m t serves) p i l) (diagonal-same how i))
       ∙ by-rows how m t (a .bytes) (b .bytes) serves (sa .operand .size))

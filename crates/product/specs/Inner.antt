@@ -20,21 +20,21 @@ use Rattle.judging.specs.Causes.{Cause, faultOf}
 use Rattle.judging.specs.FaultTable.{notTable, highBit, highBitInRow, isZero, ruleCauses}
 use Rattle.operand.specs.Calls.{answer, written}
 use Rattle.table.specs.Rows.{Shaped}
-use Rattle.scatter.specs.Cells.{places, HasPlaces, cell}
+use Rattle.scatter.specs.Cells.{slots, HasSlots, cell}
 use Rattle.product.specs.declared.InverseAnswer.{InverseAnswer}
-use Rattle.product.specs.declared.kernel.Method.{Method}
-use Rattle.product.specs.declared.kernel.Method.the-variants.{Plain, Reduced}
+use Rattle.scatter.specs.declared.methods.Method.{Method}
+use Rattle.scatter.specs.declared.methods.Method.the-variants.{Plain, Reduced}
 use Rattle.product.specs.declared.chain.State.{State}
 use Rattle.product.specs.Causes.{productCauses, productBytesCauses}
 use Rattle.product.specs.Calls.{counted}
 
 -- the operand of width m with these bytes
-abbrev pub carried : ℕ → List ℕ → Operand
-carried m x = record { bytes = x; width = m }
+abbrev pub operandOf : ℕ → List ℕ → Operand
+operandOf m x = record { bytes = x; width = m }
 
 -- the operand of width m with the coordinates f 0, .., f (m - 1), each modulo 2
 abbrev pub made : ℕ → (ℕ → ℕ) → Operand
-made m f = carried m (fromCoords carriedBytes m f)
+made m f = operandOf m (fromCoords carriedBytes m f)
 
 -- a width that has passed
 abbrev pub IsWidth : ℕ → Type 0
@@ -57,19 +57,19 @@ abbrev pub multiplied : Method → ℕ → List ℕ → List ℕ → List ℕ �
 multiplied Plain m table a b = product m table a b
 multiplied Reduced m table a b = reduced m table a b
 
--- what follows the widths and the lengths: the table and one operand; another, and the rules that a method asks for; that it isn't zero
-abbrev pub tableCauses : ℕ → List ℕ → List ℕ → List Cause
-tableCauses m table x = notTable m table ∷ highBitInRow m table ∷ highBit m x ∷ []
+-- what follows the widths and the lengths: the table; two factors, and the rules that a method asks for; an operand that isn't zero
+abbrev pub rowCauses : ℕ → List ℕ → List Cause
+rowCauses m table = notTable m table ∷ highBitInRow m table ∷ []
 
 abbrev pub rulesBy : Method → ℕ → List ℕ → List Cause
 rulesBy Plain m table = []
 rulesBy Reduced m table = ruleCauses m table
 
 abbrev pub factorCauses : Method → ℕ → List ℕ → List ℕ → List ℕ → List Cause
-factorCauses k m table x y = tableCauses m table x ++ (highBit m y ∷ rulesBy k m table)
+factorCauses k m table x y = rowCauses m table ++ (highBit m x ∷ highBit m y ∷ rulesBy k m table)
 
 abbrev pub unitCauses : ℕ → List ℕ → List ℕ → List Cause
-unitCauses m table x = tableCauses m table x ++ (isZero carriedBytes m x ∷ [])
+unitCauses m table x = rowCauses m table ++ (highBit m x ∷ isZero carriedBytes m x ∷ [])
 
 -- what a product by a method is refused for, and what it answers and leaves
 abbrev pub methodCauses : Method → ℕ → List ℕ → Operand → Operand → List Cause
@@ -91,15 +91,6 @@ methodBytesCauses k m table a b result = productBytesCauses m table a b result +
 abbrev pub multiplyInto : Method → ℕ → List ℕ → List ℕ → List ℕ → List ℕ → List ℕ
 multiplyInto k m table a b old = written (faultOf (methodBytesCauses k m table a b old)) (multiplied k m table a b) old
 
--- the rows that a method looks at: all, or 1 to m/2
-abbrev pub firstRow : Method → ℕ
-firstRow Plain = 0
-firstRow Reduced = 1
-
-abbrev pub rowCount : Method → ℕ → ℕ
-rowCount Plain m = m
-rowCount Reduced m = m / 2
-
 -- whether row d meets its pairs one way round: always in the plain product, and in the reduced at distance m/2, where the other way gives the same pairs
 abbrev pub isOneWay : Method → ℕ → ℕ → Bool
 isOneWay Plain m d = true
@@ -109,7 +100,7 @@ isOneWay Reduced m d = eqb (2 * d) m
 unfoldable pub metLimbs : Method → ℕ → ℕ → List ℕ → List ℕ → ℕ → ℕ
 metLimbs k m d x y i = limbCoord x i * limbCoord y ((i + d) % m) + choose (isOneWay k m d) 0 (limbCoord y i * limbCoord x ((i + d) % m))
 
--- what n rows from row `from` on add to coordinate i at place s
+-- what n rows from row `from` on add to coordinate i at slot s
 abbrev pub rowsTo : Method → ℕ → List ℕ → List ℕ → List ℕ → ℕ → ℕ → ℕ → ℕ → ℕ
 rowsTo k m table x y from n s i = sum n (λ d. coord (row m table (from + d)) s * metLimbs k m (from + d) x y i)
 
@@ -117,12 +108,12 @@ rowsTo k m table x y from n s i = sum n (λ d. coord (row m table (from + d)) s 
 abbrev pub Clear : ℕ → List ℕ → Type 0
 Clear m x = (i : ℕ) → m ≤ i → limbCoord x i ≡ 0
 
--- only the places below m have coordinates that are 1, and only below m
+-- only the slots below m have coordinates that are 1, and only below m
 pub record Within (m : ℕ) (g : List ℕ) : Type 0 where
-  pub empty : (s i : ℕ) → m ≤ s → i < places → cell g s i ≡ 0
-  pub clear : (s i : ℕ) → m ≤ i → i < places → cell g s i ≡ 0
+  pub empty : (s i : ℕ) → m ≤ s → i < slots → cell g s i ≡ 0
+  pub clear : (s i : ℕ) → m ≤ i → i < slots → cell g s i ≡ 0
 
--- coordinate i of the sum of all places below m, place s turned s
+-- coordinate i of the sum of all slots below m, slot s turned s
 abbrev pub gatheredAt : ℕ → List ℕ → ℕ → ℕ
 gatheredAt m g i = sum m (λ s. cell g s (minus m i s))
 
@@ -136,7 +127,7 @@ abbrev pub chainOf : State → Chain
 chainOf s = record { t = s .t .bytes; k = s .k; count = s .count }
 
 abbrev pub stateOf : ℕ → Chain → State
-stateOf m c = record { t = carried m (c .t); k = c .k; count = c .count }
+stateOf m c = record { t = operandOf m (c .t); k = c .k; count = c .count }
 
 -- what a step takes for granted of a state, and of its scratch
 pub record Ready (m : ℕ) (table : List ℕ) (s : State) (g : List ℕ) : Type 0 where
@@ -144,11 +135,11 @@ pub record Ready (m : ℕ) (table : List ℕ) (s : State) (g : List ℕ) : Type 
   pub power : Sound m (s .t)
   pub short : s .k < m
   pub few : s .count < maxWidth
-  pub there : HasPlaces g
+  pub there : HasSlots g
 
 -- t := (t turned j)·b, and the k and the count that go with it
 abbrev pub stepped : ℕ → List ℕ → ℕ → List ℕ → List ℕ → ℕ → ℕ → State
-stepped m table j t b k count = record { t = carried m (product m table (turned m j t) b); k = k; count = count }
+stepped m table j t b k count = record { t = operandOf m (product m table (turned m j t) b); k = k; count = count }
 
 -- the state after the digit before the `unread` last ones of m - 1, whose doubling is done, and after those
 abbrev pub addedFrom : ℕ → List ℕ → List ℕ → ℕ → Chain → State
@@ -156,7 +147,7 @@ addedFrom m table a unread s = stateOf m (digits m table a (m - 1) unread (addin
 
 -- an inverse without fault
 abbrev pub invertedBy : ℕ → List ℕ → List ℕ → InverseAnswer
-invertedBy m table a = record { fault = None; value = carried m (inverse m table a); count = productsMade m table a }
+invertedBy m table a = record { fault = None; value = operandOf m (inverse m table a); count = productsMade m table a }
 
 -- `unread` digits of m - 1 are left, and `owed`, 0 or 1, is the digit before them if it has yet to be added
 pub record Underway (m : ℕ) (table : List ℕ) (a : Operand) (s : State) (unread owed : ℕ) : Type 0 where

@@ -5,12 +5,12 @@ ghost use Rattle.product.specs.Inner.{IsWidth, productAnswer, inverseAns
 use crate::InverseAnswer;
 use crate::chain;
 use crate::judge;
-use crate::kernel::Method;
 use crate::times;
 use judging::Fault;
 use judging::is_none;
 use operand::Operand;
 use operand::OperandAnswer;
+use scatter::Method;
 
 // The product by a method.
 pub(crate) fn product(

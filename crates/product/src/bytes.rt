@@ -5,9 +5,9 @@ ghost use Rattle.product.specs.Causes.{productBytesCauses, reducedBytesC
 ghost use Rattle.product.specs.Calls.{productInto, reducedInto, inverseInto, inverseCount};
 ghost use Rattle.product.specs.Inner.{methodBytesCauses, multiplyInto};
 use crate::answers;
-use crate::kernel::Method;
 use judging::Fault;
 use judging::is_none;
+use scatter::Method;
 
 // A fault, or none and the number of products that an inverse took.
 pub struct CountAnswer {

@@ -2,34 +2,21 @@
 // and the state after each step holds a to the power 2^k - 1.
 ghost use mathlib.Core.Path.{_≡_};
 ghost use Prim.Native.Nat.{_+_, _-_, _*_, _/_, _%_, _^_};
-ghost use Rattle.gf2.specs.Inverse.{log2, digits, chain};
+ghost use Rattle.gf2.specs.Inverse.{digits};
 ghost use Rattle.table.specs.Rows.{Shaped};
-ghost use Rattle.scatter.specs.Cells.{HasPlaces};
+ghost use Rattle.scatter.specs.Cells.{HasSlots};
 ghost use Rattle.product.specs.Inner.{Sound, Ready, chainOf, stateOf, stepped, addedFrom, Underway, invertedBy};
 use crate::InverseAnswer;
-use crate::kernel::Method;
 use crate::times;
 use judging::Fault;
 use operand::Operand;
+use scatter::Method;
 
 // What a step hands on: the power t, its k, and the number of products made.
 struct State {
     t: Operand,
     k: usize,
     count: usize,
-}
-
-// How many binary digits follow the highest one.
-fn further_digits(n: usize) -> usize
-    ensures { λ r. ⌜ r ≡ log2 n ⌝ }
-{
-    let mut rest = n;
-    let mut found = 0;
-    while 2 <= rest {
-        rest = rest / 2;
-        found += 1;
-    }
-    found
 }
 
 // One doubling: t := (t turned k)·t, k := 2k, and the count one higher. g is scratch for the product.
@@ -64,7 +51,7 @@ fn adding_step(width: usize, table: &[u8], a: Operand, doubled: State, g: &mut [
 
 // The doubling of the next digit, if one is left; it hands over to the adding.
 fn double(width: usize, table: &[u8], a: Operand, s: State, unread: usize, g: &mut [u64]) -> State
-    requires { ⌜ Underway width (now table) a s unread 0 × HasPlaces (now g) ⌝ }
+    requires { ⌜ Underway width (now table) a s unread 0 × HasSlots (now g) ⌝ }
     ensures { λ r. ⌜ r ≡ stateOf width (digits width (now (table .entry)) (a .bytes) (width - 1) unread (chainOf s)) ⌝ }
 {
     if unread == 0 {
@@ -83,7 +70,7 @@ fn add(
     unread: usize,
     g: &mut [u64],
 ) -> State
-    requires { ⌜ Underway width (now table) a doubled unread ((width - 1) / 2 ^ unread % 2) × HasPlaces (now g) ⌝ }
+    requires { ⌜ Underway width (now table) a doubled unread ((width - 1) / 2 ^ unread % 2) × HasSlots (now g) ⌝ }
     ensures { λ r. ⌜ r ≡ addedFrom width (now (table .entry)) (a .bytes) unread (chainOf doubled) ⌝ }
 {
     if ((width - 1) >> unread) % 2 == 0 {
@@ -93,27 +80,19 @@ fn add(
     double(width, table, a, next, unread, g)
 }
 
-// The last state of the chain. One scratch serves all its products.
-fn last(width: usize, table: &[u8], a: Operand) -> State
+// The chain's power turned by one, with the number of products made. One scratch serves all its products.
+pub(crate) fn inverted(width: usize, table: &[u8], a: Operand) -> InverseAnswer
     requires { ⌜ Shaped width (now table) × Sound width a ⌝ }
-    ensures { λ r. ⌜ r ≡ stateOf width (chain width (now (table .entry)) (a .bytes)) ⌝ }
+    ensures { λ r. ⌜ r ≡ invertedBy width (now (table .entry)) (a .bytes) ⌝ }
 {
     let first = State {
         t: a,
         k: 1,
         count: 0,
     };
-    let unread = further_digits(width - 1);
+    let unread = ones::highest_one(width - 1);
     let mut g = [0u64; scatter::ROOM];
-    double(width, table, a, first, unread, &mut g)
-}
-
-// The chain's power turned by one, with the number of products made.
-pub(crate) fn inverted(width: usize, table: &[u8], a: Operand) -> InverseAnswer
-    requires { ⌜ Shaped width (now table) × Sound width a ⌝ }
-    ensures { λ r. ⌜ r ≡ invertedBy width (now (table .entry)) (a .bytes) ⌝ }
-{
-    let end = last(width, table, a);
+    let end = double(width, table, a, first, unread, &mut g);
     let t = end.t;
     let turned = t.turn(1);
     let value = turned.value;

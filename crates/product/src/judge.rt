@@ -3,25 +3,12 @@
 ghost use mathlib.Core.Path.{_≡_};
 ghost use Rattle.judging.specs.Causes.{faultOf};
 ghost use Rattle.table.specs.Rows.{Shaped};
-ghost use Rattle.product.specs.Inner.{IsWidth, tableCauses, rulesBy, factorCauses, unitCauses};
-use crate::kernel::Method;
+ghost use Rattle.product.specs.Inner.{IsWidth, rulesBy, factorCauses, unitCauses};
 use judging::CallFault;
 use judging::Fault;
 use judging::is_none;
-use judging::judge_high;
 use operand::Operand;
-
-// A table, and one operand.
-fn judge_table(width: usize, table: &[u8], x: [u8; Operand::BYTES]) -> Fault
-    requires { ⌜ IsWidth width ⌝ }
-    ensures { λ r. ⌜ r ≡ faultOf (tableCauses width (now (table .entry)) x) ⌝ }
-{
-    let shape = table::judge_shape(width, table);
-    if !is_none(shape) {
-        return shape;
-    }
-    judge_high(x, width)
-}
+use scatter::Method;
 
 // For the reduced product the rules 4 and 5.
 fn judge_rules(method: Method, width: usize, table: &[u8]) -> Fault
@@ -45,13 +32,13 @@ pub(crate) fn judge_factors(
     requires { ⌜ IsWidth width ⌝ }
     ensures { λ r. ⌜ r ≡ faultOf (factorCauses method width (now (table .entry)) x y) ⌝ }
 {
-    let first = judge_table(width, table, x);
-    if !is_none(first) {
-        return first;
+    let shape = table::judge_shape(width, table);
+    if !is_none(shape) {
+        return shape;
     }
-    let second = judge_high(y, width);
-    if !is_none(second) {
-        return second;
+    let bits = judging::judge_both_high(x, width, y, width);
+    if !is_none(bits) {
+        return bits;
     }
     judge_rules(method, width, table)
 }
@@ -61,9 +48,13 @@ pub(crate) fn judge_unit(width: usize, table: &[u8], x: [u8; Operand::BYTES]) ->
     requires { ⌜ IsWidth width ⌝ }
     ensures { λ r. ⌜ r ≡ faultOf (unitCauses width (now (table .entry)) x) ⌝ }
 {
-    let first = judge_table(width, table, x);
-    if !is_none(first) {
-        return first;
+    let shape = table::judge_shape(width, table);
+    if !is_none(shape) {
+        return shape;
+    }
+    let bits = judging::judge_high(x, width);
+    if !is_none(bits) {
+        return bits;
     }
     if limbs::is_clear(x, 0) {
         return Fault::Call(CallFault::InverseOfZero);

@@ -5,16 +5,16 @@ ghost use Rattle.product.specs.Calls.{productCall, reducedCall, inverseC
 ghost use Rattle.product.specs.Inner.{multiplyCall};
 use judging::Fault;
 use judging::is_none;
-use kernel::Method;
 use operand::Operand;
 use operand::OperandAnswer;
+use scatter::Method;
 
 mod answers;
 mod bytes;
 mod chain;
 mod judge;
 mod kernel;
-mod places;
+mod slots;
 mod times;
 
 pub use bytes::CountAnswer;

@@ -5,12 +5,12 @@ ghost use Prim.Native.Nat.{_+_, _*_};
 ghost use lib.ListN.{replicate};
 ghost use Rattle.gf2.specs.Coordinates.{coord};
 ghost use Rattle.limbs.specs.Limbs.{carriedLimbs};
-ghost use Rattle.scatter.specs.Cells.{places};
-ghost use Rattle.product.specs.Inner.{Sound, Serves, carried, made, multiplied, diagonalAt};
+ghost use Rattle.scatter.specs.Cells.{slots};
+ghost use Rattle.product.specs.Inner.{Sound, Serves, operandOf, made, multiplied, diagonalAt};
 use crate::kernel;
-use crate::kernel::Method;
-use crate::places;
+use crate::slots;
 use operand::Operand;
+use scatter::Method;
 
 // What the rows give, and what a method adds to it.
 fn plus_diagonal(
@@ -26,7 +26,7 @@ fn plus_diagonal(
     match method {
         Method::Plain => rows,
         Method::Reduced => {
-            let products = places::below_width(scatter::masked(x, y), width);
+            let products = slots::below_width(scatter::masked(x, y), width);
             let diagonal = products.square();
             let sum = rows.sum(diagonal.value);
             sum.value
@@ -34,7 +34,7 @@ fn plus_diagonal(
     }
 }
 
-// g is scratch: a place of limbs for each coordinate, all 0.
+// g is scratch: a slot of limbs for each coordinate, all 0.
 pub(crate) fn times(
     method: Method,
     width: usize,
@@ -43,8 +43,8 @@ pub(crate) fn times(
     b: Operand,
     g: &mut [u64],
 ) -> Operand
-    requires { ⌜ Serves method width (now table) × Sound width a × Sound width b × (now g ≡ replicate (places * carriedLimbs) 0) ⌝ }
-    ensures { λ r. ⌜ r ≡ carried width (multiplied method width (now (table .entry)) (a .bytes) (b .bytes)) ⌝ }
+    requires { ⌜ Serves method width (now table) × Sound width a × Sound width b × (now g ≡ replicate (slots * carriedLimbs) 0) ⌝ }
+    ensures { λ r. ⌜ r ≡ operandOf width (multiplied method width (now (table .entry)) (a .bytes) (b .bytes)) ⌝ }
 {
     let p = a.bytes;
     let q = b.bytes;
@@ -54,11 +54,11 @@ pub(crate) fn times(
         method,
         width,
         table,
-        kernel::first_row(method),
-        kernel::row_count(method, width),
+        scatter::first_row(method),
+        scatter::row_count(method, width),
         x,
         y,
         g,
     );
-    plus_diagonal(method, width, places::gathered(width, g), x, y)
+    plus_diagonal(method, width, slots::gathered(width, g), x, y)
 }

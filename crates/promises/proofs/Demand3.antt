@@ -25,7 +25,7 @@ use Rattle.netlist.specs.Gates.{Netlist, words}
 use Rattle.netlist.specs.Lists.{plain, reduced, common}
 use Rattle.netlist.specs.Running.{wires, result}
 use Rattle.netlist.specs.Calls.{answer, countedAs, countsCall}
-use Rattle.netlist.specs.Statements.{ListsHold, Holds as ListHolds, Counted, CommonCounts}
+use Rattle.netlist.specs.Statements.{ListsHold, ListHolds, Counted, CommonCounts}
 use Rattle.netlist.proofs.Theorems.{theoremLists, theoremCommon}
 use Rattle.judging.specs.Causes.{faultOf}
 use Rattle.product.specs.Calls.{inverseInto}

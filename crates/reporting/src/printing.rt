@@ -47,7 +47,7 @@ fn table_report(width: usize, table: &[u8]) -> Text
     requires { ⌜ Shaped width (now table) ⌝ }
     ensures { λ r. ⌜ r ≡ appended (textOf []) (tableReport width (now (table .entry))) ⌝ }
 {
-    let ones = limbs::ones_of(table);
+    let ones = ones::ones_of(table);
     let start = Text::empty();
     let first = start.append_line(b"width", width);
     let head = first.append_line(b"ones", ones);

@@ -3,8 +3,8 @@
 use mathlib.Core.Path.{_≡_, refl, sym, ap, ap₂, _∙_}
 use mathlib.Core.Bool.{true, false}
 use mathlib.Core.List.{List, [], _∷_, _++_, append-assoc}
-use Prim.Native.Nat.{ℕ, zero, suc, _+_, _*_, _%_, _^_, _<_, _≤_}
-use native.Mathlib.Nat.{add-zero, lt-of-lt-of-le}
+use Prim.Native.Nat.{ℕ, zero, suc, _+_, _*_, _%_, _<_, _≤_}
+use native.Mathlib.Nat.{add-zero}
 use native.Mathlib.Numerals.{add-one}
 use native.Mathlib.Decide.{decLt}
 use native.Mathlib.Omega.{arith}
@@ -12,13 +12,12 @@ use lib.ListN.{length, getD, take, drop, set, List·getD-append, List·getD-eq-d
 use lib.Seq.{sets, drop-cons, set-at, take-at, length-take-le, getD-take}
 use lib.Dec.{leb, ltb}
 use lib.Bits.{bitAnd, bitXor}
-use lib.Pow.{shl-exact, pow-mono}
 use borrow.Author.Tests.{ltb-true, lt-ltb, le-ltb, le-leb, lt-leb}
 use Rattle.gf2.specs.Sums.{every}
-use Rattle.gf2.specs.Coordinates.{coord, value, tabulate}
+use Rattle.gf2.specs.Coordinates.{coord, tabulate}
 use Rattle.gf2.proofs.Sums.{every-at}
 use Rattle.gf2.specs.Operands.{bytesFor, choose, carriedBy, fromCoords}
-use Rattle.gf2.proofs.Coordinates.{value-lt, length-tabulate, getD-tabulate}
+use Rattle.gf2.proofs.Coordinates.{length-tabulate, getD-tabulate}
 use Rattle.gf2.proofs.Operands.{from-ext}
 use Rattle.gf2.proofs.Carrying.{HasBytes, same-coord}
 use Rattle.gf2.proofs.Parity.{and-both}
@@ -30,7 +29,6 @@ use Rattle.netlist.specs.Running.{applied, gateValue, valueOn, run, inputs, wir
 use Rattle.netlist.specs.Judgements.{isGate, isOutput}
 use Rattle.runner.specs.Calls.{runBytesResult, runBytesWires}
 use Rattle.runner.specs.Inner.{AreBits, gateAt, onOutput}
-use Rattle.netlist.proofs.SumLaws.{sum-next}
 use Rattle.netlist.proofs.FoldLaws.{Bits, run-length, run-bits, length-single}
 use Rattle.netlist.proofs.NetlistLaws.{length-inputs, inputs-bits}
 use Rattle.netlist.proofs.StoreLaws.{sets-append, sets-whole}
@@ -149,17 +147,6 @@ module _ (m : ℕ) (list w : List ℕ) where
             ap (λ z. set (ranTo k ++ z) (2 * m + k) y) (drop-cons w (2 * m + k) 0 h)
             ∙ set-at (ranTo k) (getD w (2 * m + k) 0) (drop (suc (2 * m + k)) w) y (2 * m + k) (length-ran k)
             ∙ sym (append-assoc (ranTo k) (y ∷ []) (drop (suc (2 * m + k)) w))
-
--- one bit more in a byte
-pub byte-more : (f : ℕ → ℕ) (j x y : ℕ) → x ≡ value j f → y ≡ f j % 2 → j < 8 → (y * 2 ^ j % 2 ^ 8 ≡ y * 2 ^ j) × (x + y * 2 ^ j ≡ value (j + 1) f) × (x + y * 2 ^ j < 256)
-byte-more f j x y e h l = (
-  shl-exact {a = y} 1 j 8 (omega arith) (omega arith),
-  there,
-  rw there (lt-of-lt-of-le (value-lt (j + 1) f) (pow-mono {i = j + 1} {j = 8} (omega arith))),
-)
-  where
-    there : x + y * 2 ^ j ≡ value (j + 1) f
-    there = unfold value in (rw (add-one, sum-next) (ap₂ (λ a b. a + b * 2 ^ j) e h))
 
 -- the wires after both operands are stored
 module _ (m : ℕ) (a b w : List ℕ) (fits : 2 * m ≤ length w) where

@@ -16,7 +16,6 @@ use crate::words;
 use judging::CallFault;
 use judging::Fault;
 use judging::is_none;
-use judging::judge_high;
 use judging::judge_length;
 use judging::judge_width;
 use operand::Operand;
@@ -155,13 +154,9 @@ pub(crate) fn judge_list(
     if !is_none(words) {
         return words;
     }
-    let left = judge_high(x, width);
-    if !is_none(left) {
-        return left;
-    }
-    let right = judge_high(y, width);
-    if !is_none(right) {
-        return right;
+    let bits = judging::judge_both_high(x, width, y, width);
+    if !is_none(bits) {
+        return bits;
     }
     judge_gates(width, list)
 }

@@ -1,6 +1,6 @@
 -- What the kernels on limbs make.
 -- Limb by limb: products and sums of coordinates.
--- Places: limbs added at one place, one after another.
+-- Slots: limbs added at one slot, one after another.
 use mathlib.Core.Path.{_≡_, refl, sym, ap, ap₂, _∙_}
 use mathlib.Core.Bool.{Bool, true, false}
 use mathlib.Core.List.{List}
@@ -21,7 +21,7 @@ use Rattle.limbs.specs.Limbs.{carriedLimbs, limbCoord, packLimbs}
 use Rattle.limbs.proofs.LimbCoords.{limb-lt, limb-digit, limb-pack, limbs-of, limbs-ext, limbs-zero}
 use Rattle.limbs.proofs.LimbLoops.{Limbs, window-limbs}
 use Rattle.limbs.proofs.TurnLimbs.{limbOf, pairFrom}
-use Rattle.scatter.specs.Cells.{places, HasPlaces, hasPlaces, cell, Added, seenFrom}
+use Rattle.scatter.specs.Cells.{slots, HasSlots, hasSlots, cell, Added, seenFrom}
 
 pub zeroes-list : (n : ℕ) → tabulate n (λ i. 0) ≡ replicate n 0
 zeroes-list n = ext-getD 0 _ _ (length-tabulate n _ ∙ sym (length-replicate n 0)) (λ i h.
@@ -44,7 +44,7 @@ pub xored-limbs : (n : ℕ) (u v b c : ℕ → ℕ) → ((w : ℕ) → w < n →
 xored-limbs n u v b c su sv eb ec = limbs-of n _ (λ i. b i + c i) (λ w h. xor-lt 64 (u w) (v w) (su w h) (sv w h)) (λ w j h l.
     xor-bit (u w) (v w) j ∙ ap₂ (λ p q. (p + q) % 2) (eb w j h l) (ec w j h l))
 
--- the bits of limb s * carriedLimbs + w are coordinates at place s
+-- the bits of limb s * carriedLimbs + w are coordinates at slot s
 pub cell-digit : (g : List ℕ) (s w j : ℕ) → j < 64 → getD g (s * carriedLimbs + w) 0 / 2 ^ j % 2 ≡ cell g s (w * 64 + j)
 cell-digit g s w j l = sym (limb-digit g (s * carriedLimbs + w) j l) ∙ ap (limbCoord g) (omega arith)
 
@@ -69,53 +69,53 @@ limb-more w i c = elim (ℕ-discrete (i / 64) w) [
 
 -- nothing added, one thing after another, and the same in other words
 pub added-none : (f : ℕ → ℕ → ℕ) (g : List ℕ) → ((s i : ℕ) → f s i ≡ 0) → Added f g g
-added-none f g z = record { size = refl; coords = λ s i l. omega (arith, z s i, limb-lt g (s * places + i)) }
+added-none f g z = record { size = refl; coords = λ s i l. omega (arith, z s i, limb-lt g (s * slots + i)) }
 
 sum-more : (x y z f h k : ℕ) → y ≡ (x + f) % 2 → z ≡ (y + h) % 2 → (f + h) % 2 ≡ k % 2 → z ≡ (x + k) % 2
 sum-more x y z f h k p q e = omega arith
 
-pub added-more : (f h k : ℕ → ℕ → ℕ) {a b c : List ℕ} → Added f a b → Added h b c → ((s i : ℕ) → i < places → (f s i + h s i) % 2 ≡ k s i % 2) → Added k a c
+pub added-more : (f h k : ℕ → ℕ → ℕ) {a b c : List ℕ} → Added f a b → Added h b c → ((s i : ℕ) → i < slots → (f s i + h s i) % 2 ≡ k s i % 2) → Added k a c
 added-more f h k p q same = record { size = q .size ∙ p .size; coords = λ s i l. sum-more _ _ _ _ _ _ (p .coords s i l) (q .coords s i l) (same s i l) }
 
-pub added-same : (f k : ℕ → ℕ → ℕ) {a b : List ℕ} → Added f a b → ((s i : ℕ) → i < places → f s i % 2 ≡ k s i % 2) → Added k a b
+pub added-same : (f k : ℕ → ℕ → ℕ) {a b : List ℕ} → Added f a b → ((s i : ℕ) → i < slots → f s i % 2 ≡ k s i % 2) → Added k a b
 added-same f k p same = record { size = p .size; coords = λ s i l. omega (arith, p .coords s i l, same s i l) }
 
--- the first w limbs of e at place s
-abbrev pub atPlace : ℕ → List ℕ → ℕ → ℕ → ℕ → ℕ
-atPlace s e w t i = choose (eqb t s) 1 0 * below (w * 64) (limbCoord e) i
+-- the first w limbs of e at slot s
+abbrev pub atSlot : ℕ → List ℕ → ℕ → ℕ → ℕ → ℕ
+atSlot s e w t i = choose (eqb t s) 1 0 * below (w * 64) (limbCoord e) i
 
-set-added : (g : List ℕ) (s w x : ℕ) (e : List ℕ) → s < places → w < carriedLimbs → HasPlaces g → x ≡ getD e w 0 →
+set-added : (g : List ℕ) (s w x : ℕ) (e : List ℕ) → s < slots → w < carriedLimbs → HasSlots g → x ≡ getD e w 0 →
     Added (λ t i. choose (eqb t s) 1 0 * choose (eqb (i / 64) w) (limbCoord e i) 0) g (set g (s * carriedLimbs + w) (bitXor (getD g (s * carriedLimbs + w) 0) x))
 set-added g s w x e h l size q = record {
   size = length-set g (s * carriedLimbs + w) _;
-  coords = λ t i b. set-coord g (s * carriedLimbs + w) x (t * places + i) (omega arith) ∙ ap (λ y. (cell g t i + y) % 2) (here t i b);
+  coords = λ t i b. set-coord g (s * carriedLimbs + w) x (t * slots + i) (omega arith) ∙ ap (λ y. (cell g t i + y) % 2) (here t i b);
 }
   where
-    here : (t i : ℕ) → i < places → choose (eqb ((t * places + i) / 64) (s * carriedLimbs + w)) (x / 2 ^ ((t * places + i) % 64) % 2) 0
+    here : (t i : ℕ) → i < slots → choose (eqb ((t * slots + i) / 64) (s * carriedLimbs + w)) (x / 2 ^ ((t * slots + i) % 64) % 2) 0
         ≡ choose (eqb t s) 1 0 * choose (eqb (i / 64) w) (limbCoord e i) 0
     here t i b = elim (ℕ-discrete t s) [
       | yes p ↦ elim (ℕ-discrete (i / 64) w) [
-        | yes r ↦ let z : (t * places + i) % 64 ≡ i % 64 = omega arith in
-            rw (eq-eqb t s p, eq-eqb (i / 64) w r, eq-eqb ((t * places + i) / 64) (s * carriedLimbs + w) (omega arith), z, q, ← r) (unfold limbCoord in omega arith)
-        | no r ↦ rw (eq-eqb t s p, ne-eqb (i / 64) w r, ne-eqb ((t * places + i) / 64) (s * carriedLimbs + w) (λ z. r (omega arith)))
+        | yes r ↦ let z : (t * slots + i) % 64 ≡ i % 64 = omega arith in
+            rw (eq-eqb t s p, eq-eqb (i / 64) w r, eq-eqb ((t * slots + i) / 64) (s * carriedLimbs + w) (omega arith), z, q, ← r) (unfold limbCoord in omega arith)
+        | no r ↦ rw (eq-eqb t s p, ne-eqb (i / 64) w r, ne-eqb ((t * slots + i) / 64) (s * carriedLimbs + w) (λ z. r (omega arith)))
       ]
-      | no p ↦ rw (ne-eqb t s p, ne-eqb ((t * places + i) / 64) (s * carriedLimbs + w) (λ z. p (omega arith))) (omega arith)
+      | no p ↦ rw (ne-eqb t s p, ne-eqb ((t * slots + i) / 64) (s * carriedLimbs + w) (λ z. p (omega arith))) (omega arith)
     ]
 
 module _ (s : ℕ) (e : List ℕ) where
-  pub place-none : (g : List ℕ) → Added (atPlace s e 0) g g
-  place-none g = added-none (atPlace s e 0) g (λ t i. rw (below-out (0 * 64) (limbCoord e) i (omega arith)) (omega arith))
+  pub slot-none : (g : List ℕ) → Added (atSlot s e 0) g g
+  slot-none g = added-none (atSlot s e 0) g (λ t i. rw (below-out (0 * 64) (limbCoord e) i (omega arith)) (omega arith))
 
-  pub place-more : (w x : ℕ) {g₀ g : List ℕ} → Added (atPlace s e w) g₀ g → HasPlaces g₀ → s < places → w < carriedLimbs → x ≡ getD e w 0 →
-      Added (atPlace s e (w + 1)) g₀ (set g (s * carriedLimbs + w) (bitXor (getD g (s * carriedLimbs + w) 0) x))
-  place-more w x {g₀} {g} p size h l q = added-more _ _ _ p (set-added g s w x e h l (p .size ∙ size) q)
+  pub slot-more : (w x : ℕ) {g₀ g : List ℕ} → Added (atSlot s e w) g₀ g → HasSlots g₀ → s < slots → w < carriedLimbs → x ≡ getD e w 0 →
+      Added (atSlot s e (w + 1)) g₀ (set g (s * carriedLimbs + w) (bitXor (getD g (s * carriedLimbs + w) 0) x))
+  slot-more w x {g₀} {g} p size h l q = added-more _ _ _ p (set-added g s w x e h l (p .size ∙ size) q)
       (λ t i b. ap (λ y. y % 2) (times (choose (eqb t s) 1 0) _ _ ∙ ap (λ y. choose (eqb t s) 1 0 * y) (limb-more w i (limbCoord e))))
     where
       times : (c a b : ℕ) → c * a + c * b ≡ c * (a + b)
       times c a b = sym (mul-add c a b)
 
-  pub place-all : {g₀ g : List ℕ} (w : ℕ) → carriedLimbs ≤ w → Added (atPlace s e w) g₀ g → Added (λ t i. choose (eqb t s) 1 0 * limbCoord e i) g₀ g
-  place-all w h p = added-same _ _ p (λ t i l. ap (λ y. choose (eqb t s) 1 0 * y % 2) (below-in (w * 64) (limbCoord e) i (omega arith)))
+  pub slot-all : {g₀ g : List ℕ} (w : ℕ) → carriedLimbs ≤ w → Added (atSlot s e w) g₀ g → Added (λ t i. choose (eqb t s) 1 0 * limbCoord e i) g₀ g
+  slot-all w h p = added-same _ _ p (λ t i l. ap (λ y. choose (eqb t s) 1 0 * y % 2) (below-in (w * 64) (limbCoord e) i (omega arith)))
 
 -- what is seen of limbs from a coordinate on
 module _ (n at : ℕ) (x : List ℕ) where
@@ -126,13 +126,13 @@ module _ (n at : ℕ) (x : List ℕ) where
   pub seen-none : length x ≤ at / 64 + carriedLimbs → replicate n 0 ≡ packLimbs n (seenFrom x at)
   seen-none h = limbs-zero n (seenFrom x at) (λ i l. rw (le-ltb (at / 64 + carriedLimbs) (length x) h))
 
--- where all places are there, and where not
+-- where all slots are there, and where not
 module _ (g : List ℕ) where
-  pub places-there : HasPlaces g → hasPlaces g ≡ true
-  places-there h = eq-eqb (length g) (places * carriedLimbs) h
+  pub slots-there : HasSlots g → hasSlots g ≡ true
+  slots-there h = eq-eqb (length g) (slots * carriedLimbs) h
 
-  pub places-missing : (HasPlaces g → ⊥) → hasPlaces g ≡ false
-  places-missing h = ne-eqb (length g) (places * carriedLimbs) h
+  pub slots-missing : (HasSlots g → ⊥) → hasSlots g ≡ false
+  slots-missing h = ne-eqb (length g) (slots * carriedLimbs) h
 
 pub seen-at : (at : ℕ) (x : List ℕ) → at / 64 + carriedLimbs < length x → (i : ℕ) → seenFrom x at i ≡ limbCoord x (at + i)
 seen-at at x h i = ap (λ b. choose b (limbCoord x (at + i)) 0) (lt-ltb (at / 64 + carriedLimbs) (length x) h)

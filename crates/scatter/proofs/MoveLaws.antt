@@ -2,7 +2,7 @@
 use mathlib.Core.Path.{_≡_, sym, ap, _∙_}
 use mathlib.Core.List.{List, [], _∷_}
 use Prim.Native.Nat.{ℕ, _+_, _-_, _*_, _/_, _%_, _^_, _<_, _≤_}
-use native.Mathlib.Nat.{zero-add, mod-eq-of-lt, mod-add-mod, mod-mod}
+use native.Mathlib.Nat.{mod-eq-of-lt, mod-add-mod, mod-mod}
 use native.Mathlib.Decide.{decLt}
 use native.Mathlib.Omega.{arith}
 use lib.ListN.{getD}
@@ -38,10 +38,6 @@ raised-twice j k f i = elim (decLt i j) [
     | no q ↦ raised-in k f (i - j) (omega arith) ∙ ap f (omega arith) ∙ sym (raised-in (j + k) f i (omega arith))
   ]
 ]
-
-pub sum-one : (f : ℕ → ℕ) → sum 1 f ≡ f 0
-unfolding sum
-sum-one f = zero-add (f 0)
 
 pub raised-sum : (k n : ℕ) (f : ℕ → ℕ → ℕ) (i : ℕ) → raised k (λ j. sum n (λ q. f q j)) i ≡ sum n (λ q. raised k (f q) i)
 raised-sum k n f i = elim (decLt i k) [

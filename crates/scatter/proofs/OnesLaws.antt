@@ -1,8 +1,9 @@
--- The ones of a limb, taken off from the lowest on, and of a row limb by limb; what they add at their places.
+-- The ones of a limb, taken off from the lowest on, and of a row limb by limb; what they add at their slots, by coordinates and as an equation.
 use mathlib.Core.Path.{_≡_, refl, sym, ap, ap₂, _∙_}
+use mathlib.Core.Bool.{Bool, true, false}
 use mathlib.Core.List.{List}
 use Prim.Native.Nat.{ℕ, _+_, _-_, _*_, _/_, _%_, _^_, _<_, _≤_}
-use native.Mathlib.Nat.{add-zero, add-mul, div-eq-of-lt, lt-of-lt-of-le, zero-div}
+use native.Mathlib.Nat.{add-zero, add-mul, zero-mul, div-eq-of-lt, lt-of-lt-of-le, zero-div}
 use native.Mathlib.Decide.{decLt, ℕ-discrete}
 use native.Mathlib.Omega.{arith}
 use lib.ListN.{length, getD}
@@ -15,12 +16,12 @@ use Rattle.gf2.specs.Operands.{choose, below}
 use Rattle.gf2.proofs.TrailingZeros.{lowest-off}
 use Rattle.gf2.proofs.Operands.{below-in, below-out}
 use Rattle.limbs.specs.Limbs.{carriedLimbs, limbCoord}
-use Rattle.limbs.proofs.LimbCoords.{limb-past, limb-digit}
+use Rattle.limbs.proofs.LimbCoords.{limb-past, limb-digit, limb-pack, length-limbs, limbs-eq}
 use Rattle.limbs.proofs.LimbLoops.{Limbs}
-use Rattle.scatter.specs.Cells.{HasPlaces, Added, bitFrom, rowAdds}
-use Rattle.scatter.proofs.CellLaws.{limb-more, added-none, added-more, added-same, places-there, places-missing}
+use Rattle.scatter.specs.Cells.{slots, HasSlots, hasSlots, cell, Added, bitFrom, rowAdds, plusRow}
+use Rattle.scatter.proofs.CellLaws.{limb-more, added-none, added-more, added-same, slots-there, slots-missing}
 
--- what is left of a limb whose bits stand for the places from `from` on: each step takes off its lowest one
+-- what is left of a limb whose bits stand for the slots from `from` on: each step takes off its lowest one
 module _ (limb from rest : ℕ) (small : rest < 2 ^ 64) (some : rest ≡ 0 → ⊥) where
   abbrev zeros : ℕ
   zeros = trailingZeros 64 rest
@@ -85,8 +86,8 @@ module _ (row x : List ℕ) where
   row-more small w p q = added-more _ _ _ p q (λ s i l. ap (λ y. y % 2)
       (sym (add-mul _ _ (limbCoord x i)) ∙ ap (λ y. y * limbCoord x i) (ap (λ y. below (w * 64) (limbCoord row) s + y) (limb-bits small w s) ∙ limb-more w s (limbCoord row))))
 
-  pub row-all : length row ≡ carriedLimbs → (w : ℕ) → carriedLimbs ≤ w → {a b : List ℕ} → HasPlaces a → Added (limbsTo row x w) a b → Added (rowAdds a x row) a b
-  row-all size w h {a} there p = added-same _ _ p (λ s i l. ap₂ (λ t y. choose t (y * limbCoord x i) 0 % 2) (sym (places-there a there)) (all s))
+  pub row-all : length row ≡ carriedLimbs → (w : ℕ) → carriedLimbs ≤ w → {a b : List ℕ} → HasSlots a → Added (limbsTo row x w) a b → Added (rowAdds a x row) a b
+  row-all size w h {a} there p = added-same _ _ p (λ s i l. ap₂ (λ t y. choose t (y * limbCoord x i) 0 % 2) (sym (slots-there a there)) (all s))
     where
       all : (s : ℕ) → below (w * 64) (limbCoord row) s ≡ limbCoord row s
       all s = elim (decLt s (w * 64)) [
@@ -94,5 +95,35 @@ module _ (row x : List ℕ) where
         | no l ↦ below-out (w * 64) (limbCoord row) s (omega arith) ∙ sym (limb-past row s (omega arith))
       ]
 
-  pub row-missing : (a : List ℕ) → (HasPlaces a → ⊥) → Added (rowAdds a x row) a a
-  row-missing a h = added-none _ a (λ s i. ap (λ t. choose t (limbCoord row s * limbCoord x i) 0) (places-missing a h))
+  pub row-missing : (a : List ℕ) → (HasSlots a → ⊥) → Added (rowAdds a x row) a a
+  row-missing a h = added-none _ a (λ s i. ap (λ t. choose t (limbCoord row s * limbCoord x i) 0) (slots-missing a h))
+
+  -- by an equation, and back
+  pub row-equal : {a b : List ℕ} → Limbs b → Added (rowAdds a x row) a b → b ≡ plusRow a x row
+  unfolding plusRow
+  row-equal {a} {b} small p = limbs-eq (length a) _ (p .size) small (λ c l.
+      let e : c ≡ c / slots * slots + c % slots = omega arith in
+      ap (limbCoord b) e ∙ p .coords (c / slots) (c % slots) (omega arith) ∙ ap (λ k. (limbCoord a k + rowAdds a x row (c / slots) (c % slots)) % 2) (sym e))
+
+  pub row-added : length row ≡ carriedLimbs → {a b : List ℕ} → HasSlots a → b ≡ plusRow a x row → Added (rowAdds a x row) a b
+  unfolding plusRow
+  row-added size {a} {b} there q = record {
+    size = long;
+    coords = λ s i l. elim (decLt s slots) [
+      | yes h ↦
+          let d : (s * slots + i) / slots ≡ s = omega arith in
+          let r : (s * slots + i) % slots ≡ i = omega arith in
+          ap (λ z. limbCoord z (s * slots + i)) q ∙ limb-pack (length a) _ (s * slots + i) (omega (arith, there))
+          ∙ ap₂ (λ t j. (cell a s i + rowAdds a x row t j) % 2) d r
+      | no h ↦
+          limb-past b (s * slots + i) (omega (arith, long, there))
+          ∙ sym (ap₂ (λ y z. (y + choose (hasSlots a) (z * limbCoord x i) 0) % 2) (limb-past a (s * slots + i) (omega (arith, there))) (limb-past row s (omega arith)) ∙ nothing (hasSlots a) (limbCoord x i))
+    ];
+  }
+    where
+      long : length b ≡ length a
+      long = ap length q ∙ length-limbs (length a) _
+
+      nothing : (t : Bool) (y : ℕ) → (0 + choose t (0 * y) 0) % 2 ≡ 0
+      nothing true y = ap (λ z. (0 + z) % 2) (zero-mul y)
+      nothing false y = refl

@@ -1,5 +1,5 @@
--- The sum of all places, place s moved up s, by Horner's rule over the 64 bits of a limb:
--- each step moves the sum up by one place and adds a column, the places that are r modulo 64.
+-- The sum of all slots, slot s moved up s, by Horner's rule over the 64 bits of a limb:
+-- each step moves the sum up by one place and adds a column, the slots that are r modulo 64.
 use mathlib.Core.Path.{_≡_, refl, sym, ap, ap₂, _∙_}
 use mathlib.Core.List.{List}
 use Prim.Native.Nat.{ℕ, _+_, _-_, _*_, _/_, _%_, _^_, _<_, _≤_}
@@ -14,17 +14,17 @@ use lib.Bits.{bitXor, xor-lt}
 use borrow.Author.Tests.{eq-eqb, ne-eqb}
 use Rattle.gf2.specs.Sums.{sum}
 use Rattle.gf2.specs.Operands.{choose, below}
-use Rattle.gf2.proofs.Sums.{sum-ext, sum-plus, sum-none, sum-split, sum-digits}
+use Rattle.gf2.proofs.Sums.{sum-ext, sum-plus, sum-none, sum-one, sum-split, sum-digits}
 use Rattle.gf2.proofs.Operands.{below-out}
 use Rattle.limbs.specs.Limbs.{carriedLimbs, limbCoord, packLimbs, raised}
 use Rattle.limbs.proofs.LimbCoords.{limb-lt, limbs-ext, limbs-eq, limbs-zero}
 use Rattle.limbs.proofs.LimbLoops.{Limbs}
 use Rattle.limbs.proofs.TurnLimbs.{raised-in, raised-out}
-use Rattle.scatter.specs.Cells.{places, cell, cellRaised, HasPlaces, spreadSum, columnTo}
-use Rattle.scatter.proofs.CellLaws.{cell-digit, set-coord, limb-more, places-there, places-missing}
-use Rattle.scatter.proofs.MoveLaws.{raised-ext, raised-add, raised-twice, sum-one, raised-sum, packed-plus, packed-up}
+use Rattle.scatter.specs.Cells.{slots, cell, cellRaised, HasSlots, spreadSum, columnTo}
+use Rattle.scatter.proofs.CellLaws.{cell-digit, set-coord, limb-more, slots-there, slots-missing}
+use Rattle.scatter.proofs.MoveLaws.{raised-ext, raised-add, raised-twice, raised-sum, packed-plus, packed-up}
 
--- the first w limbs at place s, added to x from limb q on
+-- the first w limbs at slot s, added to x from limb q on
 pub record Plus (g : List ℕ) (s q : ℕ) (x : List ℕ) (w : ℕ) (r : List ℕ) : Type 0 where
   pub within : w ≤ carriedLimbs
   pub size : length r ≡ length x
@@ -70,10 +70,10 @@ module _ (g : List ℕ) (s q : ℕ) where
 
   pub plus-all : {x r : List ℕ} (n w : ℕ) → Plus g s q x w r → carriedLimbs ≤ w → length x ≡ n → r ≡ packLimbs n (λ i. limbCoord x i + cellRaised g s (q * 64) i)
   plus-all {x} n w p h size =
-      let e : w * 64 ≡ places = omega (arith, p .within) in
+      let e : w * 64 ≡ slots = omega (arith, p .within) in
       limbs-eq n _ (p .size ∙ size) (p .small) (λ i l. p .coords i ∙ ap (λ k. (limbCoord x i + raised (q * 64) (below k (cell g s)) i) % 2) e)
 
--- one place after another of a column
+-- one slot after another of a column
 module _ (g : List ℕ) (r : ℕ) where
   pub column-none : (n : ℕ) {x : List ℕ} → length x ≡ n → Limbs x → x ≡ packLimbs n (λ i. limbCoord x i + columnTo g r 0 i)
   unfolding sum
@@ -98,7 +98,7 @@ module _ (g : List ℕ) where
   column-step r l i =
       ap (λ y. y + columnTo g r carriedLimbs i) (raised-sum 1 carriedLimbs (λ q j. sum (64 - (r + 1)) (λ u. cellRaised g (q * 64 + (r + 1 + u)) (q * 64 + u) j)) i
       ∙ sum-ext carriedLimbs _ _ (λ q h. raised-sum 1 (64 - (r + 1)) (λ u. cellRaised g (q * 64 + (r + 1 + u)) (q * 64 + u)) i
-      ∙ sum-ext (64 - (r + 1)) _ _ (λ u k. raised-twice 1 (q * 64 + u) (below places (cell g (q * 64 + (r + 1 + u)))) i)))
+      ∙ sum-ext (64 - (r + 1)) _ _ (λ u k. raised-twice 1 (q * 64 + u) (below slots (cell g (q * 64 + (r + 1 + u)))) i)))
       ∙ sym (sum-plus carriedLimbs _ _) ∙ sum-ext carriedLimbs _ _ (λ q h. sym (split q))
     where
       split : (q : ℕ) → sum (64 - r) (λ u. cellRaised g (q * 64 + (r + u)) (q * 64 + u) i)
@@ -122,12 +122,12 @@ module _ (g : List ℕ) where
       → z ≡ packLimbs n (λ i. limbCoord y i + columnTo g r carriedLimbs i) → z ≡ packLimbs n (columns r)
   spread-more n r e l p d q = packed-plus n (raised 1 (columns (r + 1))) _ (packed-up n 1 (columns (r + 1)) (p ∙ ap (λ k. packLimbs n (columns k)) e) d) q ∙ limbs-ext n _ _ (λ i h. ap (λ y. y % 2) (column-step r l i))
 
-  pub spread-all : (n : ℕ) {r : ℕ} {x : List ℕ} → HasPlaces g → r ≡ 0 → x ≡ packLimbs n (columns r) → x ≡ packLimbs n (spreadSum g)
+  pub spread-all : (n : ℕ) {r : ℕ} {x : List ℕ} → HasSlots g → r ≡ 0 → x ≡ packLimbs n (columns r) → x ≡ packLimbs n (spreadSum g)
   spread-all n there e p = p ∙ ap (λ k. packLimbs n (columns k)) e ∙ limbs-ext n _ _ (λ i l. ap (λ y. y % 2) (all i))
-      ∙ ap (λ b. packLimbs n (λ i. choose b (sum places (λ s. cellRaised g s s i)) 0)) (sym (places-there g there))
+      ∙ ap (λ b. packLimbs n (λ i. choose b (sum slots (λ s. cellRaised g s s i)) 0)) (sym (slots-there g there))
     where
-      all : (i : ℕ) → columns 0 i ≡ sum places (λ s. cellRaised g s s i)
+      all : (i : ℕ) → columns 0 i ≡ sum slots (λ s. cellRaised g s s i)
       all i = sum-ext carriedLimbs _ _ (λ q h. sum-ext 64 _ _ (λ u l. ap (λ k. cellRaised g (q * 64 + k) (q * 64 + u) i) (zero-add u))) ∙ sym (sum-digits carriedLimbs 64 (λ s. cellRaised g s s i))
 
-  pub spread-missing : (n : ℕ) → (HasPlaces g → ⊥) → replicate n 0 ≡ packLimbs n (spreadSum g)
-  spread-missing n h = limbs-zero n (spreadSum g) (λ i l. ap (λ b. choose b (sum places (λ s. cellRaised g s s i)) 0 % 2) (places-missing g h))
+  pub spread-missing : (n : ℕ) → (HasSlots g → ⊥) → replicate n 0 ≡ packLimbs n (spreadSum g)
+  spread-missing n h = limbs-zero n (spreadSum g) (λ i l. ap (λ b. choose b (sum slots (λ s. cellRaised g s s i)) 0 % 2) (slots-missing g h))

@@ -1,4 +1,4 @@
--- What the kernels make: places of limbs at which sums are gathered, coordinate by coordinate.
+-- What the kernels make: slots of limbs at which sums are gathered, coordinate by coordinate.
 use mathlib.Core.Path.{_≡_}
 use mathlib.Core.Bool.{Bool}
 use mathlib.Core.List.{List}
@@ -7,52 +7,56 @@ use lib.ListN.{length}
 use lib.Dec.{ltb, eqb}
 use Rattle.gf2.specs.Sums.{sum}
 use Rattle.gf2.specs.Operands.{carriedBytes, choose, below}
-use Rattle.limbs.specs.Limbs.{carriedLimbs, limbCoord, raised}
+use Rattle.limbs.specs.Limbs.{carriedLimbs, limbCoord, packLimbs, raised}
 
--- the coordinates of an operand's limbs, and as many places
-abbrev pub places : ℕ
-places = 8 * carriedBytes
+-- the coordinates of an operand's limbs, and as many slots; a slot gathers what the ones at one place of the rows ask for
+abbrev pub slots : ℕ
+slots = 8 * carriedBytes
 
 -- room for an operand's limbs twice, and one more
 abbrev pub twiceLimbs : ℕ
 twiceLimbs = 2 * carriedLimbs + 1
 
--- a list of limbs has all places
-abbrev pub HasPlaces : List ℕ → Type 0
-HasPlaces g = length g ≡ places * carriedLimbs
+-- a list of limbs has all slots
+abbrev pub HasSlots : List ℕ → Type 0
+HasSlots g = length g ≡ slots * carriedLimbs
 
--- coordinate i of the limbs at place s
+-- coordinate i of the limbs at slot s
 abbrev pub cell : List ℕ → ℕ → ℕ → ℕ
-cell g s i = limbCoord g (s * places + i)
+cell g s i = limbCoord g (s * slots + i)
 
--- coordinate i of the limbs at place s moved up by k places
+-- coordinate i of the limbs at slot s moved up by k places
 abbrev pub cellRaised : List ℕ → ℕ → ℕ → ℕ → ℕ
-cellRaised g s k = raised k (below places (cell g s))
+cellRaised g s k = raised k (below slots (cell g s))
 
--- coordinate i of the sum of the first n of the places r, 64 + r, .., each from its own limb on
+-- coordinate i of the sum of the first n of the slots r, 64 + r, .., each from its own limb on
 abbrev pub columnTo : List ℕ → ℕ → ℕ → ℕ → ℕ
 columnTo g r n i = sum n (λ q. cellRaised g (q * 64 + r) (q * 64) i)
 
--- h is g with f s i added to coordinate i at place s, modulo 2
+-- h is g with f s i added to coordinate i at slot s, modulo 2
 pub record Added (f : ℕ → ℕ → ℕ) (g h : List ℕ) : Type 0 where
   pub size : length h ≡ length g
-  pub coords : (s i : ℕ) → i < places → cell h s i ≡ (cell g s i + f s i) % 2
+  pub coords : (s i : ℕ) → i < slots → cell h s i ≡ (cell g s i + f s i) % 2
 
--- the bits of a limb, for the places from `from` on
+-- the bits of a limb, for the slots from `from` on
 unfoldable pub bitFrom : ℕ → ℕ → ℕ → ℕ
 bitFrom limb from s = choose (ltb s from) 0 (limb / 2 ^ (s - from) % 2)
 
--- whether a list of limbs has all places
-abbrev pub hasPlaces : List ℕ → Bool
-hasPlaces g = eqb (length g) (places * carriedLimbs)
+-- whether a list of limbs has all slots
+abbrev pub hasSlots : List ℕ → Bool
+hasSlots g = eqb (length g) (slots * carriedLimbs)
 
--- what a row adds to coordinate i at place s: coordinate i of e, where coordinate s of the row is 1 and g has all places
+-- what a row adds to coordinate i at slot s: coordinate i of e, where coordinate s of the row is 1 and g has all slots
 abbrev pub rowAdds : List ℕ → List ℕ → List ℕ → ℕ → ℕ → ℕ
-rowAdds g e row s i = choose (hasPlaces g) (limbCoord row s * limbCoord e i) 0
+rowAdds g e row s i = choose (hasSlots g) (limbCoord row s * limbCoord e i) 0
 
--- coordinate i of the sum of all places, place s moved up s
+-- g with what a row adds to it: coordinate c of g is coordinate c modulo `slots` at slot c / slots rounded down
+unfoldable pub plusRow : List ℕ → List ℕ → List ℕ → List ℕ
+plusRow g e row = packLimbs (length g) (λ c. limbCoord g c + rowAdds g e row (c / slots) (c % slots))
+
+-- coordinate i of the sum of all slots, slot s moved up s
 abbrev pub spreadSum : List ℕ → ℕ → ℕ
-spreadSum g i = choose (hasPlaces g) (sum places (λ s. cellRaised g s s i)) 0
+spreadSum g i = choose (hasSlots g) (sum slots (λ s. cellRaised g s s i)) 0
 
 -- coordinate i of what is seen of limbs from a coordinate on, where there are limbs enough
 abbrev pub seenFrom : List ℕ → ℕ → ℕ → ℕ

@@ -1,2 +1,3 @@
--- Inner definitions: places of limbs, and what the kernels make there. No demand cites them.
+-- Inner definitions: the rows of a product's two methods; slots of limbs, and what the kernels make there. No demand cites them.
+pub mod Methods
 pub mod Cells

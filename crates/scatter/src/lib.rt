@@ -1,11 +1,15 @@
-// Limbs scattered to places and gathered again: an operand written twice, the coordinates from one on, products of coordinates,
-// what the ones of a row add at their places, and the sum of all places.
-mod places;
+// The kernels of a product: its two methods; an operand written twice, the coordinates from one on, products of coordinates;
+// what the ones of a row add at their slots, and the sum of all slots.
+mod methods;
+mod slots;
 mod windows;
 
-pub use places::add_row;
-pub use places::clear;
-pub use places::spread;
+pub use methods::Method;
+pub use methods::first_row;
+pub use methods::row_count;
+pub use slots::add_row;
+pub use slots::clear;
+pub use slots::spread;
 pub use windows::masked;
 pub use windows::met;
 pub use windows::twice;
@@ -14,5 +18,5 @@ pub use windows::window;
 // Room for an operand's limbs twice, and one more to read past a limb's end.
 pub const TWICE: usize = 2 * limbs::LIMBS + 1;
 
-// The limbs of a place for each coordinate.
+// The limbs of a slot for each coordinate.
 pub const ROOM: usize = 8 * limbs::BYTES * limbs::LIMBS;

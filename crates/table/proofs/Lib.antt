@@ -4,7 +4,7 @@
 -- BasisOperands: the basis operands, products of them and sums of rows as operands.
 -- Rules: rules 5 and 6 as tests of one row and of one pair.
 -- RowSums: sums of rows: which products they are, and the sum of all rows.
--- RowsAtOnes: the sum of the rows at the ones of an operand, in words.
+-- RowsAtOnes: the sum of the rows at the ones of an operand, in limbs.
 -- TableOnes: the ones of a table's bytes are those of its rows.
 -- Theorems: the proofs of the statements in specs/Statements.antt.
 pub mod Parts

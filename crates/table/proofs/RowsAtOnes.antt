@@ -1,4 +1,4 @@
--- The sum of the rows at the ones of an operand, in words: the steps of the loops that make it.
+-- The sum of the rows at the ones of an operand, in limbs: the steps of the loops that make it.
 -- plus-row: one row more. ones-none, ones-step, ones-within, ones-clear: the ones of a limb, taken off from the lowest on.
 -- limbs-none, limbs-more, limb-within, limbs-all: limb after limb of the operand.
 use mathlib.Core.Path.{_≡_, refl, sym, ap, _∙_}

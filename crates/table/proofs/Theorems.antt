@@ -14,7 +14,7 @@ use Rattle.gf2.specs.Check.{Rule5, Rule6, Rule7, Symmetric, Accepted}
 use Rattle.gf2.proofs.Sums.{every-at}
 use Rattle.gf2.proofs.Decisions.{same-decides}
 use Rattle.gf2.proofs.Theorems.{theoremA, theoremC, theoremF}
-use Rattle.gf2.proofs.CarriedTables.{carried}
+use Rattle.gf2.proofs.CarriedTables.{carried-tables}
 use Rattle.judging.specs.declared.fault.Fault.{Fault}
 use Rattle.judging.specs.declared.fault.Fault.the-variants.{None, Width, Length, HighBit, RowZero, RowPair, Triple, RowSum}
 use Rattle.judging.specs.Faults.{numberOf, isNone}
@@ -148,10 +148,10 @@ first-triples m t = keeps-both First no-fault (symmetryCauses m t) (tripleCauses
 
 pub carried-pass : CarriedPass
 carried-pass = record {
-  width2 = pass 2 carried2 (lit≤ tt) (lit≤ tt) (carried .width2);
-  width3 = pass 3 carried3 (lit≤ tt) (lit≤ tt) (carried .width3);
-  width4 = pass 4 carried4 (lit≤ tt) (lit≤ tt) (carried .width4);
-  width5 = pass 5 carried5 (lit≤ tt) (lit≤ tt) (carried .width5);
+  width2 = pass 2 carried2 (lit≤ tt) (lit≤ tt) (carried-tables .width2);
+  width3 = pass 3 carried3 (lit≤ tt) (lit≤ tt) (carried-tables .width3);
+  width4 = pass 4 carried4 (lit≤ tt) (lit≤ tt) (carried-tables .width4);
+  width5 = pass 5 carried5 (lit≤ tt) (lit≤ tt) (carried-tables .width5);
 }
   where
     pass : (m : ℕ) (t : List ℕ) → 2 ≤ m → m ≤ maxWidth → IsTable m t × Accepted m t → checkFault m t ≡ None

@@ -17,7 +17,7 @@ carriedRow m table d = carriedBy (row m table d)
 unfoldable pub rowsAt : ℕ → List ℕ → List ℕ → List ℕ
 rowsAt m table x = fromCoords carriedBytes m (λ s. sum m (λ k. coord x k * coord (row m table k) s))
 
--- x and the rows at the ones of a limb, whose bits stand for the rows from `from` on, in words
+-- x and the rows at the ones of a limb, whose bits stand for the rows from `from` on, in limbs
 unfoldable pub plusRows : ℕ → List ℕ → List ℕ → ℕ → ℕ → List ℕ
 plusRows m table x limb from =
     packLimbs carriedLimbs (λ s. limbCoord x s + sum 64 (λ b. limb / 2 ^ b % 2 * coord (row m table (from + b)) s))

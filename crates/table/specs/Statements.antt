@@ -7,8 +7,8 @@
 use mathlib.Core.Path.{_≡_}
 use mathlib.Core.Logic.{_↔_}
 use mathlib.Core.List.{List, [], _∷_}
-use Prim.Native.Nat.{ℕ, _<_}
-use lib.ListN.{getD}
+use Prim.Native.Nat.{ℕ}
+use Rattle.gf2.specs.Coordinates.{Bytes}
 use Rattle.gf2.specs.Check.{Symmetric, Accepted}
 use Rattle.gf2.specs.Field.{Field, Squares}
 use Rattle.judging.specs.declared.fault.Fault.the-variants.{None, Triple}
@@ -17,10 +17,6 @@ use Rattle.judging.specs.FaultTable.{rowSumWrong}
 use Rattle.table.specs.Carried.{carried2, carried3, carried4, carried5}
 use Rattle.table.specs.Rows.{Shaped}
 use Rattle.table.specs.Judgements.{shapeFault, symmetryFault, tripleFault, checkFault}
-
--- every element is a byte
-abbrev pub Bytes : List ℕ → Type 0
-Bytes l = (b : ℕ) → getD l b 0 < 256
 
 -- 1 to 3: "A table is m rows, each an operand of W bytes, m·W in all"
 abbrev pub Shape : Type 0

@@ -11,7 +11,7 @@ pub fn ones(width: usize, table: &[u8]) -> OnesAnswer
     if judging::is_none(fault) {
         OnesAnswer {
             fault,
-            ones: limbs::ones_of(table),
+            ones: ones::ones_of(table),
         }
     } else {
         OnesAnswer { fault, ones: 0 }

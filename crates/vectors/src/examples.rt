@@ -2,12 +2,8 @@
 ghost use mathlib.Core.Path.{_≡_};
 ghost use Prim.Native.Nat.{_<_, _≤_};
 ghost use Rattle.judging.specs.Faults.{numberOf};
-ghost use Rattle.gaussian.specs.Calls.{drawnInto};
 ghost use Rattle.card_writer.specs.Calls.{writeCard};
-ghost use Rattle.vectors.specs.Curve.{pointOnCurve};
-use crate::curve;
 use crate::printing;
-use crate::published;
 use operand::Operand;
 use operand::OperandAnswer;
 
@@ -131,35 +127,16 @@ pub(crate) fn card(width: usize, table: &[u8])
     read(width, table, card);
 }
 
-// Whether the point with these digits lies on the curve once `change` is added to y.
-fn lies(width: u16, table: &[u8], a: &[u8], b: &[u8], x: &[u8], y: &[u8], change: &[u8]) -> bool
-    ensures { λ r. ⌜ r ≡ pointOnCurve width (now (table .entry)) (now (a .entry)) (now (b .entry)) (now (x .entry)) (now (y .entry)) (now (change .entry)) ⌝ }
-{
-    let changed = published::operand(width, y).sum(published::operand(width, change));
-    curve::on_curve(
-        width as usize,
-        table,
-        published::operand(width, a),
-        published::operand(width, b),
-        published::operand(width, x),
-        changed.value,
-    )
-}
-
 // A point under the drawn table of its width: whether it lies on the curve, and whether it does with one bit of y changed.
-pub(crate) fn point(
-    text: &[u8],
-    width: u16,
-    table: &mut [u8],
-    a: &[u8],
-    b: &[u8],
-    x: &[u8],
-    y: &[u8],
-)
-    ensures { λ _. ⌜ now (table .exit) ≡ drawnInto width (now (table .entry)) ⌝ }
+pub(crate) fn point(text: &[u8], width: usize, a: &[u8], b: &[u8], x: &[u8], y: &[u8])
+    requires { ⌜ width ≤ 233 ⌝ }
+    ensures { λ _. ⊤ₛ }
 {
-    let answer = gaussian::draw(width as usize, table);
-    let on = lies(width, table, a, b, x, y, b"0") as usize;
-    let changed = lies(width, table, a, b, x, y, b"1") as usize;
+    let mut buffer = [0u8; 6990];
+    let whole: &mut [u8] = &mut buffer;
+    let table = &mut whole[..width * limbs::bytes_for(width)];
+    let answer = gaussian::draw(width, table);
+    let on = curves::lies(width, table, a, b, x, y, b"0") as usize;
+    let changed = curves::lies(width, table, a, b, x, y, b"1") as usize;
     printing::line(text, [answer.t, on, changed, 0]);
 }

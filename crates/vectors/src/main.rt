@@ -1,9 +1,7 @@
 // Document 01's examples that are not starred, and the published points, run through the proved calls.
-mod curve;
 mod examples;
 mod points;
 mod printing;
-mod published;
 
 fn lists()
     ensures { λ _. ⊤ₛ }
@@ -45,7 +43,5 @@ fn main() {
     examples::drawn(5);
     lists();
     cards();
-    points::b163();
-    points::k163();
-    points::k233();
+    points::all();
 }

@@ -1,14 +1,14 @@
 -- `limbs::limbs::put_part` meets its contract.
 use Prim.Native.Nat.{_-_, _≤_}
 use native.Mathlib.Omega.{arith}
-use Rattle.limbs.specs.Limbs.{Put}
+use Rattle.limbs.specs.Limbs.{LimbPut}
 use Rattle.limbs.proofs.LimbStores.{put-none, put-more, put-all}
 use borrow.Author.Needs.{needs}
 use Rattle.limbs.proofs.limbs.put_part.Statement.{statement}
 use Rattle.limbs.proofs.limbs.put_part.Tie as tie
 
 abbrev Inv-loop : tie.InvT-loop
-Inv-loop limb out₀ j₀ out j = (j ≤ 8) × Put j limb 0 out₀ out
+Inv-loop limb out₀ j₀ out j = (j ≤ 8) × LimbPut j limb 0 out₀ out
 
 pub put-part-spec : {M : Type 1} → statement M
 put-part-spec =

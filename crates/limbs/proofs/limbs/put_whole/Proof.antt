@@ -2,14 +2,14 @@
 use mathlib.Core.Path.{refl}
 use Prim.Native.Nat.{_-_, _≤_}
 use native.Mathlib.Omega.{arith}
-use Rattle.limbs.specs.Limbs.{Put}
+use Rattle.limbs.specs.Limbs.{LimbPut}
 use Rattle.limbs.proofs.LimbStores.{put-none, put-more, put-all}
 use borrow.Author.Needs.{needs}
 use Rattle.limbs.proofs.limbs.put_whole.Statement.{statement}
 use Rattle.limbs.proofs.limbs.put_whole.Tie as tie
 
 abbrev Inv-loop : tie.InvT-loop
-Inv-loop limb b out₀ j₀ out j = (j ≤ 8) × Put j limb b out₀ out
+Inv-loop limb b out₀ j₀ out j = (j ≤ 8) × LimbPut j limb b out₀ out
 
 pub put-whole-spec : {M : Type 1} → statement M
 put-whole-spec =

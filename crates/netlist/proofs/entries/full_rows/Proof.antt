@@ -4,10 +4,11 @@ use mathlib.Core.Logic.{⊎-elim}
 use Prim.Native.Nat.{ℕ, _-_, _≤_}
 use native.Mathlib.Omega.{arith}
 use native.Mathlib.Numerals.{add-one}
+use Rattle.gf2.proofs.Sums.{sum-zero, sum-next}
 use Rattle.gf2.specs.Sums.{sum}
 use Rattle.gf2.specs.Tables.{row}
 use Rattle.netlist.specs.Lists.{allOnes, fullRows}
-use Rattle.netlist.proofs.SumLaws.{num, sum-zero, sum-next}
+use Rattle.gf2.proofs.Counts.{num}
 use borrow.Author.Needs.{needs}
 use Rattle.netlist.proofs.entries.full_rows.Statement.{statement}
 use Rattle.netlist.proofs.entries.full_rows.Tie as tie

@@ -10,7 +10,7 @@ use Rattle.operand.proofs.judge.judge_pair.Tie as tie
 returns-2 : tie.Need-returns-2
 returns-2 c =
     let s = c .before .before in
-    follows (badWidth _ ∷ badWidth _ ∷ badLength _ _ ∷ []) (highBit _ _ ∷ highBit _ _ ∷ []) (s .before .judge-widths .ensures) (s .is-none .ensures) (not-false _ (c .before .if1 .left)) (c .judge-bits .ensures)
+    follows (badWidth _ ∷ badWidth _ ∷ badLength _ _ ∷ []) (highBit _ _ ∷ highBit _ _ ∷ []) (s .before .judge-widths .ensures) (s .is-none .ensures) (not-false _ (c .before .if1 .left)) (c .judge-both-high .ensures)
 
 pub judge-pair-spec : {M : Type 1} → statement M
 judge-pair-spec =

@@ -7,7 +7,7 @@ use mir.Syntax.{w8}
 use borrow.Author.Tests.{not-true}
 use Rattle.table.proofs.Parts.{Part, known, passed}
 use Rattle.product.specs.Inner.{unitCauses}
-use Rattle.product.proofs.Judged.{Carried, unit-fine, inverse-answered, inverse-refused}
+use Rattle.product.proofs.Judged.{HasCarriedBytes, unit-fine, inverse-answered, inverse-refused}
 use borrow.Author.Needs.{needs}
 use Rattle.product.proofs.answers.inverse.Statement.{statement}
 use Rattle.product.proofs.answers.inverse.Tie as tie
@@ -19,7 +19,7 @@ returns : tie.Need-returns
 returns c = let i = c .before .before in inverse-refused _ _ _ _ (i .before .judge-unit .ensures) (known (unit i) (not-true _ (c .before .if1 .taken))) (c .refused .ensures)
 
 -- a carried operand has its bytes
-bytes : (s : tie.Start) → Carried (s .args .x)
+bytes : (s : tie.Start) → HasCarriedBytes (s .args .x)
 bytes s = let x : (k : ℕ) → Fits w8 (getD (s .args .x) k 0) = λ k. search needs in (search needs, λ k. x k .fits)
 
 inverted-requires : tie.Need-inverted-requires

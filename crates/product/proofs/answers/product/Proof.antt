@@ -9,7 +9,7 @@ use borrow.Author.Tests.{not-true}
 use Rattle.operand.proofs.CallLaws.{refusal}
 use Rattle.table.proofs.Parts.{Part, known, passed}
 use Rattle.product.specs.Inner.{factorCauses}
-use Rattle.product.proofs.Judged.{Carried, factors-fine, answered}
+use Rattle.product.proofs.Judged.{HasCarriedBytes, factors-fine, answered}
 use borrow.Author.Needs.{needs}
 use Rattle.product.proofs.answers.product.Statement.{statement}
 use Rattle.product.proofs.answers.product.Tie as tie
@@ -21,7 +21,7 @@ returns : tie.Need-returns
 returns c = let i = c .before .before in refusal _ _ _ (i .before .judge-factors .ensures) (known (factors i) (not-true _ (c .before .if1 .taken))) (c .refused .ensures)
 
 -- carried operands have their bytes
-bytes : (s : tie.Start) → Carried (s .args .x) × Carried (s .args .y)
+bytes : (s : tie.Start) → HasCarriedBytes (s .args .x) × HasCarriedBytes (s .args .y)
 bytes s =
     let x : (k : ℕ) → Fits w8 (getD (s .args .x) k 0) = λ k. search needs in
     let y : (k : ℕ) → Fits w8 (getD (s .args .y) k 0) = λ k. search needs in

@@ -19,26 +19,15 @@ returns-2 c =
     let s = c .before .before .before in
     let a = s .before .before .before .before .args in
     follows (wordCauses (a .width) (a .list .now) (a .wires)) (bitCauses (a .width) (a .list .now) (a .x) (a .y)) (s .before .before .judge-words .ensures) (s .before .is-none .ensures) (not-false _ (s .if1 .left))
-    (ends (highBit (a .width) (a .x) ∷ []) (highBit (a .width) (a .y) ∷ badGates (a .width) (a .list .now) ∷ []) (c .before .before .judge-high .ensures) (c .before .is-none2 .ensures) (not-true _ (c .if2 .taken)))
+    (ends (highBit (a .width) (a .x) ∷ highBit (a .width) (a .y) ∷ []) (badGates (a .width) (a .list .now) ∷ []) (c .before .before .judge-both-high .ensures) (c .before .is-none2 .ensures) (not-true _ (c .if2 .taken)))
 
 returns-3 : tie.Need-returns-3
 returns-3 c =
-    let u = c .before .before .before in
+    let u = c .before in
     let s = u .before .before .before in
     let a = s .before .before .before .before .args in
     follows (wordCauses (a .width) (a .list .now) (a .wires)) (bitCauses (a .width) (a .list .now) (a .x) (a .y)) (s .before .before .judge-words .ensures) (s .before .is-none .ensures) (not-false _ (s .if1 .left))
-    (follows (highBit (a .width) (a .x) ∷ []) (highBit (a .width) (a .y) ∷ badGates (a .width) (a .list .now) ∷ []) (u .before .before .judge-high .ensures) (u .before .is-none2 .ensures) (not-false _ (u .if2 .left))
-    (ends (highBit (a .width) (a .y) ∷ []) (badGates (a .width) (a .list .now) ∷ []) (c .before .before .judge-high2 .ensures) (c .before .is-none3 .ensures) (not-true _ (c .if3 .taken))))
-
-returns-4 : tie.Need-returns-4
-returns-4 c =
-    let v = c .before in
-    let u = v .before .before .before in
-    let s = u .before .before .before in
-    let a = s .before .before .before .before .args in
-    follows (wordCauses (a .width) (a .list .now) (a .wires)) (bitCauses (a .width) (a .list .now) (a .x) (a .y)) (s .before .before .judge-words .ensures) (s .before .is-none .ensures) (not-false _ (s .if1 .left))
-    (follows (highBit (a .width) (a .x) ∷ []) (highBit (a .width) (a .y) ∷ badGates (a .width) (a .list .now) ∷ []) (u .before .before .judge-high .ensures) (u .before .is-none2 .ensures) (not-false _ (u .if2 .left))
-    (follows (highBit (a .width) (a .y) ∷ []) (badGates (a .width) (a .list .now) ∷ []) (v .before .before .judge-high2 .ensures) (v .before .is-none3 .ensures) (not-false _ (v .if3 .left)) (c .judge-gates .ensures)))
+    (follows (highBit (a .width) (a .x) ∷ highBit (a .width) (a .y) ∷ []) (badGates (a .width) (a .list .now) ∷ []) (u .before .before .judge-both-high .ensures) (u .before .is-none2 .ensures) (not-false _ (u .if2 .left)) (c .judge-gates .ensures))
 
 pub judge-list-spec : {M : Type 1} → statement M
-judge-list-spec = tie.close (tie.spec (λ c κs. search needs) (λ c κs. search needs) returns (λ c κs. search needs) (λ c κs. search needs) returns-2 (λ c κs. search needs) (λ c κs. search needs) returns-3 (λ c κs. search needs) returns-4)
+judge-list-spec = tie.close (tie.spec (λ c κs. search needs) (λ c κs. search needs) returns (λ c κs. search needs) (λ c κs. search needs) returns-2 (λ c κs. search needs) returns-3)

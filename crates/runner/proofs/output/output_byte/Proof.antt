@@ -6,7 +6,7 @@ use Rattle.gf2.specs.Sums.{sum}
 use Rattle.gf2.specs.Coordinates.{value}
 use Rattle.gf2.specs.Operands.{below}
 use Rattle.runner.specs.Inner.{onOutput}
-use Rattle.runner.proofs.RunLaws.{byte-more}
+use Rattle.gf2.proofs.Coordinates.{byte-next}
 use borrow.Author.Needs.{needs}
 use Rattle.runner.proofs.output.output_byte.Statement.{statement}
 use Rattle.runner.proofs.output.output_byte.Tie as tie
@@ -25,14 +25,14 @@ add-byte : tie.Need-add-byte Inv-loop μ-loop
 add-byte c =
     let s = c .before .before .before .before .before .args in
     let w = c .before .before .loop in
-    let b = byte-more (λ j. below (s .width) (onOutput (s .wires .now) (s .list .now)) (s .b * 8 + j)) (w .j) (w .byte) (c .output-bit .result) (w .inv .1) (c .output-bit .ensures) (omega arith) in
+    let b = byte-next (λ j. below (s .width) (onOutput (s .wires .now) (s .list .now)) (s .b * 8 + j)) (w .j) (w .byte) (c .output-bit .result) (w .inv .1) (c .output-bit .ensures) (omega arith) in
     omega (arith, b .0, b .2)
 
 loop-again : tie.Need-loop-again Inv-loop μ-loop
 loop-again c =
     let s = c .before .before .before .before .before .args in
     let w = c .before .before .loop in
-    let b = byte-more (λ j. below (s .width) (onOutput (s .wires .now) (s .list .now)) (s .b * 8 + j)) (w .j) (w .byte) (c .output-bit .result) (w .inv .1) (c .output-bit .ensures) (omega arith) in
+    let b = byte-next (λ j. below (s .width) (onOutput (s .wires .now) (s .list .now)) (s .b * 8 + j)) (w .j) (w .byte) (c .output-bit .result) (w .inv .1) (c .output-bit .ensures) (omega arith) in
     (omega arith, ap (λ x. w .byte + x) (b .0) ∙ b .1)
 
 returns : tie.Need-returns Inv-loop μ-loop
