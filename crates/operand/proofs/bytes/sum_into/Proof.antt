@@ -35,7 +35,7 @@ returns-2 c =
     all-kept _ e (n .is-none2 .ensures) _ _ (not-true _ (c .if2 .taken))
 
 -- both operands are judged
-both : (c : tie.After-judge-high2) → let k = c .before .before .before .before in let a = k .before .before .before .before .before .before .before .before .args in
+both : (c : tie.After-judge-high2) → let k = c .before .before .before .before in let s = k .before .before in let a = s .before .before .before .before .before .before .args in
     c .judge-high2 .result ≡ faultOf (highBit (a .width) (k .before .carried .result) ∷ highBit (a .width) (k .carried2 .result) ∷ [])
 both c =
     let n = c .before .before in
