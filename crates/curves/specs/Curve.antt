@@ -11,9 +11,9 @@ use Rattle.operand.specs.Calls.{squareCall, sumCall}
 use Rattle.product.specs.Calls.{productCall}
 use Rattle.curves.specs.Published.{published}
 
--- zero, and no fault
-abbrev pub isZero : OperandAnswer → Bool
-isZero a = isNone (a .fault) && isClear 0 (a .value .bytes)
+-- a sum that is zero, and no fault
+abbrev pub sumsToZero : OperandAnswer → Bool
+sumsToZero a = isNone (a .fault) && isClear 0 (a .value .bytes)
 
 module _ (m : ℕ) (table : List ℕ) where
   -- y² + x·y
@@ -33,7 +33,7 @@ module _ (m : ℕ) (table : List ℕ) where
 
   -- the sum of the sides is zero, and no call on the way gave a fault: the operand beside a fault is refused by the next call
   unfoldable pub onCurve : Operand → Operand → Operand → Operand → Bool
-  onCurve a b x y = isZero (sumCall (leftSide x y .value) (rightSide a b x .value))
+  onCurve a b x y = sumsToZero (sumCall (leftSide x y .value) (rightSide a b x .value))
 
 -- m is no greater than the greatest width, and the point with the published digits x and y, `change` added to y, is on the curve with the coefficients a and b
 abbrev pub pointOnCurve : ℕ → List ℕ → List ℕ → List ℕ → List ℕ → List ℕ → List ℕ → Bool

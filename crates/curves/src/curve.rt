@@ -1,6 +1,6 @@
 // Whether a point lies on a curve y² + x·y = x³ + a·x² + b, by the calls on operands.
 ghost use mathlib.Core.Path.{_≡_};
-ghost use Rattle.curves.specs.Curve.{isZero, leftSide, rightSide, onCurve};
+ghost use Rattle.curves.specs.Curve.{sumsToZero, leftSide, rightSide, onCurve};
 use operand::Operand;
 use operand::OperandAnswer;
 
@@ -26,7 +26,7 @@ fn right_side(width: usize, table: &[u8], a: Operand, b: Operand, x: Operand) ->
 
 // Whether an answer is zero, and no fault.
 fn is_zero(answer: OperandAnswer) -> bool
-    ensures { λ r. ⌜ r ≡ isZero answer ⌝ }
+    ensures { λ r. ⌜ r ≡ sumsToZero answer ⌝ }
 {
     let fault = answer.fault;
     if judging::is_none(fault) {

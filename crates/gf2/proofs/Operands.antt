@@ -1,20 +1,21 @@
 -- Laws of operands as bytes, by their coordinates.
 -- Operands made from coordinates: their form, their coordinates, equality of two.
 -- The test of the bits at the width and above.
--- Indices modulo the width. Turns and sums: their form and their coordinates.
-use mathlib.Core.Path.{_≡_, sym, ap, _∙_}
+-- Indices modulo the width, and sums over them from another place on. Turns and sums: their form and their coordinates.
+use mathlib.Core.Path.{_≡_, sym, ap, ap₂, _∙_}
 use mathlib.Core.List.{List}
 use mathlib.Core.Bool.{Bool, true, false, _||_}
 use Prim.Native.Nat.{ℕ, _+_, _-_, _*_, _%_, _<_, _≤_}
-use native.Mathlib.Nat.{mod-eq-of-lt, add-mod-left, lt-of-le-of-lt}
+use native.Mathlib.Nat.{add-comm, mod-lt, mod-eq-of-lt, add-mod-left, lt-of-le-of-lt}
 use native.Mathlib.Decide.{decLt}
 use native.Mathlib.Omega.{arith}
 use lib.ListN.{length}
 use lib.Dec.{ltb, eqb}
 use borrow.Author.Tests.{lt-ltb, le-ltb, eqb-true}
+use Rattle.gf2.specs.Sums.{sum}
 use Rattle.gf2.specs.Coordinates.{coord, pack}
 use Rattle.gf2.specs.Operands.{minus, IsOperand, isClear, below, fromCoords, added, turned}
-use Rattle.gf2.proofs.Sums.{every-at, every-of}
+use Rattle.gf2.proofs.Sums.{sum-ext, sum-split, every-at, every-of}
 use Rattle.gf2.proofs.Coordinates.{coord-lt, coord-past, coord-pack, length-pack, pack-byte, pack-eq, pack-ext}
 
 pub below-in : (m : ℕ) (f : ℕ → ℕ) (i : ℕ) → i < m → below m f i ≡ f i
@@ -89,7 +90,11 @@ clear-of m a h = every-of (8 * length a) _ (λ i l. elim (decLt i m) [
   | no q ↦ rw (le-ltb i m (omega arith), h i (omega arith))
 ])
 
--- i - k modulo m, without the modulus
+-- i - k modulo m, and without the modulus
+pub minus-lt : (m i k : ℕ) → 0 < m → minus m i k < m
+unfolding minus
+minus-lt m i k h = mod-lt _ h
+
 pub minus-below : (m i k : ℕ) → k ≤ i → i < m → minus m i k ≡ i - k
 unfolding minus
 minus-below m i k h l =
@@ -99,6 +104,20 @@ minus-below m i k h l =
 pub minus-round : (m i k : ℕ) → i < k → k < m → minus m i k ≡ i + (m - k)
 unfolding minus
 minus-round m i k h l = rw (mod-eq-of-lt l) (mod-eq-of-lt (omega arith))
+
+-- terms taken in turn from another place on
+pub sum-shift : (m i : ℕ) (f : ℕ → ℕ) → i < m → sum m (λ j. f (minus m j i)) ≡ sum m f
+sum-shift m i f l =
+    ap (λ n. sum n (λ j. f (minus m j i))) there ∙ sum-split i (m - i) _
+    ∙ ap₂ _+_ (sum-ext i _ (λ j. f (m - i + j)) (λ j lj. ap f (minus-round m j i lj l ∙ omega arith)))
+    (sum-ext (m - i) _ f (λ k lk. ap f (minus-below m (i + k) i (omega arith) (omega arith) ∙ omega arith)))
+    ∙ add-comm (sum i (λ j. f (m - i + j))) (sum (m - i) f) ∙ sym (sum-split (m - i) i f) ∙ ap (λ n. sum n f) back
+  where
+    there : m ≡ i + (m - i)
+    there = omega arith
+
+    back : m - i + i ≡ m
+    back = omega arith
 
 -- turns and sums are operands, with these coordinates
 module _ {n m : ℕ} (a : List ℕ) (size : length a ≡ n) where

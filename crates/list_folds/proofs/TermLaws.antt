@@ -13,12 +13,11 @@ use borrow.Author.Tests.{lt-ltb, le-ltb}
 use Rattle.gf2.specs.Sums.{sum}
 use Rattle.gf2.specs.Operands.{maxWidth, minus}
 use Rattle.gf2.proofs.Sums.{sum-ext, sum-next, sum-zero}
-use Rattle.gf2.proofs.Operands.{minus-below, minus-round}
+use Rattle.gf2.proofs.Operands.{minus-lt, minus-below, minus-round}
 use Rattle.limbs.specs.Limbs.{carriedLimbs}
 use Rattle.netlist.specs.Gates.{wordLimit}
 use Rattle.netlist.specs.Lists.{each, only, pairs, before, andWire}
 use Rattle.gf2.proofs.Counts.{num}
-use Rattle.netlist.proofs.ListLaws.{minus-lt}
 use Rattle.netlist.proofs.TableLaws.{width-square}
 use Rattle.list_pairs.proofs.PutLaws.{each-most, only-most}
 use Rattle.list_folds.specs.declared.fold.Fold.{Fold}

@@ -12,13 +12,14 @@ use Rattle.gf2.proofs.Sums.{sum-zero}
 use Rattle.gf2.specs.Coordinates.{coord}
 use Rattle.gf2.specs.Operands.{maxWidth, choose, minus}
 use Rattle.gf2.specs.Tables.{IsTable, row}
+use Rattle.gf2.proofs.Operands.{minus-lt}
 use Rattle.table.specs.Rows.{Shaped}
 use Rattle.netlist.specs.Gates.{Gate, Netlist, wordLimit, gateWords, words}
 use Rattle.netlist.specs.Lists.{each, only, pairs, ands, mixes, fold, end, start, folds, ends, folded, andWire, mixWire, has, isShared, allOnes, plainTerms, plain, reducedTerms, reduced, sharedTerms, sharedWire, otherTerms, sharing}
 use Rattle.netlist.specs.Statements.{Sized}
 use Rattle.netlist.proofs.FoldLaws.{length-fold}
 use Rattle.netlist.proofs.NetlistLaws.{length-ands, length-outputs}
-use Rattle.netlist.proofs.ListLaws.{minus-lt, ones-at, pair-coord, shared-row}
+use Rattle.netlist.proofs.ListLaws.{ones-at, pair-coord, shared-row}
 use Rattle.netlist.proofs.TableLaws.{width-square}
 use Rattle.netlist.proofs.StoreLaws.{sets-append, sets-whole}
 use Rattle.netlist.proofs.WordLaws.{length-words}

@@ -5,7 +5,7 @@ use mathlib.Core.Path.{_≡_, refl, sym, ap, ap₂, _∙_}
 use mathlib.Core.Bool.{Bool, true, false, not, _&&_}
 use mathlib.Core.List.{List, [], _∷_, _++_}
 use Prim.Native.Nat.{ℕ, zero, suc, _+_, _-_, _*_, _/_, _%_, _<_, _≤_}
-use native.Mathlib.Nat.{mod-lt, mul-comm, add-comm, mul-one, mul-pos, mul-sub, mul-add, add-mul}
+use native.Mathlib.Nat.{mul-comm, mul-one, mul-pos, mul-sub, mul-add, add-mul}
 use native.Mathlib.Decide.{decLt}
 use native.Mathlib.Omega.{arith}
 use lib.ListN.{length, getD, length-append}
@@ -18,10 +18,10 @@ use Rattle.gf2.specs.Tables.{IsTable, row, pairProduct, onesIn}
 use Rattle.gf2.specs.Products.{product, reduced as reducedProduct}
 use Rattle.gf2.specs.Check.{Symmetric}
 use Rattle.gf2.specs.Statements.{CountsPairs, pairsWith, pairsBelow}
-use Rattle.gf2.proofs.Sums.{sum-ext, sum-plus, sum-split, sum-next, sum-cong, every-at, every-of}
+use Rattle.gf2.proofs.Sums.{sum-ext, sum-plus, sum-next, sum-cong, every-at, every-of}
 use Rattle.gf2.proofs.Parity.{bool-ext, and-both}
 use Rattle.gf2.proofs.Coordinates.{coord-lt}
-use Rattle.gf2.proofs.Operands.{coord-from, coord-turned, minus-below, minus-round}
+use Rattle.gf2.proofs.Operands.{coord-from, coord-turned, minus-lt, minus-below, minus-round, sum-shift}
 use Rattle.gf2.proofs.OperandVectors.{bytes-fit}
 use Rattle.gf2.proofs.Theorems.{theoremD, theoremE}
 use Rattle.netlist.specs.Gates.{Gate, XOR, Netlist, andGates, xorGates}
@@ -43,23 +43,6 @@ pub record Gates (list : Netlist) (a x : ℕ) : Type 0 where
   pub ands : andGates (list .gates) ≡ a
   pub xors : xorGates (list .gates) ≡ x
   pub all : length (list .gates) ≡ a + x
-
-pub minus-lt : (m i k : ℕ) → 0 < m → minus m i k < m
-unfolding minus
-minus-lt m i k p = mod-lt _ p
-
-sum-shift : (m i : ℕ) (f : ℕ → ℕ) → i < m → sum m (λ j. f (minus m j i)) ≡ sum m f
-sum-shift m i f l =
-    ap (λ n. sum n (λ j. f (minus m j i))) there ∙ sum-split i (m - i) _
-    ∙ ap₂ _+_ (sum-ext i _ (λ j. f (m - i + j)) (λ j lj. ap f (minus-round m j i lj l ∙ omega arith)))
-    (sum-ext (m - i) _ f (λ k lk. ap f (minus-below m (i + k) i (omega arith) (omega arith) ∙ omega arith)))
-    ∙ add-comm (sum i (λ j. f (m - i + j))) (sum (m - i) f) ∙ sym (sum-split (m - i) i f) ∙ ap (λ n. sum n f) back
-  where
-    there : m ≡ i + (m - i)
-    there = omega arith
-
-    back : m - i + i ≡ m
-    back = omega arith
 
 -- the coordinate to which s is turned
 turned-place : (m i s : ℕ) → i < m → s < m → (r : ℕ) × (r < m) × (minus m r i ≡ s)

@@ -4,7 +4,6 @@ use mathlib.Core.Path.{_≡_, refl, sym, subst, ap, fun-ext, _∙_}
 use mathlib.Core.Bool.{Bool, true, false}
 use mathlib.Core.List.{List}
 use Prim.Native.Nat.{ℕ, zero, suc, _+_, _-_, _*_, _%_, _<_, _≤_}
-use native.Mathlib.Nat.{mod-lt}
 use native.Mathlib.Omega.{arith}
 use Rattle.gf2.specs.Coordinates.{coord}
 use Rattle.gf2.specs.Operands.{minus, IsOperand, zeroes, added, turned, squared}
@@ -14,7 +13,7 @@ use Rattle.gf2.proofs.Parity.{odd, bits, _⊕_, xor-self, xor-cancel, xor-comm,
 use Rattle.gf2.proofs.Index.{at, _⊖_, o, num-at, add-sub, at-add}
 use Rattle.gf2.proofs.IndexSums.{Σ, Σ-plus, Σ-shift, odd-Σ}
 use Rattle.gf2.proofs.Vector.{Vec, turn, add, zeros, add-comm, add-assoc, add-zeros, add-self, turn-turn, turn-z, turn-suc, turn-all, turn-add, fixed}
-use Rattle.gf2.proofs.Operands.{coord-from, from-operand, operand-ext, minus-below, minus-round, turned-operand, added-operand, coord-turned, coord-added}
+use Rattle.gf2.proofs.Operands.{coord-from, from-operand, operand-ext, minus-lt, minus-below, minus-round, turned-operand, added-operand, coord-turned, coord-added}
 use Rattle.gf2.proofs.OperandVectors.{vec, bytes, operand-vec, vec-bytes, zeroes-vec, added-bytes, turned-bytes, bytes-inj}
 use Rattle.quadratic.proofs.QuadraticLimbs.{root-sum}
 use Rattle.operand.specs.Statements.{times, TurnLaws, SumLaws, quadratic, QuadraticLaws, OperandLaws}
@@ -94,11 +93,8 @@ module _ (n p : ℕ) (fits : suc p ≤ 8 * n) where
   unfolding squared minus
   solves two c oc e = operand-ext (added-operand _ (turned-operand _ (root-operand c oc .size) 1 .size) _) oc (λ i l.
       coord-quadratic _ (root-operand c oc) i l
-      ∙ parts _ _ (coord-root c oc (minus (suc p) i 1) (minus-lt i)) (coord-root c oc i l) ∙ steps two c e i l)
+      ∙ parts _ _ (coord-root c oc (minus (suc p) i 1) (minus-lt (suc p) i 1 (omega arith))) (coord-root c oc i l) ∙ steps two c e i l)
     where
-      minus-lt : (i : ℕ) → minus (suc p) i 1 < suc p
-      minus-lt i = mod-lt _ (omega arith)
-
       parts : {x y : ℕ} (r t : ℕ) → x ≡ r % 2 → y ≡ t % 2 → (x + y) % 2 ≡ (r + t) % 2
       parts r t q s = omega arith
 

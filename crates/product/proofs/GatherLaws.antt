@@ -3,7 +3,7 @@
 use mathlib.Core.Path.{_≡_, sym, ap, ap₂, _∙_}
 use mathlib.Core.List.{List}
 use Prim.Native.Nat.{ℕ, _+_, _-_, _*_, _%_, _<_, _≤_}
-use native.Mathlib.Nat.{add-zero, zero-add, mod-lt, mod-mod}
+use native.Mathlib.Nat.{add-zero, zero-add, mod-mod}
 use native.Mathlib.Decide.{decLt}
 use native.Mathlib.Omega.{arith}
 use lib.ListN.{length}
@@ -11,7 +11,7 @@ use Rattle.gf2.specs.Sums.{sum}
 use Rattle.gf2.specs.Coordinates.{coord}
 use Rattle.gf2.specs.Operands.{carriedBytes, minus, choose, below}
 use Rattle.gf2.proofs.Sums.{sum-ext, sum-plus, sum-none, sum-split, sum-swap, sum-mod}
-use Rattle.gf2.proofs.Operands.{minus-below, minus-round, below-in, below-out, from-ext}
+use Rattle.gf2.proofs.Operands.{minus-lt, minus-below, minus-round, below-in, below-out, from-ext}
 use Rattle.operand.specs.declared.Operand.{Operand}
 use Rattle.operand.specs.declared.OperandAnswer.{OperandAnswer}
 use Rattle.limbs.specs.Limbs.{carriedLimbs, limbCoord, packLimbs}
@@ -89,8 +89,5 @@ gathered-made {m} {g} width there within {all} {l} {h} ea el eo eh er e =
 pub gathered-rows : (m n : ℕ) (line : ℕ → List ℕ) (e : ℕ → ℕ → ℕ) (g : List ℕ) → ((s i : ℕ) → i < m → cell g s i ≡ sum n (λ d. coord (line d) s * e d i) % 2)
     → (i : ℕ) → i < m → sum m (λ s. cell g s (minus m i s)) % 2 ≡ sum n (λ d. sum m (λ s. coord (line d) s * e d (minus m i s))) % 2
 gathered-rows m n line e g h i l =
-    ap (λ y. y % 2) (sum-ext m _ (λ s. sum n (λ d. coord (line d) s * e d (minus m i s)) % 2) (λ s k. h s (minus m i s) (minus-lt i s)))
+    ap (λ y. y % 2) (sum-ext m _ (λ s. sum n (λ d. coord (line d) s * e d (minus m i s)) % 2) (λ s k. h s (minus m i s) (minus-lt m i s (omega arith))))
     ∙ sum-mod m (λ s. sum n (λ d. coord (line d) s * e d (minus m i s))) ∙ ap (λ y. y % 2) (sum-swap m n (λ s d. coord (line d) s * e d (minus m i s)))
-  where
-    minus-lt : (i k : ℕ) → minus m i k < m
-    minus-lt i k = unfold minus in mod-lt _ (omega arith)

@@ -1,12 +1,12 @@
 -- Operands without fault: what the calls answer for them.
 use mathlib.Core.Path.{_≡_, refl, sym, ap, ap₂, _∙_}
 use Prim.Native.Nat.{ℕ, _+_, _*_, _%_, _<_, _≤_}
-use native.Mathlib.Nat.{mod-lt, mod-mod, mod-eq-of-lt}
+use native.Mathlib.Nat.{mod-mod, mod-eq-of-lt}
 use native.Mathlib.Omega.{arith}
 use Rattle.gf2.specs.Coordinates.{coord}
 use Rattle.gf2.specs.Operands.{carriedBytes, maxWidth, minus, fromCoords, added, turned, squared}
 use Rattle.gf2.proofs.Coordinates.{coord-lt}
-use Rattle.gf2.proofs.Operands.{from-operand, from-eq, from-ext, coord-from, length-from}
+use Rattle.gf2.proofs.Operands.{minus-lt, from-operand, from-eq, from-ext, coord-from, length-from}
 use Rattle.operand.specs.declared.Operand.{Operand}
 use Rattle.operand.specs.declared.OperandAnswer.{OperandAnswer}
 use Rattle.operand.specs.Calls.{turnCall, squareCall, sumCall}
@@ -62,7 +62,4 @@ module _ {m : ℕ} (least : 2 ≤ m) (greatest : m ≤ maxWidth) where
   square-made f p e =
       ap valueOf (e ∙ ap squareCall p ∙ square-done width-of (from-operand carriedBytes m f))
       ∙ ap (operandOf m) (ap (λ n. fromCoords n m (λ i. coord (fromCoords carriedBytes m f) (minus m i 1))) (length-from carriedBytes m f)
-      ∙ from-ext carriedBytes m _ _ (λ i l. ap (λ y. y % 2) (coord-from carriedBytes m f (fits m greatest) (minus m i 1) (minus-lt i)) ∙ mod-mod _ 2))
-    where
-      minus-lt : (i : ℕ) → minus m i 1 < m
-      minus-lt i = unfold minus in mod-lt _ (omega arith)
+      ∙ from-ext carriedBytes m _ _ (λ i l. ap (λ y. y % 2) (coord-from carriedBytes m f (fits m greatest) (minus m i 1) (minus-lt m i 1 (omega arith))) ∙ mod-mod _ 2))

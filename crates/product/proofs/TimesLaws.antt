@@ -2,12 +2,12 @@
 use mathlib.Core.Path.{_≡_, refl, sym, ap, ap₂, _∙_}
 use mathlib.Core.List.{List}
 use Prim.Native.Nat.{ℕ, _+_, _-_, _*_, _%_, _<_, _≤_}
-use native.Mathlib.Nat.{add-zero, mod-lt}
+use native.Mathlib.Nat.{add-zero}
 use native.Mathlib.Omega.{arith}
 use lib.ListN.{replicate}
 use Rattle.gf2.specs.Coordinates.{coord}
 use Rattle.gf2.specs.Operands.{carriedBytes, minus}
-use Rattle.gf2.proofs.Operands.{from-ext, coord-from}
+use Rattle.gf2.proofs.Operands.{minus-lt, from-ext, coord-from}
 use Rattle.operand.specs.declared.Operand.{Operand}
 use Rattle.operand.specs.declared.OperandAnswer.{OperandAnswer}
 use Rattle.operand.specs.Calls.{squareCall, sumCall}
@@ -47,13 +47,10 @@ module _ {m : ℕ} {rows : Operand} (s : Sound m rows) (x y : List ℕ) where
       → sum .value ≡ made m (λ i. coord (rows .bytes) i + diagonalAt Reduced m x y i)
   plus-products {e} p q r t =
       sum-made (s .least) (s .greatest) (coord (rows .bytes)) (λ i. limbCoord e (minus m i 1)) (is-made s) (square-made (s .least) (s .greatest) (limbCoord e) q r) t
-      ∙ ap (operandOf m) (from-ext carriedBytes m _ _ (λ i l. ap (λ z. (coord (rows .bytes) i + z) % 2) (at (minus m i 1) (minus-lt i)) ∙ inner _ _))
+      ∙ ap (operandOf m) (from-ext carriedBytes m _ _ (λ i l. ap (λ z. (coord (rows .bytes) i + z) % 2) (at (minus m i 1) (minus-lt m i 1 (omega (arith, s .least)))) ∙ inner _ _))
     where
       at : (j : ℕ) → j < m → limbCoord e j ≡ limbCoord x j * limbCoord y j % 2
       at j l = let big = s .greatest in ap (λ z. limbCoord z j) p ∙ limb-pack carriedLimbs _ j (omega arith)
-
-      minus-lt : (i : ℕ) → minus m i 1 < m
-      minus-lt i = let two = s .least in unfold minus in mod-lt _ (omega arith)
 
       inner : (c d : ℕ) → (c + d % 2) % 2 ≡ (c + d) % 2
       inner c d = omega arith

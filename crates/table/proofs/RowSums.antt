@@ -5,7 +5,7 @@ use mathlib.Core.Path.{_≡_, refl, sym, ap, _∙_}
 use mathlib.Core.Bool.{_&&_}
 use mathlib.Core.List.{List, [], _∷_}
 use Prim.Native.Nat.{ℕ, zero, suc, _+_, _-_, _*_, _%_, _<_, _≤_}
-use native.Mathlib.Nat.{mod-lt, mod-eq-of-lt}
+use native.Mathlib.Nat.{mod-eq-of-lt}
 use native.Mathlib.Numerals.{add-one}
 use native.Mathlib.Omega.{arith}
 use Rattle.gf2.specs.Sums.{sum}
@@ -13,7 +13,7 @@ use Rattle.gf2.specs.Coordinates.{coord}
 use Rattle.gf2.specs.Operands.{bytesFor, carriedBytes, minus, IsOperand, fromCoords, zeroes, added, turned, carriedBy}
 use Rattle.gf2.specs.Tables.{row}
 use Rattle.gf2.specs.Check.{Symmetric, rowSum}
-use Rattle.gf2.proofs.Operands.{coord-from, from-operand, from-ext, length-from}
+use Rattle.gf2.proofs.Operands.{minus-lt, coord-from, from-operand, from-ext, length-from}
 use Rattle.gf2.proofs.Parity.{bits, odd-mul}
 use Rattle.gf2.proofs.Index.{Ix, at, o, _⊖_, at-minus, z-add, sub-add}
 use Rattle.gf2.proofs.IndexSums.{Σ-ext, odd-Σ}
@@ -31,10 +31,6 @@ use Rattle.gf2.proofs.Carrying.{coord-carried, carried-from}
 use Rattle.table.specs.Rows.{Shaped}
 use Rattle.table.specs.Inner.{carriedRow, rowsAt, leftProduct, rightProduct}
 use Rattle.table.proofs.Shapes.{sized, row-short}
-
-pub minus-lt : (m j i : ℕ) → 0 < m → minus m j i < m
-unfolding minus
-minus-lt m j i h = mod-lt _ h
 
 pub minus-at : (m k j : ℕ) → j < m → (k + (m - j)) % m ≡ minus m k j
 unfolding minus
