@@ -2,7 +2,7 @@
 -- Passed: the table, factors by a method, operands of its width. Zero: no bit at 0 or above.
 -- Bytes: causes judged on the carried bytes are those of the W bytes. Answers: without a fault.
 use mathlib.Core.Path.{_≡_, refl, sym, ap, ap₂, _∙_}
-use mathlib.Core.Bool.{true, false}
+use mathlib.Core.Bool.{Bool, true, false}
 use mathlib.Core.List.{List, [], _∷_, _++_}
 use Prim.Native.Nat.{ℕ, _≤_}
 use native.Mathlib.Omega.{arith}
@@ -26,7 +26,7 @@ use Rattle.limbs.proofs.ByteLists.{Bytes}
 use Rattle.operand.specs.declared.Operand.{Operand}
 use Rattle.operand.specs.declared.OperandAnswer.{OperandAnswer}
 use Rattle.operand.specs.Calls.{noOperand, answer}
-use Rattle.operand.proofs.CallLaws.{zero-bytes, high-same, Sized, SizedPair}
+use Rattle.operand.proofs.CallLaws.{zero-bytes, high-same, kept, filled, Sized, SizedPair}
 use Rattle.table.specs.Rows.{Shaped}
 use Rattle.table.proofs.Shapes.{shape-rows, shape-none, row-bytes}
 use Rattle.table.proofs.Theorems.{rules}
@@ -167,6 +167,25 @@ count-refused m t a old e n = rw (n, e)
 answer-bytes : (f : Fault) (m : ℕ) {x : List ℕ} {r : OperandAnswer} → r ≡ answer f m x → isNone f ≡ true → r .value .bytes ≡ x
 unfolding answer
 answer-bytes f m e n = rw n at (ap (λ (r : OperandAnswer). r .value .bytes) e)
+
+-- what is written of an answer: its length, and by the fault of all causes
+module _ (f : Fault) (y old : List ℕ) {new : List ℕ} (q : new ≡ choose (isNone f) y old) where
+  put-by : (b : Bool) → isNone f ≡ b → new ≡ choose b y old
+  put-by b e = q ∙ ap (λ b. choose b y old) e
+
+  pub put-length : length y ≡ length old → length new ≡ length old
+  put-length l = go (isNone f) refl
+    where
+      go : (b : Bool) → isNone f ≡ b → length new ≡ length old
+      go true e = ap length (put-by true e) ∙ l
+      go false e = ap length (put-by false e)
+
+  pub put-out : {g : Fault} (z : List ℕ) → f ≡ g → (isNone f ≡ true → y ≡ z) → new ≡ choose (isNone g) z old
+  put-out {g} z same h = go (isNone f) refl
+    where
+      go : (b : Bool) → isNone f ≡ b → new ≡ choose (isNone g) z old
+      go true e = filled g z old (sym (ap isNone same) ∙ e) (put-by true e ∙ h e)
+      go false e = put-by false e ∙ kept g z old (sym (ap isNone same) ∙ e)
 
 -- what is answered for the carried bytes is the answer for the W bytes: a product
 module _ {m : ℕ} {a b old : List ℕ} (z : SizedPair m a b old) (t : List ℕ) (k : Method) {r : OperandAnswer} (e : r ≡ productAnswer k m t (carriedBy a) (carriedBy b)) where

@@ -1,7 +1,7 @@
 // The calls where the widths or the lengths have passed: what is left is judged, and the answer made where it has no fault.
 ghost use mathlib.Core.Path.{_≡_};
 ghost use Rattle.operand.specs.Calls.{noOperand};
-ghost use Rattle.product.specs.Inner.{IsWidth, productAnswer, inverseAnswer};
+ghost use Rattle.product.specs.Inner.{operandOf, IsWidth, Sound, Serves, multiplied, productAnswer, inverseAnswer};
 use crate::InverseAnswer;
 use crate::chain;
 use crate::judge;
@@ -11,6 +11,29 @@ use judging::is_none;
 use operand::Operand;
 use operand::OperandAnswer;
 use scatter::Method;
+
+// The product of factors that have passed.
+fn product_of(
+    method: Method,
+    width: usize,
+    table: &[u8],
+    x: [u8; Operand::BYTES],
+    y: [u8; Operand::BYTES],
+) -> Operand
+    requires { ⌜ Serves method width (now table) × Sound width (operandOf width x) × Sound width (operandOf width y) ⌝ }
+    ensures { λ r. ⌜ r ≡ operandOf width (multiplied method width (now (table .entry)) x y) ⌝ }
+{
+    let mut g = [0u64; scatter::ROOM];
+    let left = Operand {
+        bytes: x,
+        width: width as u16,
+    };
+    let right = Operand {
+        bytes: y,
+        width: width as u16,
+    };
+    times::times(method, width, table, left, right, &mut g)
+}
 
 // The product by a method.
 pub(crate) fn product(
@@ -27,18 +50,9 @@ pub(crate) fn product(
     if !is_none(fault) {
         return operand::refused(fault);
     }
-    let mut g = [0u64; scatter::ROOM];
-    let left = Operand {
-        bytes: x,
-        width: width as u16,
-    };
-    let right = Operand {
-        bytes: y,
-        width: width as u16,
-    };
     OperandAnswer {
         fault: Fault::None,
-        value: times::times(method, width, table, left, right, &mut g),
+        value: product_of(method, width, table, x, y),
     }
 }
 

@@ -1,5 +1,9 @@
 // The calls on W bytes: lengths are judged, then the table and the bits of the carried bytes; the result is written where there is no fault.
 ghost use mathlib.Core.Path.{_≡_};
+ghost use lib.ListN.{length};
+ghost use Rattle.gf2.specs.Coordinates.{coord, pack};
+ghost use Rattle.gf2.specs.Operands.{choose};
+ghost use Rattle.judging.specs.Faults.{isNone};
 ghost use Rattle.judging.specs.Causes.{faultOf};
 ghost use Rattle.product.specs.Causes.{productBytesCauses, reducedBytesCauses};
 ghost use Rattle.product.specs.Calls.{productInto, reducedInto, inverseInto, inverseCount};
@@ -7,12 +11,23 @@ ghost use Rattle.product.specs.Inner.{methodBytesCauses, multiplyInto};
 use crate::answers;
 use judging::Fault;
 use judging::is_none;
+use operand::Operand;
 use scatter::Method;
 
 // A fault, or none and the number of products that an inverse took.
 pub struct CountAnswer {
     pub fault: Fault,
     pub count: usize,
+}
+
+// The bytes of an answer, where it has no fault.
+fn put_value(fault: Fault, value: Operand, result: &mut [u8])
+    ensures { λ _. ⌜ now (result .exit) ≡ choose (isNone fault) (pack (length (now (result .entry))) (coord (value .bytes))) (now (result .entry)) ⌝ }
+{
+    if is_none(fault) {
+        let z = value.bytes;
+        limbs::copy_out(z, result);
+    }
 }
 
 // A product by a method, judged first.
@@ -35,11 +50,7 @@ fn multiply_into(
     let y = limbs::carried(b);
     let answer = answers::product(method, width, table, x, y);
     let fault = answer.fault;
-    if is_none(fault) {
-        let value = answer.value;
-        let z = value.bytes;
-        limbs::copy_out(z, result);
-    }
+    put_value(fault, answer.value, result);
     fault
 }
 
@@ -73,14 +84,10 @@ pub fn inverse_into(width: usize, table: &[u8], a: &[u8], result: &mut [u8]) -> 
     }
     let x = limbs::carried(a);
     let inverse = answers::inverse(width, table, x);
-    let found = inverse.fault;
-    if is_none(found) {
-        let value = inverse.value;
-        let z = value.bytes;
-        limbs::copy_out(z, result);
-    }
+    let fault = inverse.fault;
+    put_value(fault, inverse.value, result);
     CountAnswer {
-        fault: found,
+        fault,
         count: inverse.count,
     }
 }

@@ -2,7 +2,7 @@
 // and the state after each step holds a to the power 2^k - 1.
 ghost use mathlib.Core.Path.{_≡_};
 ghost use Prim.Native.Nat.{_+_, _-_, _*_, _/_, _%_, _^_};
-ghost use Rattle.gf2.specs.Inverse.{digits};
+ghost use Rattle.gf2.specs.Inverse.{digits, chain};
 ghost use Rattle.table.specs.Rows.{Shaped};
 ghost use Rattle.scatter.specs.Cells.{HasSlots};
 ghost use Rattle.product.specs.Inner.{Sound, Ready, chainOf, stateOf, stepped, addedFrom, Underway, invertedBy};
@@ -80,10 +80,10 @@ fn add(
     double(width, table, a, next, unread, g)
 }
 
-// The chain's power turned by one, with the number of products made. One scratch serves all its products.
-pub(crate) fn inverted(width: usize, table: &[u8], a: Operand) -> InverseAnswer
+// The last state of the chain. One scratch serves all its products.
+fn last(width: usize, table: &[u8], a: Operand) -> State
     requires { ⌜ Shaped width (now table) × Sound width a ⌝ }
-    ensures { λ r. ⌜ r ≡ invertedBy width (now (table .entry)) (a .bytes) ⌝ }
+    ensures { λ r. ⌜ r ≡ stateOf width (chain width (now (table .entry)) (a .bytes)) ⌝ }
 {
     let first = State {
         t: a,
@@ -92,7 +92,15 @@ pub(crate) fn inverted(width: usize, table: &[u8], a: Operand) -> InverseAnswer
     };
     let unread = ones::highest_one(width - 1);
     let mut g = [0u64; scatter::ROOM];
-    let end = double(width, table, a, first, unread, &mut g);
+    double(width, table, a, first, unread, &mut g)
+}
+
+// The chain's power turned by one, with the number of products made.
+pub(crate) fn inverted(width: usize, table: &[u8], a: Operand) -> InverseAnswer
+    requires { ⌜ Shaped width (now table) × Sound width a ⌝ }
+    ensures { λ r. ⌜ r ≡ invertedBy width (now (table .entry)) (a .bytes) ⌝ }
+{
+    let end = last(width, table, a);
     let t = end.t;
     let turned = t.turn(1);
     let value = turned.value;

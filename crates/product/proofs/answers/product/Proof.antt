@@ -1,5 +1,4 @@
 -- `product::answers::product` meets its contract.
-use mathlib.Core.Path.{refl}
 use mathlib.Core.List.{[]}
 use Prim.Native.Nat.{ℕ}
 use lib.ListN.{getD}
@@ -27,17 +26,15 @@ bytes s =
     let y : (k : ℕ) → Fits w8 (getD (s .args .y) k 0) = λ k. search needs in
     ((search needs, λ k. x k .fits), (search needs, λ k. y k .fits))
 
-times-requires : tie.Need-times-requires
-times-requires c κs =
-    let i = c .before .before in
+product-of-requires : tie.Need-product-of-requires
+product-of-requires c κs =
+    let i = c .before in
     let k = i .before .before in
     let h = bytes (k .before) in
-    let f = factors-fine (k .before .pre) _ (k .before .args .method) _ _ (λ j. k .shared-slice-known .given j .fits) (h .0) (h .1) (passed (factors i) (c .before .if1 .left)) in
-    (f .0, f .1, f .2, refl)
+    factors-fine (k .before .pre) _ (k .before .args .method) _ _ (λ j. k .shared-slice-known .given j .fits) (h .0) (h .1) (passed (factors i) (c .if1 .left))
 
 returns-2 : tie.Need-returns-2
-returns-2 c = let i = c .before .before .before in answered _ (passed (factors (i .before)) (i .if1 .left)) (c .before .times .ensures)
+returns-2 c = let i = c .before in answered _ (passed (factors (i .before)) (i .if1 .left)) (c .product-of .ensures)
 
 pub product-spec : {M : Type 1} → statement M
-product-spec = tie.close (tie.spec (λ c κs. search needs) (λ c κs. search needs) (λ c κs. search needs) returns (λ c. search needs) (λ c. search needs)
-    (λ c. search needs) times-requires returns-2)
+product-spec = tie.close (tie.spec (λ c κs. search needs) (λ c κs. search needs) (λ c κs. search needs) returns product-of-requires returns-2)

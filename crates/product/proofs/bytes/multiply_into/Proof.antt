@@ -1,11 +1,12 @@
 -- `product::bytes::multiply_into` meets its contract.
-use mathlib.Core.Path.{_≡_, sym, ap₂, _∙_}
-use mathlib.Core.List.{[]}
+use mathlib.Core.Path.{_≡_, refl, ap₂, _∙_}
 use Rattle.gf2.specs.Operands.{carriedBy}
-use Rattle.operand.proofs.CallLaws.{kept, filled, SizedPair, sized-pair}
-use Rattle.table.proofs.Parts.{Part, known, stopped, stopped-some, passed, further-fault}
+use Rattle.gf2.proofs.Coordinates.{length-pack}
+use Rattle.judging.specs.Causes.{faultOf}
+use Rattle.operand.proofs.CallLaws.{kept, SizedPair, sized-pair}
+use Rattle.table.proofs.Parts.{Part, stopped, stopped-some, passed, further-fault}
 use Rattle.product.specs.Inner.{factorCauses, methodBytesCauses, multiplied, productAnswer}
-use Rattle.product.proofs.Judged.{pairSizes, product-fault, product-written}
+use Rattle.product.proofs.Judged.{pairSizes, put-length, put-out, product-fault, product-written}
 use borrow.Author.Needs.{needs}
 use Rattle.product.proofs.bytes.multiply_into.Statement.{statement}
 use Rattle.product.proofs.bytes.multiply_into.Tie as tie
@@ -30,29 +31,25 @@ answer c =
     let early = t .before .before .before .before .before .before in let a = early .before .args in
     c .product .ensures ∙ ap₂ (productAnswer (a .method) (a .width) (a .table .now)) (c .before .before .carried .ensures) (c .before .carried2 .ensures)
 
-whole : (c : tie.After-is-none2) → let early = c .before .before .before .before .before .before in let a = early .before .before .before .before .before .args in
-    Part (methodBytesCauses (a .method) (a .width) (a .table .now) (a .a .now) (a .b .now) (a .result .now)) [] (c .before .product .result .fault) (c .is-none2 .result)
+whole : (c : tie.After-product) → let early = c .before .before .before .before .before .before in let a = early .before .before .before .before .args in
+    c .product .result .fault ≡ faultOf (methodBytesCauses (a .method) (a .width) (a .table .now) (a .a .now) (a .b .now) (a .result .now))
 whole c =
-    let t = c .before .before .before .before in
+    let t = c .before .before .before in
     let early = t .before .before .before .before .before .before in let a = early .before .args in
-    record { given = further-fault (lengths (t .before)) (t .if1 .left) (product-fault (sizes t) (a .table .now) (a .method) (answer (c .before))); tested = c .is-none2 .ensures }
+    further-fault (lengths (t .before)) (t .if1 .left) (product-fault (sizes t) (a .table .now) (a .method) (answer c))
 
 returns-2 : tie.Need-returns-2
 returns-2 c =
     let u = c .before .before in
-    let i = u .before .before .before .before in
-    let n = i .before in
-    let t = n .before .before .before .before in
+    let n = u .before .before in
+    let t = n .before .before .before in
     let early = t .before .before .before .before .before .before in let a = early .before .args in (
-      whole n .given,
-      filled _ (multiplied (a .method) (a .width) (a .table .now) (a .a .now) (a .b .now)) _ (known (whole n) (i .if2 .taken))
-          (product-written (sizes t) (a .table .now) (a .method) (answer (n .before)) (sym (n .is-none2 .ensures) ∙ i .if2 .taken) (u .copy-out .ensures)),
+      whole n,
+      put-out _ _ _ (u .put-value .ensures) (multiplied (a .method) (a .width) (a .table .now) (a .a .now) (a .b .now)) (whole n)
+          (λ e. product-written (sizes t) (a .table .now) (a .method) (answer n) e refl),
     )
-
-returns-3 : tie.Need-returns-3
-returns-3 c = let p = whole (c .before) in (p .given, kept _ _ _ (known p (c .if2 .left)))
 
 pub multiply-into-spec : {M : Type 1} → statement M
 multiply-into-spec = tie.close (tie.spec (λ c κs. search needs) (λ c κs. search needs) returns (λ c κs. search needs) (λ c κs. search needs)
-    (λ c κs. let w = sizes (c .before .before) .width in (w .least, w .greatest)) (λ c κs. search needs) (λ c κs. search needs) (λ c. search needs) returns-2
-    returns-3)
+    (λ c κs. let w = sizes (c .before .before) .width in (w .least, w .greatest)) (λ c κs. search needs)
+    (λ c. put-length _ _ _ (c .before .before .put-value .ensures) (length-pack _ _)) returns-2)
