@@ -4,11 +4,12 @@
 use std::path::{Path, PathBuf};
 use std::{env, fs};
 
-const CRATES: [&str; 17] = [
+const CRATES: [&str; 18] = [
     "limbs",
     "ones",
     "quadratic",
     "judging",
+    "turns",
     "operand",
     "table",
     "scatter",

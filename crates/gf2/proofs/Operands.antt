@@ -56,6 +56,14 @@ from-eq n m f {a} o e = pack-eq n (below m f) a (o .size) (o .byte) (λ i h. eli
   | no l ↦ o .clear i (omega arith) ∙ ap (λ x. x % 2) (sym (below-out m f i (omega arith)))
 ])
 
+-- bytes whose coordinates from m on are 0 are those of the operand
+pub clear-pack : (n m : ℕ) (f : ℕ → ℕ) → ((i : ℕ) → m ≤ i → f i ≡ 0) → pack n f ≡ fromCoords n m f
+unfolding fromCoords
+clear-pack n m f h = pack-ext n f (below m f) (λ i l. ap (λ x. x % 2) (elim (decLt i m) [
+  | yes q ↦ sym (below-in m f i q)
+  | no q ↦ h i (omega arith) ∙ sym (below-out m f i (omega arith))
+]))
+
 pub from-ext : (n m : ℕ) (f g : ℕ → ℕ) → ((i : ℕ) → i < m → f i % 2 ≡ g i % 2) → fromCoords n m f ≡ fromCoords n m g
 unfolding fromCoords
 from-ext n m f g e = pack-ext n (below m f) (below m g) (λ i h. elim (decLt i m) [

@@ -5,7 +5,6 @@ use mathlib.Core.List.{List, [], _∷_}
 use Prim.Native.Nat.{ℕ, suc, _-_, _*_, _/_, _%_, _^_, _<_, _≤_}
 use native.Mathlib.Omega.{arith}
 use lib.ListN.{length}
-use Rattle.gf2.specs.Sums.{sum}
 use Rattle.gf2.specs.Operands.{maxWidth, bytesFor}
 use Rattle.gf2.specs.Tables.{onesIn}
 use Rattle.gf2.specs.Quadratic.{trace}

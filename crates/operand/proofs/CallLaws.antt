@@ -12,22 +12,24 @@ use lib.Dec.{eqb}
 use borrow.Author.Tests.{eqb-true, not-true}
 use Rattle.gf2.specs.Sums.{sum, every}
 use Rattle.gf2.specs.Coordinates.{coord, value, tabulate, pack}
-use Rattle.gf2.specs.Operands.{maxWidth, bytesFor, carriedBytes, choose, IsOperand, isClear, carriedBy, below, fromCoords, zeroes, ones, added, turned}
+use Rattle.gf2.specs.Operands.{maxWidth, bytesFor, carriedBytes, choose, IsOperand, isClear, carriedBy, fromCoords, zeroes, ones, added, turned}
 use Rattle.gf2.specs.Quadratic.{trace, rootCoord, root}
 use Rattle.gf2.proofs.Sums.{sum-split, every-at}
 use Rattle.gf2.proofs.Coordinates.{coord-past, coord-pack, pack-ext, pack-byte, length-pack}
-use Rattle.gf2.proofs.Operands.{coord-from, from-ext, from-eq, from-operand, clear-at, below-in, below-out}
+use Rattle.gf2.proofs.Operands.{coord-from, from-ext, from-eq, from-operand, clear-at, clear-pack}
 use Rattle.gf2.proofs.Carrying.{HasBytes, has-bytes, same-coord, clear-carried, coord-repacked, written-carried}
 use Rattle.judging.specs.declared.fault.Fault.{Fault}
 use Rattle.judging.specs.Faults.{isNone}
 use Rattle.judging.specs.Causes.{Cause, faultOf}
 use Rattle.judging.specs.FaultTable.{badWidth, badLength, highBit, turnTooFar, traceIsOne}
 use Rattle.judging.proofs.CauseLaws.{same-head, head-fails, fine, judged, ends, ends-some}
-use Rattle.judging.proofs.Passed.{IsWidth, is-width, as-laid-down, is-clear, turn-passes, width-passes}
+use Rattle.judging.proofs.Passed.{IsWidth, is-width, as-laid-down, is-clear, below-width, turn-passes}
+use Rattle.turns.specs.Moves.{rolled}
+use Rattle.turns.proofs.Turns.{rolled-turned}
 use Rattle.operand.specs.declared.Operand.{Operand}
 use Rattle.operand.specs.declared.OperandAnswer.{OperandAnswer}
 use Rattle.operand.specs.Causes.{operandCauses, turnCauses}
-use Rattle.operand.specs.Calls.{noOperand, answer, traceAnswer, turnCall}
+use Rattle.operand.specs.Calls.{noOperand, answer, traceAnswer}
 
 -- equal faults and, where these are none, equal bytes make equal answers
 pub answer-same : {f g : Fault} (m : ℕ) {x y : List ℕ} → f ≡ g → (isNone g ≡ true → x ≡ y) → answer f m x ≡ answer g m y
@@ -131,23 +133,12 @@ pub high-by : {m : ℕ} {a x : List ℕ} → HasBytes m a → x ≡ carriedBy a 
     → faultOf (highBit m x ∷ cs) ≡ faultOf (highBit m a ∷ ds)
 high-by {m} h e cs ds k = ap (λ z. faultOf (highBit m z ∷ cs)) e ∙ high-same h cs ds k
 
--- a turn whose width has passed: its fault, and its bytes where that is none
-module _ (m k : ℕ) (x : List ℕ) {r : OperandAnswer} (w : IsWidth m) (e : r ≡ turnCall (record { bytes = x; width = m }) k) where
-  pub turn-fault : r .fault ≡ faultOf (highBit m x ∷ turnTooFar m k ∷ [])
-  unfolding answer
-  turn-fault = ap (λ (r : OperandAnswer). r .fault) e ∙ head-fails (badWidth m) (highBit m x ∷ turnTooFar m k ∷ []) (width-passes m w)
-
-  pub turn-bytes : isNone (r .fault) ≡ true → r .value .bytes ≡ turned m k x
-  unfolding answer
-  turn-bytes n = ap (λ (r : OperandAnswer). r .value .bytes) e ∙ ap (λ b. choose b (record { bytes = turned m k x; width = m }) noOperand .bytes) (sym (ap (λ (r : OperandAnswer). isNone (r .fault)) e) ∙ n)
-
--- bytes whose coordinates from m on are 0 are those of the operand
-clear-pack : (n m : ℕ) (f : ℕ → ℕ) → ((i : ℕ) → m ≤ i → f i ≡ 0) → pack n f ≡ fromCoords n m f
-unfolding fromCoords
-clear-pack n m f h = pack-ext n f (below m f) (λ i l. ap (λ x. x % 2) (elim (decLt i m) [
-  | yes q ↦ sym (below-in m f i q)
-  | no q ↦ h i (omega arith) ∙ sym (below-out m f i (omega arith))
-]))
+-- a turn whose width has passed, where its bits and its count do
+pub turn-made : (m k : ℕ) (x : List ℕ) {r : List ℕ} {f : Fault} {b : Bool} → m ≤ maxWidth → length x ≡ carriedBytes → f ≡ faultOf (highBit m x ∷ turnTooFar m k ∷ []) → b ≡ isNone f → b ≡ true
+    → r ≡ rolled m k x → r ≡ turned m k x
+turn-made m k x fits size e t q h =
+    let p = fine (highBit m x ∷ turnTooFar m k ∷ []) (judged (highBit m x ∷ turnTooFar m k ∷ []) [] e t q) in
+    h ∙ rolled-turned fits (below-width m k (p .1 .0)) x size (clear-at m x (is-clear m x (p .0)))
 
 no-bytes : replicate carriedBytes 0 ≡ pack carriedBytes (λ i. 0)
 unfolding pack tabulate value sum

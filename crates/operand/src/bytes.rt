@@ -38,16 +38,10 @@ pub fn turn_into(width: usize, a: &[u8], k: usize, result: &mut [u8]) -> Fault
     if !is_none(sizes) {
         return sizes;
     }
-    let operand = Operand {
-        bytes: limbs::carried(a),
-        width: width as u16,
-    };
-    let answer = operand.turn(k);
-    let fault = answer.fault;
+    let x = limbs::carried(a);
+    let fault = judge::judge_turn(x, width, k);
     if is_none(fault) {
-        let value = answer.value;
-        let z = value.bytes;
-        limbs::copy_out(z, result);
+        limbs::copy_out(turns::rolled(x, width, k), result);
     }
     fault
 }

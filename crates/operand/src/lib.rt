@@ -15,7 +15,6 @@ use judging::judge_width;
 
 mod bytes;
 mod judge;
-mod turn;
 
 pub use bytes::one_into;
 pub use bytes::solve_into;
@@ -103,7 +102,7 @@ impl Operand {
         if !is_none(fault) {
             return refused(fault);
         }
-        answered(fault, m, turn::turned(x, m, k))
+        answered(fault, m, turns::rolled(x, m, k))
     }
 
     // The Frobenius map, which is the turn by one.

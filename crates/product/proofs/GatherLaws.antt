@@ -1,4 +1,4 @@
--- The slots gathered: what stands below the width and what comes round, slot by slot and as operands.
+-- The slots gathered: what stands below the width and what comes round, slot by slot and in all.
 -- And the exchange of two sums: what all rows add at the slots, gathered, is the sum of the rows spread.
 use mathlib.Core.Path.{_≡_, sym, ap, ap₂, _∙_}
 use mathlib.Core.List.{List}
@@ -13,15 +13,13 @@ use Rattle.gf2.specs.Operands.{carriedBytes, minus, choose, below}
 use Rattle.gf2.proofs.Sums.{sum-ext, sum-plus, sum-none, sum-split, sum-swap, sum-mod}
 use Rattle.gf2.proofs.Operands.{minus-lt, minus-below, minus-round, below-in, below-out, from-ext}
 use Rattle.operand.specs.declared.Operand.{Operand}
-use Rattle.operand.specs.declared.OperandAnswer.{OperandAnswer}
 use Rattle.limbs.specs.Limbs.{carriedLimbs, limbCoord, packLimbs}
-use Rattle.operand.specs.Calls.{sumCall}
 use Rattle.limbs.proofs.LimbCoords.{limb-pack, length-limbs}
-use Rattle.limbs.proofs.TurnLimbs.{raised-in, raised-out}
+use Rattle.limbs.proofs.RaisedLimbs.{raised-in, raised-out}
 use Rattle.product.specs.Inner.{Within, IsWidth, operandOf, made, gatheredAt}
 use Rattle.scatter.specs.Cells.{twiceLimbs, slots, HasSlots, cell, cellRaised, spreadSum, seenFrom}
 use Rattle.scatter.proofs.CellLaws.{seen-at, slots-there}
-use Rattle.product.proofs.SoundOperands.{sum-parts, sum-made}
+use Rattle.product.proofs.SoundOperands.{sum-parts}
 
 -- slot by slot: of the two parts, one has the coordinate that comes to place i and the other has 0 there
 module _ (m : ℕ) (g : List ℕ) (fits : m ≤ slots) (within : Within m g) where
@@ -63,15 +61,14 @@ module _ (m : ℕ) (g : List ℕ) (fits : m ≤ slots) (within : Within m g) whe
       ∙ ap₂ _+_ (sum-ext m _ _ (λ s h. slot-turned s i h l)) (sum-none (slots - m) _ (λ s h. ap₂ _+_ (none-raised (m + s) (omega arith) i) (none-raised (m + s) (omega arith) (m + i))))
       ∙ add-zero _
 
--- and as operands
-pub gathered-made : {m : ℕ} {g : List ℕ} → IsWidth m → HasSlots g → Within m g → {all l h : List ℕ} {low round : Operand} {r : OperandAnswer}
-    → all ≡ packLimbs twiceLimbs (spreadSum g)
-    → l ≡ packLimbs carriedLimbs (seenFrom all 0) → low ≡ made m (limbCoord l)
-    → h ≡ packLimbs carriedLimbs (seenFrom all m) → round ≡ made m (limbCoord h)
-    → r ≡ sumCall low round → r .value ≡ made m (gatheredAt m g)
-gathered-made {m} {g} width there within {all} {l} {h} ea el eo eh er e =
-    sum-made (width .0) (width .1) (limbCoord l) (limbCoord h) eo er e
-    ∙ ap (operandOf m) (from-ext carriedBytes m _ _ (λ i k. sum-parts _ _ (from 0 i (omega arith) k el ∙ ap (λ n. spread n % 2) (zero-add i)) (from m i (omega arith) k eh)
+-- and all of them, as an operand
+pub gathered-made : {m : ℕ} {g : List ℕ} → IsWidth m → HasSlots g → Within m g → {all l h : List ℕ} (both : List ℕ) {r : Operand}
+    → all ≡ packLimbs twiceLimbs (spreadSum g) → l ≡ packLimbs carriedLimbs (seenFrom all 0) → h ≡ packLimbs carriedLimbs (seenFrom all m)
+    → both ≡ packLimbs carriedLimbs (λ i. limbCoord l i + limbCoord h i) → r ≡ made m (limbCoord both) → r ≡ made m (gatheredAt m g)
+gathered-made {m} {g} width there within {all} {l} {h} both ea el eh eb e =
+    e ∙ ap (operandOf m) (from-ext carriedBytes m (limbCoord both) _ (λ i k.
+    ap (λ z. limbCoord z i % 2) eb ∙ ap (λ y. y % 2) (limb-pack carriedLimbs _ i (omega (arith, width .1))) ∙ mod-mod _ 2
+    ∙ sum-parts _ _ (from 0 i (omega arith) k el ∙ ap (λ n. spread n % 2) (zero-add i)) (from m i (omega arith) k eh)
     ∙ ap (λ y. y % 2) (all-turned m g (omega (arith, width .1)) within i k)))
   where
     spread : ℕ → ℕ

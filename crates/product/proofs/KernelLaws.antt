@@ -17,7 +17,7 @@ use Rattle.gf2.proofs.Coordinates.{coord-lt, length-pack}
 use Rattle.operand.specs.declared.Operand.{Operand}
 use Rattle.limbs.specs.Limbs.{carriedLimbs, limbCoord, packLimbs, raised}
 use Rattle.limbs.proofs.LimbCoords.{limb-lt, limb-pack, length-limbs, limb-zero, limbs-same}
-use Rattle.limbs.proofs.TurnLimbs.{raised-in, raised-out}
+use Rattle.limbs.proofs.RaisedLimbs.{raised-in, raised-out}
 use Rattle.gf2.proofs.Carrying.{coord-carried}
 use Rattle.table.specs.Rows.{Shaped}
 use Rattle.table.proofs.Shapes.{row-short, sized}

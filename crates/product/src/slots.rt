@@ -32,14 +32,12 @@ pub(crate) fn below_width(x: [u64; limbs::LIMBS], width: usize) -> Operand
     }
 }
 
-// The sum of all slots, slot s turned s: what stands below the width and what comes round are added as operands.
+// The sum of all slots, slot s turned s: what stands below the width and what comes round, added.
 pub(crate) fn gathered(width: usize, g: &[u64]) -> Operand
     requires { ⌜ IsWidth width × HasSlots (now g) × Within width (now g) ⌝ }
     ensures { λ r. ⌜ r ≡ made width (gatheredAt width (now (g .entry))) ⌝ }
 {
     let all = scatter::spread(g);
-    let low = below_width(scatter::window(&all, 0), width);
-    let round = below_width(scatter::window(&all, width), width);
-    let sum = low.sum(round);
-    sum.value
+    let both = limbs::xored_limbs(scatter::window(&all, 0), scatter::window(&all, width));
+    below_width(both, width)
 }

@@ -9,13 +9,12 @@ ghost use Rattle.reporting.specs.Report.{refusal, countsLine, acceptance
 use crate::text::Text;
 use judging::Fault;
 use netlist::CountsAnswer;
-use operand::Operand;
 
 // Document 01's limit. A card of a table whose row 0 is right is shorter: docs/DECISIONS.md.
 pub const INPUT_LIMIT: usize = 65536;
 
 // The bytes of a table of the greatest width.
-const LENT: usize = Operand::MAX_WIDTH * Operand::BYTES;
+const LENT: usize = limbs::MAX_WIDTH * limbs::BYTES;
 
 fn refused(text: Text, fault: Fault) -> Text
     ensures { λ r. ⌜ r ≡ appended text (refusal fault) ⌝ }

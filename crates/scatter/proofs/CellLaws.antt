@@ -20,7 +20,7 @@ use Rattle.gf2.proofs.Operands.{below-in, below-out}
 use Rattle.limbs.specs.Limbs.{carriedLimbs, limbCoord, packLimbs}
 use Rattle.limbs.proofs.LimbCoords.{limb-lt, limb-digit, limb-pack, limbs-of, limbs-ext, limbs-zero}
 use Rattle.limbs.proofs.LimbLoops.{Limbs, window-limbs}
-use Rattle.limbs.proofs.TurnLimbs.{limbOf, pairFrom}
+use Rattle.limbs.proofs.RaisedLimbs.{limbOf, pairFrom}
 use Rattle.scatter.specs.Cells.{slots, HasSlots, hasSlots, cell, Added, seenFrom}
 
 pub zeroes-list : (n : ℕ) → tabulate n (λ i. 0) ≡ replicate n 0

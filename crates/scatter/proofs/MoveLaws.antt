@@ -15,7 +15,7 @@ use Rattle.gf2.proofs.Coordinates.{value-bit, value-lt, tabulate-ext}
 use Rattle.limbs.specs.Limbs.{limbCoord, packLimbs, raised}
 use Rattle.limbs.proofs.LimbCoords.{limb-lt, limb-digit, limb-pack, limbs-of, limbs-ext}
 use Rattle.limbs.proofs.LimbLoops.{Limbs, raise-pair}
-use Rattle.limbs.proofs.TurnLimbs.{limbOf, pairFrom, raised-in, raised-out, raised-coord}
+use Rattle.limbs.proofs.RaisedLimbs.{limbOf, pairFrom, raised-in, raised-out, raised-coord}
 use Rattle.scatter.proofs.CellLaws.{xored-limbs}
 
 pub raised-ext : (k : ℕ) (f h : ℕ → ℕ) (i : ℕ) → (k ≤ i → f (i - k) ≡ h (i - k)) → raised k f i ≡ raised k h i

@@ -19,7 +19,7 @@ use Rattle.gf2.proofs.Operands.{below-out}
 use Rattle.limbs.specs.Limbs.{carriedLimbs, limbCoord, packLimbs, raised}
 use Rattle.limbs.proofs.LimbCoords.{limb-lt, limbs-ext, limbs-eq, limbs-zero}
 use Rattle.limbs.proofs.LimbLoops.{Limbs}
-use Rattle.limbs.proofs.TurnLimbs.{raised-in, raised-out}
+use Rattle.limbs.proofs.RaisedLimbs.{raised-in, raised-out}
 use Rattle.scatter.specs.Cells.{slots, cell, cellRaised, HasSlots, spreadSum, columnTo}
 use Rattle.scatter.proofs.CellLaws.{cell-digit, set-coord, limb-more, slots-there, slots-missing}
 use Rattle.scatter.proofs.MoveLaws.{raised-ext, raised-add, raised-twice, raised-sum, packed-plus, packed-up}

@@ -3,17 +3,19 @@
 -- rows-none, rows-more, rows-all: the sum of all rows, row after row.
 use mathlib.Core.Path.{_≡_, refl, sym, ap, _∙_}
 use mathlib.Core.Bool.{_&&_}
-use mathlib.Core.List.{List, [], _∷_}
+use mathlib.Core.List.{List}
 use Prim.Native.Nat.{ℕ, zero, suc, _+_, _-_, _*_, _%_, _<_, _≤_}
 use native.Mathlib.Nat.{mod-eq-of-lt}
 use native.Mathlib.Numerals.{add-one}
 use native.Mathlib.Omega.{arith}
+use lib.ListN.{replicate}
 use Rattle.gf2.specs.Sums.{sum}
-use Rattle.gf2.specs.Coordinates.{coord}
-use Rattle.gf2.specs.Operands.{bytesFor, carriedBytes, minus, IsOperand, fromCoords, zeroes, added, turned, carriedBy}
+use Rattle.gf2.specs.Coordinates.{coord, pack}
+use Rattle.gf2.specs.Operands.{bytesFor, carriedBytes, minus, IsOperand, turned, carriedBy}
 use Rattle.gf2.specs.Tables.{row}
 use Rattle.gf2.specs.Check.{Symmetric, rowSum}
-use Rattle.gf2.proofs.Operands.{minus-lt, coord-from, from-operand, from-ext, length-from}
+use Rattle.gf2.proofs.Sums.{sum-none}
+use Rattle.gf2.proofs.Operands.{minus-lt, from-operand, clear-pack}
 use Rattle.gf2.proofs.Parity.{bits, odd-mul}
 use Rattle.gf2.proofs.Index.{Ix, at, o, _⊖_, at-minus, z-add, sub-add}
 use Rattle.gf2.proofs.IndexSums.{Σ-ext, odd-Σ}
@@ -21,24 +23,15 @@ use Rattle.gf2.proofs.Vector.{Vec, turn, β, lin, turn-turn, turn-z, turn-β}
 use Rattle.gf2.proofs.VectorProduct.{_·_ as mul, pair, turn-mul, mul-ββ, mul-o, pair-o, mul-comm, Symmetric as Symmetricᵛ}
 use Rattle.gf2.proofs.OperandVectors.{bytes-fit, vec, bytes, vec-bytes, from-vec, basis-vec, turned-bytes}
 use Rattle.gf2.proofs.TableVectors.{rows, row-vec, product-bytes, symmetric}
-use Rattle.judging.specs.Faults.{isNone}
-use Rattle.operand.specs.Calls.{answer, zeroCall}
-use Rattle.judging.specs.FaultTable.{badWidth}
-use Rattle.judging.proofs.CauseLaws.{none-given}
-use Rattle.judging.proofs.Passed.{width-passes, IsWidth}
-use Rattle.operand.proofs.FaultFree.{done}
-use Rattle.gf2.proofs.Carrying.{coord-carried, carried-from}
+use Rattle.gf2.proofs.Carrying.{carried-from}
+use Rattle.limbs.specs.Limbs.{carriedLimbs, limbCoord, packLimbs}
+use Rattle.limbs.proofs.LimbCoords.{limb-pack, limbs-ext, limbs-zero, bytes-limbs}
 use Rattle.table.specs.Rows.{Shaped}
 use Rattle.table.specs.Inner.{carriedRow, rowsAt, leftProduct, rightProduct}
-use Rattle.table.proofs.Shapes.{sized, row-short}
 
 pub minus-at : (m k j : ℕ) → j < m → (k + (m - j)) % m ≡ minus m k j
 unfolding minus
 minus-at m k j h = rw (mod-eq-of-lt h)
-
-pub zero-done : {m : ℕ} → IsWidth m → zeroCall m ≡ done m (zeroes carriedBytes m)
-unfolding answer isNone
-zero-done {m} w = rw (none-given (badWidth m ∷ []) (width-passes m w, tt))
 
 pub at-operand : (m : ℕ) (t x : List ℕ) → IsOperand carriedBytes m (rowsAt m t x)
 unfolding rowsAt
@@ -131,20 +124,20 @@ pub first-right : {m : ℕ} {t : List ℕ} → Shaped m t → (j : ℕ) → j < 
 first-right {m = zero} {t} s j l = absurd (omega arith)
 first-right {m = suc p} {t} s j l = first-rows p t s j l
 
--- the sum of the first n rows
+-- the sum of the first n rows, in limbs
 abbrev pub firstRows : ℕ → List ℕ → ℕ → List ℕ
-firstRows m t n = fromCoords carriedBytes m (λ s. sum n (λ d. coord (row m t d) s))
+firstRows m t n = packLimbs carriedLimbs (λ s. sum n (λ d. coord (row m t d) s))
 
-pub rows-none : (m : ℕ) (t : List ℕ) → zeroes carriedBytes m ≡ firstRows m t 0
-unfolding zeroes sum
-rows-none m t = refl
+pub rows-none : (m : ℕ) (t : List ℕ) → replicate carriedLimbs 0 ≡ firstRows m t 0
+unfolding sum
+rows-none m t = limbs-zero carriedLimbs _ (λ i h. refl)
 
-module _ {m : ℕ} {t : List ℕ} (s : Shaped m t) where
-  pub rows-more : (d : ℕ) → d < m → added m (firstRows m t d) (carriedRow m t d) ≡ firstRows m t (d + 1)
-  unfolding sum added
-  rows-more d l = let g = s .greatest in rw (add-one, length-from) (from-ext carriedBytes m _ _ (λ i h.
-      rw (coord-carried carriedBytes (row m t d) (row-short _ _ _ (sized s) l) i, coord-from carriedBytes m _ (omega arith) i h) (omega arith)))
+pub rows-more : (m : ℕ) (t : List ℕ) (d : ℕ) {total : List ℕ} → total ≡ firstRows m t d → packLimbs carriedLimbs (λ s. limbCoord total s + coord (row m t d) s) ≡ firstRows m t (d + 1)
+unfolding sum
+rows-more m t d e = rw add-one (limbs-ext carriedLimbs _ _ (λ i h. omega (arith, ap (λ l. limbCoord l i) e ∙ limb-pack carriedLimbs _ i h)))
 
-  pub rows-all : firstRows m t m ≡ carriedBy (rowSum m t)
-  unfolding rowSum
-  rows-all = let g = s .greatest in sym (carried-from (omega arith) (bytes-fit m) _)
+pub rows-all : {m : ℕ} {t : List ℕ} → Shaped m t → pack carriedBytes (limbCoord (firstRows m t m)) ≡ carriedBy (rowSum m t)
+unfolding rowSum
+rows-all {m} {t} s =
+    let g = s .greatest in
+    bytes-limbs _ ∙ clear-pack carriedBytes m _ (λ i h. sum-none m _ (λ d l. s .isTable .rows d l .clear i h)) ∙ sym (carried-from (omega arith) (bytes-fit m) _)

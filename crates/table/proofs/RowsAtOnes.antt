@@ -1,7 +1,7 @@
 -- The sum of the rows at the ones of an operand, in limbs: the steps of the loops that make it.
 -- plus-row: one row more. ones-none, ones-step, ones-within, ones-clear: the ones of a limb, taken off from the lowest on.
 -- limbs-none, limbs-more, limb-within, limbs-all: limb after limb of the operand.
-use mathlib.Core.Path.{_≡_, refl, sym, ap, _∙_}
+use mathlib.Core.Path.{_≡_, refl, sym, ap, fun-ext, _∙_}
 use mathlib.Core.List.{List}
 use Prim.Native.Nat.{ℕ, _+_, _-_, _*_, _/_, _%_, _^_, _<_, _≤_}
 use native.Mathlib.Nat.{add-zero, zero-mul, mul-zero, zero-div, mod-eq-of-lt, mod-mod, div-eq-of-lt, lt-of-lt-of-le}
@@ -13,11 +13,11 @@ use lib.Count.{trailingZeros}
 use lib.Pow.{pow-mono}
 use Rattle.gf2.specs.Sums.{sum}
 use Rattle.gf2.specs.Coordinates.{coord, pack}
-use Rattle.gf2.specs.Operands.{carriedBytes, IsOperand, fromCoords}
+use Rattle.gf2.specs.Operands.{carriedBytes, IsOperand}
 use Rattle.gf2.specs.Tables.{row}
 use Rattle.gf2.proofs.Sums.{sum-ext, sum-none, sum-split, sum-clear}
-use Rattle.gf2.proofs.Coordinates.{pack-ext, length-pack}
-use Rattle.gf2.proofs.Operands.{below-in, below-out}
+use Rattle.gf2.proofs.Coordinates.{length-pack}
+use Rattle.gf2.proofs.Operands.{clear-pack}
 use Rattle.gf2.proofs.TrailingZeros.{lowest-one, lowest-off, lowest-sum}
 use Rattle.limbs.specs.Limbs.{carriedLimbs, limbCoord, packLimbs}
 use Rattle.limbs.proofs.LimbCoords.{limb-lt, limb-digit, limb-pack, limbs-lt, limbs-ext, limbs-eq, limbs-zero, limbs-same, bytes-limbs}
@@ -99,11 +99,10 @@ module _ {m : ℕ} {t x : List ℕ} (s : Shaped m t) (o : IsOperand carriedBytes
   ]
 
   pub limbs-all : {w : ℕ} → w ≡ carriedLimbs → pack carriedBytes (limbCoord (limbsTo m t limbs w)) ≡ rowsAt m t x
-  unfolding rowsAt fromCoords
-  limbs-all {w} q = bytes-limbs _ ∙ pack-ext carriedBytes _ _ (λ i h. ap (λ y. y % 2) (all i ∙ elim (decLt i m) [
-    | yes l ↦ sym (below-in m _ i l)
-    | no l ↦ sum-none m _ (λ k b. ap (λ y. coord x k * y) (s .isTable .rows k b .clear i (omega arith)) ∙ mul-zero _) ∙ sym (below-out m _ i (omega arith))
-  ]))
+  unfolding rowsAt
+  limbs-all {w} q =
+      bytes-limbs _ ∙ ap (pack carriedBytes) (fun-ext all)
+      ∙ clear-pack carriedBytes m _ (λ i h. sum-none m _ (λ k l. ap (λ y. coord x k * y) (s .isTable .rows k l .clear i h) ∙ mul-zero _))
     where
       all : (i : ℕ) → sum (w * 64) (λ k. limbCoord limbs k * coord (row m t k) i) ≡ sum m (λ k. coord x k * coord (row m t k) i)
       all i = ap (λ f. sum (w * 64) (λ k. f k * coord (row m t k) i)) (limbs-same x e (o .size))

@@ -10,10 +10,9 @@ ghost use Rattle.table.specs.Rows.{Shaped};
 ghost use Rattle.table.specs.Inner.{carriedRow};
 ghost use Rattle.table.specs.Judgements.{shapeFault};
 use judging::Fault;
-use operand::Operand;
 
 // The bytes of row d, in those of a carried operand.
-pub(crate) fn row_bytes(width: usize, table: &[u8], d: usize) -> [u8; Operand::BYTES]
+pub(crate) fn row_bytes(width: usize, table: &[u8], d: usize) -> [u8; limbs::BYTES]
     requires { ⌜ Shaped width (now table) × (d < width) ⌝ }
     ensures { λ r. ⌜ r ≡ carriedRow width (now (table .entry)) d ⌝ }
 {
@@ -56,27 +55,10 @@ pub fn judge_shape(width: usize, table: &[u8]) -> Fault
     judge_ends(width, table)
 }
 
-// Row d of a table that has passed the judgement of its shape.
-pub(crate) fn row_at(width: usize, table: &[u8], d: usize) -> Operand
-    requires { ⌜ (Shaped width (now table)) × (d < width) ⌝ }
-    ensures { λ r. ⌜ r ≡ (record { bytes = carriedRow width (now (table .entry)) d; width = width }) ⌝ }
-{
-    Operand {
-        bytes: row_bytes(width, table, d),
-        width: width as u16,
-    }
-}
-
 // x turned k places, where no judgement can fail.
-pub(crate) fn turned(width: usize, x: [u8; Operand::BYTES], k: usize) -> [u8; Operand::BYTES]
+pub(crate) fn turned(width: usize, x: [u8; limbs::BYTES], k: usize) -> [u8; limbs::BYTES]
     requires { ⌜ (2 ≤ width) × (width ≤ maxWidth) × (IsOperand carriedBytes width x) × (k < width) ⌝ }
     ensures { λ r. ⌜ r ≡ turned width k x ⌝ }
 {
-    let before = Operand {
-        bytes: x,
-        width: width as u16,
-    };
-    let answer = before.turn(k);
-    let bytes = answer.value.bytes;
-    bytes
+    turns::rolled(x, width, k)
 }

@@ -9,24 +9,6 @@ ghost use Rattle.limbs.specs.Limbs.{carriedLimbs, limbCoord, packLimbs};
 ghost use Rattle.table.specs.Rows.{Shaped};
 ghost use Rattle.table.specs.Inner.{rowsAt, plusRows};
 use crate::rows;
-use operand::Operand;
-
-// The sum of all rows.
-pub(crate) fn sum_of_rows(width: usize, table: &[u8]) -> Operand
-    requires { ⌜ Shaped width (now table) ⌝ }
-    ensures { λ r. ⌜ r ≡ record { bytes = carriedBy (rowSum width (now (table .entry))); width = width } ⌝ }
-{
-    let zero = Operand::zero(width);
-    let mut total = zero.value;
-    let mut d = 0;
-    while d < width {
-        let answer = total.sum(rows::row_at(width, table, d));
-        let next = answer.value;
-        total = next;
-        d += 1;
-    }
-    total
-}
 
 // A place below twice the width, modulo the width.
 pub(crate) fn wrapped(place: usize, width: usize) -> usize
@@ -42,6 +24,21 @@ fn plus_row(width: usize, table: &[u8], total: [u64; limbs::LIMBS], d: usize) ->
     ensures { λ r. ⌜ r ≡ packLimbs carriedLimbs (λ s. limbCoord total s + coord (row width (now (table .entry)) d) s) ⌝ }
 {
     limbs::xored_limbs(total, limbs::to_limbs(rows::row_bytes(width, table, d)))
+}
+
+// The sum of all rows.
+pub(crate) fn sum_of_rows(width: usize, table: &[u8]) -> [u8; limbs::BYTES]
+    requires { ⌜ Shaped width (now table) ⌝ }
+    ensures { λ r. ⌜ r ≡ carriedBy (rowSum width (now (table .entry))) ⌝ }
+{
+    let mut total = [0u64; limbs::LIMBS];
+    let mut d = 0;
+    while d < width {
+        let next = plus_row(width, table, total, d);
+        total = next;
+        d += 1;
+    }
+    limbs::to_bytes(total)
 }
 
 // The sum of `total` and the rows at the ones of a limb, whose bits stand for the rows from `from` on.
@@ -68,11 +65,7 @@ fn plus_rows(
 }
 
 // β0·x: row d is β0·βd, so that this is the sum of the rows at the ones of x.
-pub(crate) fn times_first(
-    width: usize,
-    table: &[u8],
-    x: [u8; Operand::BYTES],
-) -> [u8; Operand::BYTES]
+pub(crate) fn times_first(width: usize, table: &[u8], x: [u8; limbs::BYTES]) -> [u8; limbs::BYTES]
     requires { ⌜ (Shaped width (now table)) × (IsOperand carriedBytes width x) ⌝ }
     ensures { λ r. ⌜ r ≡ rowsAt width (now (table .entry)) x ⌝ }
 {

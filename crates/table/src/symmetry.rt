@@ -11,10 +11,9 @@ ghost use Rattle.table.specs.Inner.{mirrors};
 ghost use Rattle.table.specs.Judgements.{symmetryFault};
 use crate::rows;
 use judging::Fault;
-use operand::Operand;
 
 // Compared as limbs: bytes just stored limb by limb are read the same way.
-pub(crate) fn same_bytes(x: [u8; Operand::BYTES], y: [u8; Operand::BYTES]) -> bool
+pub(crate) fn same_bytes(x: [u8; limbs::BYTES], y: [u8; limbs::BYTES]) -> bool
     ensures { λ r. ⌜ r ≡ same x y ⌝ }
 {
     let p = limbs::to_limbs(x);
@@ -29,11 +28,11 @@ pub(crate) fn same_bytes(x: [u8; Operand::BYTES], y: [u8; Operand::BYTES]) -> bo
 }
 
 // The bytes of the basis operand whose only coordinate is k, in the first byte.
-pub(crate) fn basis_bytes(width: usize, k: usize) -> [u8; Operand::BYTES]
+pub(crate) fn basis_bytes(width: usize, k: usize) -> [u8; limbs::BYTES]
     requires { ⌜ (k < 8) × (k < width) × (width ≤ maxWidth) ⌝ }
     ensures { λ r. ⌜ r ≡ carriedBy (basis width k) ⌝ }
 {
-    let mut out = [0u8; Operand::BYTES];
+    let mut out = [0u8; limbs::BYTES];
     out[0] = 1u8 << k;
     out
 }

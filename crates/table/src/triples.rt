@@ -14,11 +14,10 @@ use crate::rows;
 use crate::sums;
 use crate::symmetry;
 use judging::Fault;
-use operand::Operand;
 
 // (β0·βi)·βj: the factor β0·βi is row i. Both factors are turned back j places, which makes β0 of βj, and their product j places on; by
 // rule 5 the factors may be exchanged.
-fn left_product(width: usize, table: &[u8], i: usize, j: usize) -> [u8; Operand::BYTES]
+fn left_product(width: usize, table: &[u8], i: usize, j: usize) -> [u8; limbs::BYTES]
     requires { ⌜ (Shaped width (now table)) × (Symmetric width (now table)) × (i < width) × (j < width) ⌝ }
     ensures { λ r. ⌜ r ≡ carriedBy (leftProduct width (now (table .entry)) i j) ⌝ }
 {
@@ -28,7 +27,7 @@ fn left_product(width: usize, table: &[u8], i: usize, j: usize) -> [u8; Operand:
 }
 
 // β0·(βi·βj): the factor βi·βj is row j-i turned i places.
-fn right_product(width: usize, table: &[u8], i: usize, j: usize) -> [u8; Operand::BYTES]
+fn right_product(width: usize, table: &[u8], i: usize, j: usize) -> [u8; limbs::BYTES]
     requires { ⌜ (Shaped width (now table)) × (i < width) × (j < width) ⌝ }
     ensures { λ r. ⌜ r ≡ carriedBy (rightProduct width (now (table .entry)) i j) ⌝ }
 {
@@ -86,8 +85,7 @@ fn judge_row_sum(width: usize, table: &[u8]) -> Fault
     ensures { λ r. ⌜ r ≡ faultOf (rowSumWrong width (now (table .entry)) ∷ []) ⌝ }
 {
     let sum = sums::sum_of_rows(width, table);
-    let bytes = sum.bytes;
-    if symmetry::same_bytes(bytes, symmetry::basis_bytes(width, 0)) {
+    if symmetry::same_bytes(sum, symmetry::basis_bytes(width, 0)) {
         Fault::None
     } else {
         Fault::RowSum

@@ -2,7 +2,7 @@
 use mathlib.Core.Path.{sym, _∙_}
 use native.Mathlib.Omega.{arith}
 use lib.ListN.{getD}
-use Rattle.limbs.proofs.TurnLimbs.{raised-in, raised-out}
+use Rattle.limbs.proofs.RaisedLimbs.{raised-in, raised-out}
 use borrow.Author.Needs.{needs}
 use Rattle.limbs.proofs.limbs.limb_below.Statement.{statement}
 use Rattle.limbs.proofs.limbs.limb_below.Tie as tie

@@ -1,13 +1,15 @@
 -- `operand::Operand::turn` meets its contract.
 use mathlib.Core.Path.{_≡_, _∙_}
 use mathlib.Core.List.{[], _∷_}
+use lib.ListN.{length}
 use borrow.Author.Tests.{not-true, not-false}
+use Rattle.gf2.specs.Operands.{carriedBytes}
 use Rattle.judging.specs.Causes.{faultOf}
 use Rattle.judging.specs.FaultTable.{badWidth, highBit, turnTooFar}
 use Rattle.judging.proofs.CauseLaws.{fine, judged, follows}
-use Rattle.judging.proofs.Passed.{IsWidth, is-width, is-clear, below-width}
+use Rattle.judging.proofs.Passed.{IsWidth, is-width}
 use Rattle.operand.specs.Causes.{turnCauses}
-use Rattle.operand.proofs.CallLaws.{answer-same, refusal, ends-refused}
+use Rattle.operand.proofs.CallLaws.{answer-same, refusal, ends-refused, turn-made}
 use borrow.Author.Needs.{needs}
 use Rattle.operand.proofs.Operand.turn.Statement.{statement}
 use Rattle.operand.proofs.Operand.turn.Tie as tie
@@ -16,16 +18,13 @@ use Rattle.operand.proofs.Operand.turn.Tie as tie
 width : (c : tie.Else1) → IsWidth (c .before .before .before .before .before .args .self .width)
 width c = is-width _ (fine (badWidth _ ∷ []) (judged (badWidth _ ∷ []) [] (c .before .before .judge-width .ensures) (c .before .is-none .ensures) (not-false _ (c .if1 .left))) .0)
 
+size : (c : tie.Else1) → length (c .before .before .before .before .before .args .self .bytes) ≡ carriedBytes
+size c = search needs
+
 whole : (c : tie.After-judge-turn) → let a = c .before .before .before .before .before .before .args in c .judge-turn .result ≡ faultOf (turnCauses (a .self) (a .k))
 whole c =
     let s = c .before in
     follows (badWidth _ ∷ []) (highBit _ _ ∷ turnTooFar _ _ ∷ []) (s .before .before .judge-width .ensures) (s .before .is-none .ensures) (not-false _ (s .if1 .left)) (c .judge-turn .ensures)
-
-turned-requires : tie.Need-turned-requires
-turned-requires c κs =
-    let s = c .before in
-    let p = fine (highBit _ _ ∷ turnTooFar _ _ ∷ []) (judged (highBit _ _ ∷ turnTooFar _ _ ∷ []) [] (s .before .judge-turn .ensures) (s .is-none2 .ensures) (not-false _ (c .if2 .left))) in
-    (width (s .before .before) .greatest, below-width _ _ (p .1 .0), is-clear _ _ (p .0))
 
 pub turn-spec : {M : Type 1} → statement M
 turn-spec =
@@ -36,5 +35,7 @@ turn-spec =
     (λ c κs. search needs) (λ c κs. search needs) (λ c κs. search needs)
     (λ c. let s = c .before .before in
     refusal _ _ _ (whole (s .before)) (judged _ [] (whole (s .before)) (s .is-none2 .ensures) (not-true _ (c .before .if2 .taken))) (c .refused2 .ensures))
-    turned-requires (λ c κs e. width (c .before .before .before .before) .greatest)
-    (λ c. c .answered .ensures ∙ answer-same _ (whole (c .before .before .before .before)) (λ e. c .before .turned .ensures)))
+    (λ c κs. search needs) (λ c κs e. width (c .before .before .before .before) .greatest)
+    (λ c. c .answered .ensures ∙ answer-same _ (whole (c .before .before .before .before)) (λ e.
+    let s = c .before .before .before in
+    turn-made _ _ (s .before .before .before .before .before .before .before .args .self .bytes) (width (s .before .before) .greatest) (size (s .before .before)) (s .before .judge-turn .ensures) (s .is-none2 .ensures) (not-false _ (c .before .before .if2 .left)) (c .before .rolled .ensures))))

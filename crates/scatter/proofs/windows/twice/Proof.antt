@@ -5,7 +5,7 @@ use native.Mathlib.Omega.{arith}
 use lib.Bits.{bitXor}
 use Rattle.gf2.proofs.Loops.{Filled, filled-none, filled-more, filled-all}
 use Rattle.limbs.proofs.LimbLoops.{limbs-fit}
-use Rattle.limbs.proofs.TurnLimbs.{limbOf, pairFrom}
+use Rattle.limbs.proofs.RaisedLimbs.{limbOf, pairFrom}
 use Rattle.scatter.specs.Cells.{twiceLimbs}
 use Rattle.scatter.proofs.MoveLaws.{raisedLimb, twice-limbs}
 use borrow.Author.Needs.{needs}

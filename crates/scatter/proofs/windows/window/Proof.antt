@@ -4,7 +4,7 @@ use Prim.Native.Nat.{_+_, _-_, _%_}
 use native.Mathlib.Omega.{arith}
 use Rattle.gf2.proofs.Loops.{Filled, filled-none, filled-more, filled-all}
 use Rattle.limbs.specs.Limbs.{carriedLimbs}
-use Rattle.limbs.proofs.TurnLimbs.{limbOf, pairFrom}
+use Rattle.limbs.proofs.RaisedLimbs.{limbOf, pairFrom}
 use Rattle.scatter.proofs.CellLaws.{seen-all, seen-none}
 use borrow.Author.Needs.{needs}
 use Rattle.scatter.proofs.windows.window.Statement.{statement}

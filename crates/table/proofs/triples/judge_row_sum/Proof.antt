@@ -5,7 +5,6 @@ use mathlib.Core.List.{[], _∷_}
 use native.Mathlib.Omega.{arith}
 use Rattle.gf2.specs.Tables.{basis}
 use Rattle.gf2.specs.Check.{rowSum}
-use Rattle.operand.specs.declared.Operand.{Operand}
 use Rattle.judging.specs.FaultTable.{rowSumWrong}
 use Rattle.judging.proofs.CauseLaws.{none-given, head-holds}
 use Rattle.gf2.specs.Operands.{same}
@@ -16,12 +15,12 @@ use Rattle.table.proofs.triples.judge_row_sum.Statement.{statement}
 use Rattle.table.proofs.triples.judge_row_sum.Tie as tie
 
 -- what the test of the carried bytes says of the table's
-tested : (c : tie.After-same-bytes) → let a = c .before .before .before .before .before .args in
+tested : (c : tie.After-same-bytes) → let a = c .before .before .before .before .args in
     c .same-bytes .result ≡ same (rowSum (a .width) (a .table .now)) (basis (a .width) 0)
 tested c =
-    let s = c .before .before .before .before .before .pre in
+    let s = c .before .before .before .before .pre in
     c .same-bytes .ensures
-    ∙ ap₂ same (ap (λ (x : Operand). x .bytes) (c .before .before .before .sum-of-rows .ensures)) (c .before .basis-bytes .ensures)
+    ∙ ap₂ same (c .before .before .sum-of-rows .ensures) (c .before .basis-bytes .ensures)
     ∙ same-carried (omega (arith, s .greatest)) (sum-operand _ _) (basis-operand _ 0)
 
 returns : tie.Need-returns

@@ -1,44 +1,28 @@
--- A turn made of two moves of limbs, and the way from it to bytes.
--- Counts: limbs moved up or down by steps of 1, 2, 4, ..; then the bits of two limbs in a row.
+-- A turn made of two moves of limbs: by steps of 1, 2, 4, .. limbs, then by the bits of two limbs in a row; and what the two moves, added, are.
 use mathlib.Core.Path.{_≡_, sym, ap, ap₂, _∙_}
-use mathlib.Core.List.{List, [], _∷_}
-use Prim.Native.Nat.{ℕ, _+_, _-_, _*_, _/_, _%_, _^_, _<_, _≤_}
-use native.Mathlib.Nat.{add-zero, add-comm, mod-one, mod-eq-of-lt, zero-div}
+use mathlib.Core.List.{List}
+use Prim.Native.Nat.{ℕ, _+_, _-_, _*_, _/_, _%_, _<_, _≤_}
+use native.Mathlib.Nat.{add-zero, add-comm, mod-one, mod-eq-of-lt}
 use native.Mathlib.Decide.{decLt, ℕ-discrete}
 use native.Mathlib.Omega.{arith}
 use lib.Arith.{mod-mul}
 use lib.Dec.{eqb}
 use lib.ListN.{length, getD, List·getD-eq-default}
 use lib.Seq.{ext-getD}
-use borrow.Author.Tests.{le-leb, lt-leb, eq-eqb, ne-eqb}
-use Rattle.gf2.specs.Coordinates.{coord, value, tabulate, pack}
-use Rattle.gf2.specs.Operands.{carriedBytes, minus, choose, below, fromCoords, turned}
+use borrow.Author.Tests.{le-leb, lt-leb, lt-ltb, le-ltb, eq-eqb, ne-eqb}
+use Rattle.gf2.specs.Coordinates.{coord, tabulate, pack}
+use Rattle.gf2.specs.Operands.{maxWidth, carriedBytes, minus, choose, below, fromCoords, turned}
 use Rattle.gf2.proofs.Coordinates.{value-ext, length-tabulate, getD-tabulate, tabulate-ext}
 use Rattle.gf2.proofs.Operands.{from-ext, minus-below, minus-round}
 use Rattle.limbs.specs.Limbs.{carriedLimbs, limbCoord, packLimbs, raised}
-use Rattle.limbs.proofs.LimbCoords.{limb-digit, limb-pack, limbs-ext, limbs-below, limbs-coord, bytes-limbs}
-use Rattle.limbs.proofs.LimbLoops.{pair-low, pair-high, window-limbs}
-
-pub raised-in : (n : ℕ) (f : ℕ → ℕ) (i : ℕ) → n ≤ i → raised n f i ≡ f (i - n)
-raised-in n f i h = ap (λ t. choose t (f (i - n)) 0) (le-leb n i h)
-
-pub raised-out : (n : ℕ) (f : ℕ → ℕ) (i : ℕ) → i < n → raised n f i ≡ 0
-raised-out n f i h = ap (λ t. choose t (f (i - n)) 0) (lt-leb n i h)
-
--- only the distance from the count to the place matters
-raised-same : (f : ℕ → ℕ) (n i k j : ℕ) → n + j ≡ k + i → raised n f i ≡ raised k f j
-raised-same f n i k j e = elim (decLt i n) [
-  | yes h ↦ raised-out n f i h ∙ sym (raised-out k f j (omega arith))
-  | no h ↦ let d : i - n ≡ j - k = omega arith in raised-in n f i (omega arith) ∙ ap f d ∙ sym (raised-in k f j (omega arith))
-]
+use Rattle.limbs.proofs.LimbCoords.{limb-pack, limbs-ext, limbs-below, bytes-limbs}
+use Rattle.limbs.proofs.LimbLoops.{window-limbs}
+use Rattle.limbs.proofs.RaisedLimbs.{raised-in, raised-out, raised-same, limbOf, pairFrom, raised-coord}
+use Rattle.turns.specs.Moves.{moved, rolled}
 
 -- f moved n down
 abbrev pub lowered : ℕ → (ℕ → ℕ) → ℕ → ℕ
 lowered n f i = f (i + n)
-
--- the limbs of a list
-abbrev pub limbOf : List ℕ → ℕ → ℕ
-limbOf x w = getD x w 0
 
 -- a way to move the n limbs of x by a count: by 0 nothing moves, and two moves are one by the sum
 pub record Moves (n : ℕ) (x : List ℕ) (by : ℕ → (ℕ → ℕ) → ℕ → ℕ) : Type 0 where
@@ -106,10 +90,6 @@ module _ {n : ℕ} {x : List ℕ} {by : ℕ → (ℕ → ℕ) → ℕ → ℕ} (
       let l' : count < step = omega arith in
       done .content ∙ ap (λ k. tabulate n (by k (limbOf x))) (mod-eq-of-lt l')
 
--- two limbs in a row, from bit t of the first on
-abbrev pub pairFrom : ℕ → ℕ → ℕ → ℕ
-pairFrom t low high = value 64 (λ j. limbCoord (low ∷ high ∷ []) (t + j))
-
 -- the limbs moved by k / 64, two in a row taken from the bit where k falls
 module _ (n k : ℕ) (x : List ℕ) where
   pub lower-bits : {moved : List ℕ} → length x ≡ n → moved ≡ tabulate n (lowered (k / 64) (limbOf x))
@@ -125,30 +105,10 @@ module _ (n k : ℕ) (x : List ℕ) where
       second : (w : ℕ) → w < n → getD moved (w + 1) 0 ≡ getD x (k / 64 + w + 1) 0
       second w h = ap (λ s. getD s (w + 1) 0) e ∙ moves-down n x size .twice (k / 64) 1 w h ∙ ap (limbOf x) (omega arith)
 
-  raised-digit : (m w j : ℕ) → j < 64 → raised m (limbOf x) w / 2 ^ j % 2 ≡ raised (m * 64) (limbCoord x) (w * 64 + j)
-  raised-digit m w j l = elim (decLt w m) [
-    | yes q ↦ ap (λ y. y / 2 ^ j % 2) (raised-out m (limbOf x) w q) ∙ ap (λ y. y % 2) (zero-div (2 ^ j)) ∙ sym (raised-out (m * 64) (limbCoord x) (w * 64 + j) (omega arith))
-    | no q ↦
-        let e : (w - m) * 64 + j ≡ w * 64 + j - m * 64 = omega arith in
-        ap (λ y. y / 2 ^ j % 2) (raised-in m (limbOf x) w (omega arith)) ∙ sym (limb-digit x (w - m) j l) ∙ ap (limbCoord x) e
-        ∙ sym (raised-in (m * 64) (limbCoord x) (w * 64 + j) (omega arith))
-  ]
-
-  -- bit j of two limbs in a row, those k / 64 + 1 and k / 64 below limb w
-  pub raised-coord : (w j : ℕ) → j < 64 → limbCoord (raised (k / 64 + 1) (limbOf x) w ∷ raised (k / 64) (limbOf x) w ∷ []) (64 - k % 64 + j) ≡ raised k (limbCoord x) (w * 64 + j)
-  raised-coord w j l = elim (decLt (64 - k % 64 + j) 64) [
-    | yes q ↦
-        pair-low _ _ (64 - k % 64 + j) q ∙ raised-digit (k / 64 + 1) w (64 - k % 64 + j) q
-        ∙ raised-same (limbCoord x) ((k / 64 + 1) * 64) (w * 64 + (64 - k % 64 + j)) k (w * 64 + j) (omega arith)
-    | no q ↦
-        pair-high _ _ (64 - k % 64 + j) (omega arith) (omega arith) ∙ raised-digit (k / 64) w (64 - k % 64 + j - 64) (omega arith)
-        ∙ raised-same (limbCoord x) (k / 64 * 64) (w * 64 + (64 - k % 64 + j - 64)) k (w * 64 + j) (omega arith)
-  ]
-
   pub raise-bits : {moved : List ℕ} → moved ≡ tabulate n (raised (k / 64) (limbOf x))
       → tabulate n (λ w. pairFrom (64 - k % 64) (raised 1 (limbOf moved) w) (limbOf moved w)) ≡ packLimbs n (raised k (limbCoord x))
   unfolding packLimbs
-  raise-bits {moved} e = tabulate-ext n _ _ (λ w h. ap₂ (pairFrom (64 - k % 64)) (first w h) (second w h) ∙ value-ext 64 _ _ (λ j l. ap (λ y. y % 2) (raised-coord w j l)))
+  raise-bits {moved} e = tabulate-ext n _ _ (λ w h. ap₂ (pairFrom (64 - k % 64)) (first w h) (second w h) ∙ value-ext 64 _ _ (λ j l. ap (λ y. y % 2) (raised-coord n k x w j l)))
     where
       first : (w : ℕ) → w < n → raised 1 (limbOf moved) w ≡ raised (k / 64 + 1) (limbOf x) w
       first w h = ap (λ s. raised 1 (limbOf s) w) e ∙ moves-up n x .twice (k / 64) 1 w h
@@ -156,29 +116,43 @@ module _ (n k : ℕ) (x : List ℕ) where
       second : (w : ℕ) → w < n → getD moved w 0 ≡ raised (k / 64) (limbOf x) w
       second w h = ap (λ s. getD s w 0) e ∙ getD-tabulate n (raised (k / 64) (limbOf x)) w h
 
-parts : {s u v : ℕ} (x y : ℕ) {z : ℕ} → s ≡ (u + v) % 2 → u ≡ x % 2 → v ≡ y % 2 → x + y ≡ z → s % 2 ≡ z % 2
-parts x y p q r e = omega arith
+parts : {s u v : ℕ} (x y : ℕ) → s ≡ (u + v) % 2 → u ≡ x % 2 → v ≡ y % 2 → s % 2 ≡ (x + y) % 2
+parts x y p q r = omega arith
 
-module _ (n m k : ℕ) (x : List ℕ) (clear : (i : ℕ) → m ≤ i → limbCoord x i ≡ 0) (fits : m ≤ 64 * n) (less : k < m) where
-  -- of the two moved operands, one has the coordinate that comes to place i and the other has 0 there
-  shifted : (i : ℕ) → i < m → raised k (limbCoord x) i + limbCoord x (i + (m - k)) ≡ limbCoord x (minus m i k)
-  shifted i l = elim (decLt i k) [
-    | yes h ↦ rw (raised-out k (limbCoord x) i h, minus-round m i k h less) (omega arith)
-    | no h ↦ rw (raised-in k (limbCoord x) i (omega arith), clear (i + (m - k)) (omega arith), minus-below m i k (omega arith) l) (omega arith)
-  ]
+-- the limbs of x moved up and down, added, with the coordinates below m kept, in bytes
+pub moved-bytes : (m k : ℕ) (x l : List ℕ) {up down both low r : List ℕ} → m ≤ 64 * carriedLimbs → limbCoord l ≡ coord x
+    → up ≡ packLimbs carriedLimbs (raised k (limbCoord l)) → down ≡ packLimbs carriedLimbs (λ i. limbCoord l (i + (m - k)))
+    → both ≡ packLimbs carriedLimbs (λ i. limbCoord up i + limbCoord down i) → low ≡ packLimbs carriedLimbs (below m (limbCoord both))
+    → r ≡ pack carriedBytes (limbCoord low) → r ≡ moved m k x
+unfolding moved fromCoords
+moved-bytes m k x l {both = both} fits e eu ed eb el er =
+    er ∙ ap (λ s. pack carriedBytes (limbCoord s)) (el ∙ limbs-below carriedLimbs m (limbCoord both) _ (λ i h.
+    parts (raised k (coord x) i) (coord x (i + (m - k))) (ap (λ s. limbCoord s i) eb ∙ limb-pack carriedLimbs _ i (omega arith))
+    (ap (λ s. limbCoord s i) eu ∙ limb-pack carriedLimbs _ i (omega arith) ∙ ap (λ f. raised k f i % 2) e)
+    (ap (λ s. limbCoord s i) ed ∙ limb-pack carriedLimbs _ i (omega arith) ∙ ap (λ f. f (i + (m - k)) % 2) e)))
+    ∙ bytes-limbs _
 
-  -- the two, added, with the coordinates below m kept
-  pub shifts-turn : {up round both : List ℕ} → up ≡ packLimbs n (raised k (limbCoord x)) → round ≡ packLimbs n (λ i. limbCoord x (i + (m - k)))
-      → both ≡ packLimbs n (λ i. limbCoord up i + limbCoord round i) → packLimbs n (below m (limbCoord both)) ≡ packLimbs n (below m (λ i. limbCoord x (minus m i k)))
-  shifts-turn {up} {round} {both} eu er eb =
-      ap (λ s. packLimbs n (below m (limbCoord s))) eb
-      ∙ limbs-below n m _ (λ i. limbCoord x (minus m i k)) (λ i l.
-      parts _ _ (limb-pack n _ i (omega arith)) (ap (λ s. limbCoord s i) eu ∙ limb-pack n _ i (omega arith)) (ap (λ s. limbCoord s i) er ∙ limb-pack n _ i (omega arith)) (shifted i l))
+pub rolled-wide : {m : ℕ} (k : ℕ) (x : List ℕ) → maxWidth < m → rolled m k x ≡ x
+unfolding rolled
+rolled-wide {m} k x wide = rw (lt-leb m maxWidth wide)
 
--- the turn of an operand's limbs, in bytes
-pub turned-bytes : (m k : ℕ) (x : List ℕ) → length x ≡ carriedBytes → m ≤ 8 * carriedBytes
-    → pack carriedBytes (limbCoord (packLimbs carriedLimbs (below m (λ i. limbCoord (packLimbs carriedLimbs (coord x)) (minus m i k))))) ≡ turned m k x
-unfolding turned fromCoords
-turned-bytes m k x size fits =
-    bytes-limbs _ ∙ from-ext carriedBytes m _ (λ i. coord x (minus m i k)) (λ i l. ap (λ y. y % 2) (limbs-coord x size (minus m i k)))
-    ∙ ap (λ s. fromCoords s m (λ i. coord x (minus m i k))) (sym size)
+pub rolled-far : {m k : ℕ} (x : List ℕ) → m ≤ maxWidth → m ≤ k → rolled m k x ≡ x
+unfolding rolled
+rolled-far {m} {k} x fits far = rw (le-leb m maxWidth fits, le-ltb k m far)
+
+module _ {m k : ℕ} (fits : m ≤ maxWidth) (less : k < m) (x : List ℕ) where
+  pub rolled-moved : rolled m k x ≡ moved m k x
+  unfolding rolled
+  rolled-moved = rw (le-leb m maxWidth fits, lt-ltb k m less)
+
+  module _ (size : length x ≡ carriedBytes) (clear : (i : ℕ) → m ≤ i → coord x i ≡ 0) where
+    -- of the two moved operands, one has the coordinate that comes to place i and the other has 0 there
+    shifted : (i : ℕ) → i < m → raised k (coord x) i + coord x (i + (m - k)) ≡ coord x (minus m i k)
+    shifted i l = elim (decLt i k) [
+      | yes h ↦ rw (raised-out k (coord x) i h, minus-round m i k h less) (omega arith)
+      | no h ↦ rw (raised-in k (coord x) i (omega arith), clear (i + (m - k)) (omega arith), minus-below m i k (omega arith) l) (omega arith)
+    ]
+
+    pub rolled-turned : rolled m k x ≡ turned m k x
+    unfolding moved turned
+    rolled-turned = rolled-moved ∙ from-ext carriedBytes m _ _ (λ i l. ap (λ y. y % 2) (shifted i l)) ∙ ap (λ s. fromCoords s m (λ i. coord x (minus m i k))) (sym size)

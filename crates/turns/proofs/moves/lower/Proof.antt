@@ -1,13 +1,14 @@
--- `operand::turn::lower` meets its contract.
+-- `turns::moves::lower` meets its contract.
 use mathlib.Core.Path.{_∙_}
 use Prim.Native.Nat.{_+_, _-_, _%_}
 use native.Mathlib.Omega.{arith}
 use Rattle.gf2.proofs.Loops.{Filled, filled-none, filled-more, filled-all}
 use Rattle.limbs.specs.Limbs.{carriedLimbs}
-use Rattle.limbs.proofs.TurnLimbs.{limbOf, pairFrom, lower-bits}
+use Rattle.limbs.proofs.RaisedLimbs.{limbOf, pairFrom}
+use Rattle.turns.proofs.Turns.{lower-bits}
 use borrow.Author.Needs.{needs}
-use Rattle.operand.proofs.turn.lower.Statement.{statement}
-use Rattle.operand.proofs.turn.lower.Tie as tie
+use Rattle.turns.proofs.moves.lower.Statement.{statement}
+use Rattle.turns.proofs.moves.lower.Tie as tie
 
 abbrev Inv-loop : tie.InvT-loop
 Inv-loop k moved out₀ w₀ out w = Filled carriedLimbs (λ v. pairFrom (k % 64) (limbOf moved v) (limbOf moved (v + 1))) out₀ out w

@@ -1,11 +1,11 @@
--- `operand::turn::lower_limbs` meets its contract.
+-- `turns::moves::lower_limbs` meets its contract.
 use Prim.Native.Nat.{_-_}
 use native.Mathlib.Omega.{arith}
 use Rattle.limbs.specs.Limbs.{carriedLimbs}
-use Rattle.limbs.proofs.TurnLimbs.{lowered, Moved, moves-down, moved-none, moved-more, moved-all}
+use Rattle.turns.proofs.Turns.{lowered, Moved, moves-down, moved-none, moved-more, moved-all}
 use borrow.Author.Needs.{needs}
-use Rattle.operand.proofs.turn.lower_limbs.Statement.{statement}
-use Rattle.operand.proofs.turn.lower_limbs.Tie as tie
+use Rattle.turns.proofs.moves.lower_limbs.Statement.{statement}
+use Rattle.turns.proofs.moves.lower_limbs.Tie as tie
 
 abbrev Inv-loop : tie.InvT-loop
 Inv-loop n out₀ step₀ out step = Moved carriedLimbs lowered out₀ n out step

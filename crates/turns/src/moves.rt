@@ -1,13 +1,11 @@
-// The turn of a carried operand: its coordinates moved up, and those that leave at the width moved to the front.
-// A move is one of whole limbs, by steps that the count's binary digits choose, and one of bits, over two limbs at a time.
+// Coordinates moved up and down: a move is one of whole limbs, by steps that the count's binary digits choose, and one of bits, over two
+// limbs at a time.
 ghost use mathlib.Core.Path.{_≡_};
-ghost use mathlib.Core.Bool.{true};
-ghost use Prim.Native.Nat.{_+_, _*_, _<_, _≤_};
+ghost use Prim.Native.Nat.{_+_, _*_, _<_};
 ghost use lib.ListN.{getD};
 ghost use Rattle.gf2.specs.Coordinates.{tabulate};
-ghost use Rattle.gf2.specs.Operands.{maxWidth, choose, isClear, turned};
+ghost use Rattle.gf2.specs.Operands.{choose};
 ghost use Rattle.limbs.specs.Limbs.{carriedLimbs, limbCoord, packLimbs, raised};
-use crate::Operand;
 
 fn pick(c: bool, yes: u64, no: u64) -> u64
     ensures { λ r. ⌜ r ≡ choose c yes no ⌝ }
@@ -75,7 +73,7 @@ fn raise_limbs(x: [u64; limbs::LIMBS], n: usize) -> [u64; limbs::LIMBS]
 }
 
 // The coordinates moved k down.
-fn lower(x: [u64; limbs::LIMBS], k: usize) -> [u64; limbs::LIMBS]
+pub(crate) fn lower(x: [u64; limbs::LIMBS], k: usize) -> [u64; limbs::LIMBS]
     requires { ⌜ k < 64 * carriedLimbs ⌝ }
     ensures { λ r. ⌜ r ≡ packLimbs carriedLimbs (λ i. limbCoord x (i + k)) ⌝ }
 {
@@ -91,7 +89,7 @@ fn lower(x: [u64; limbs::LIMBS], k: usize) -> [u64; limbs::LIMBS]
 }
 
 // The coordinates moved k up.
-fn raise(x: [u64; limbs::LIMBS], k: usize) -> [u64; limbs::LIMBS]
+pub(crate) fn raise(x: [u64; limbs::LIMBS], k: usize) -> [u64; limbs::LIMBS]
     requires { ⌜ k < 64 * carriedLimbs ⌝ }
     ensures { λ r. ⌜ r ≡ packLimbs carriedLimbs (raised k (limbCoord x)) ⌝ }
 {
@@ -104,15 +102,4 @@ fn raise(x: [u64; limbs::LIMBS], k: usize) -> [u64; limbs::LIMBS]
         w += 1;
     }
     out
-}
-
-// Coordinates 0 to m-k-1 move up by k; the last k come round to the front.
-pub(crate) fn turned(x: [u8; Operand::BYTES], m: usize, k: usize) -> [u8; Operand::BYTES]
-    requires { ⌜ (m ≤ maxWidth) × (k < m) × (isClear m x ≡ true) ⌝ }
-    ensures { λ r. ⌜ r ≡ turned m k x ⌝ }
-{
-    let all = limbs::to_limbs(x);
-    let back = m - k;
-    let both = limbs::xored_limbs(raise(all, k), lower(all, back));
-    limbs::to_bytes(limbs::low_limbs(both, m))
 }

@@ -1,11 +1,11 @@
--- `operand::turn::raise_limbs` meets its contract.
+-- `turns::moves::raise_limbs` meets its contract.
 use Prim.Native.Nat.{_-_}
 use native.Mathlib.Omega.{arith}
 use Rattle.limbs.specs.Limbs.{carriedLimbs, raised}
-use Rattle.limbs.proofs.TurnLimbs.{Moved, moves-up, moved-none, moved-more, moved-all}
+use Rattle.turns.proofs.Turns.{Moved, moves-up, moved-none, moved-more, moved-all}
 use borrow.Author.Needs.{needs}
-use Rattle.operand.proofs.turn.raise_limbs.Statement.{statement}
-use Rattle.operand.proofs.turn.raise_limbs.Tie as tie
+use Rattle.turns.proofs.moves.raise_limbs.Statement.{statement}
+use Rattle.turns.proofs.moves.raise_limbs.Tie as tie
 
 abbrev Inv-loop : tie.InvT-loop
 Inv-loop n out₀ step₀ out step = Moved carriedLimbs raised out₀ n out step

@@ -1,14 +1,14 @@
--- `operand::turn::raise_if` meets its contract.
+-- `turns::moves::raise_if` meets its contract.
 use mathlib.Core.Path.{_∙_}
 use Prim.Native.Nat.{_-_}
 use native.Mathlib.Omega.{arith}
 use Rattle.gf2.specs.Operands.{choose}
 use Rattle.gf2.proofs.Loops.{Filled, filled-none, filled-more, filled-all}
 use Rattle.limbs.specs.Limbs.{carriedLimbs, raised}
-use Rattle.limbs.proofs.TurnLimbs.{limbOf}
+use Rattle.limbs.proofs.RaisedLimbs.{limbOf}
 use borrow.Author.Needs.{needs}
-use Rattle.operand.proofs.turn.raise_if.Statement.{statement}
-use Rattle.operand.proofs.turn.raise_if.Tie as tie
+use Rattle.turns.proofs.moves.raise_if.Statement.{statement}
+use Rattle.turns.proofs.moves.raise_if.Tie as tie
 
 abbrev Inv-loop : tie.InvT-loop
 Inv-loop c n x out₀ w₀ out w = Filled carriedLimbs (λ v. choose c (raised n (limbOf x) v) (limbOf x v)) out₀ out w

@@ -1,13 +1,14 @@
--- `operand::turn::raise` meets its contract.
+-- `turns::moves::raise` meets its contract.
 use mathlib.Core.Path.{_∙_}
 use Prim.Native.Nat.{_-_, _%_}
 use native.Mathlib.Omega.{arith}
 use Rattle.gf2.proofs.Loops.{Filled, filled-none, filled-more, filled-all}
 use Rattle.limbs.specs.Limbs.{carriedLimbs, raised}
-use Rattle.limbs.proofs.TurnLimbs.{limbOf, pairFrom, raise-bits}
+use Rattle.limbs.proofs.RaisedLimbs.{limbOf, pairFrom}
+use Rattle.turns.proofs.Turns.{raise-bits}
 use borrow.Author.Needs.{needs}
-use Rattle.operand.proofs.turn.raise.Statement.{statement}
-use Rattle.operand.proofs.turn.raise.Tie as tie
+use Rattle.turns.proofs.moves.raise.Statement.{statement}
+use Rattle.turns.proofs.moves.raise.Tie as tie
 
 abbrev Inv-loop : tie.InvT-loop
 Inv-loop k moved out₀ w₀ out w = Filled carriedLimbs (λ v. pairFrom (64 - k % 64) (raised 1 (limbOf moved) v) (limbOf moved v)) out₀ out w
