@@ -3,7 +3,6 @@ ghost use mathlib.Core.Path.{_≡_};
 ghost use Prim.Native.Nat.{_<_, _≤_};
 ghost use Rattle.judging.specs.Faults.{numberOf};
 ghost use Rattle.card_writer.specs.Calls.{writeCard};
-use crate::printing;
 use operand::Operand;
 use operand::OperandAnswer;
 
@@ -125,18 +124,4 @@ pub(crate) fn card(width: usize, table: &[u8])
     let card = &mut whole[..3 * width + 1];
     written(width, table, card);
     read(width, table, card);
-}
-
-// A point under the drawn table of its width: whether it lies on the curve, and whether it does with one bit of y changed.
-pub(crate) fn point(text: &[u8], width: usize, a: &[u8], b: &[u8], x: &[u8], y: &[u8])
-    requires { ⌜ width ≤ 233 ⌝ }
-    ensures { λ _. ⊤ₛ }
-{
-    let mut buffer = [0u8; 6990];
-    let whole: &mut [u8] = &mut buffer;
-    let table = &mut whole[..width * limbs::bytes_for(width)];
-    let answer = gaussian::draw(width, table);
-    let on = curves::lies(width, table, a, b, x, y, b"0") as usize;
-    let changed = curves::lies(width, table, a, b, x, y, b"1") as usize;
-    printing::line(text, [answer.t, on, changed, 0]);
 }

@@ -1,7 +1,5 @@
-// Document 01's examples that are not starred, and the published points, run through the proved calls.
+// Document 01's examples that are not starred, run through the proved calls.
 mod examples;
-mod points;
-mod printing;
 
 fn lists()
     ensures { λ _. ⊤ₛ }
@@ -43,5 +41,4 @@ fn main() {
     examples::drawn(5);
     lists();
     cards();
-    points::all();
 }

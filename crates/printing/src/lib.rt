@@ -1,4 +1,5 @@
-// Printing on standard output. No contract can say what is written: of these calls it is proved that they are safe and end.
+// Texts, bytes and words on standard output, for the test programs. No contract can say what is written: of these calls it is proved that
+// they are safe and end.
 ghost use Prim.Native.Nat.{_<_};
 use libc::STDOUT_FILENO;
 
@@ -23,7 +24,7 @@ fn mark(byte: u8, numbers: [usize; 4], next: usize) -> usize
 }
 
 // A text with up to four numbers at its marks.
-pub(crate) fn line(text: &[u8], numbers: [usize; 4])
+pub fn line(text: &[u8], numbers: [usize; 4])
     ensures { λ _. ⊤ₛ }
 {
     let mut next = 0;
@@ -35,7 +36,7 @@ pub(crate) fn line(text: &[u8], numbers: [usize; 4])
 }
 
 // Each byte in hexadecimal, after a space, and the end of the line.
-pub(crate) fn bytes(s: &[u8])
+pub fn bytes(s: &[u8])
     ensures { λ _. ⊤ₛ }
 {
     let mut i = 0;
@@ -48,7 +49,7 @@ pub(crate) fn bytes(s: &[u8])
 }
 
 // Each word in decimal, after a space, and the end of the line.
-pub(crate) fn words(s: &[u32])
+pub fn words(s: &[u32])
     ensures { λ _. ⊤ₛ }
 {
     let mut i = 0;

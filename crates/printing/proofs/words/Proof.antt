@@ -1,10 +1,10 @@
--- `vectors::printing::words` meets its contract.
+-- `printing::words` meets its contract.
 use Prim.Native.Nat.{_-_, _≤_}
 use native.Mathlib.Omega.{arith}
 use lib.ListN.{length}
 use borrow.Author.Needs.{needs}
-use Rattle.vectors.proofs.printing.words.Statement.{statement}
-use Rattle.vectors.proofs.printing.words.Tie as tie
+use Rattle.printing.proofs.words.Statement.{statement}
+use Rattle.printing.proofs.words.Tie as tie
 
 abbrev Inv-loop : tie.InvT-loop
 Inv-loop s i₀ i = i ≤ length s

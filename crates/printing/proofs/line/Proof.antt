@@ -1,9 +1,9 @@
--- `vectors::printing::line` meets its contract.
+-- `printing::line` meets its contract.
 use Prim.Native.Nat.{_-_, _<_, _≤_}
 use lib.ListN.{length}
 use borrow.Author.Needs.{needs}
-use Rattle.vectors.proofs.printing.line.Statement.{statement}
-use Rattle.vectors.proofs.printing.line.Tie as tie
+use Rattle.printing.proofs.line.Statement.{statement}
+use Rattle.printing.proofs.line.Tie as tie
 
 abbrev Inv-loop : tie.InvT-loop
 Inv-loop text numbers next₀ at₀ next at = (at ≤ length text) × (next < 4)

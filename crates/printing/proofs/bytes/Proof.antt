@@ -1,10 +1,10 @@
--- `vectors::printing::bytes` meets its contract.
+-- `printing::bytes` meets its contract.
 use Prim.Native.Nat.{_-_, _≤_}
 use native.Mathlib.Omega.{arith}
 use lib.ListN.{length}
 use borrow.Author.Needs.{needs}
-use Rattle.vectors.proofs.printing.bytes.Statement.{statement}
-use Rattle.vectors.proofs.printing.bytes.Tie as tie
+use Rattle.printing.proofs.bytes.Statement.{statement}
+use Rattle.printing.proofs.bytes.Tie as tie
 
 abbrev Inv-loop : tie.InvT-loop
 Inv-loop s i₀ i = i ≤ length s

@@ -1,17 +1,17 @@
--- `vectors::examples::point` meets its contract.
+-- `points::point` meets its contract.
 use mathlib.Core.Path.{sym}
 use Prim.Native.Nat.{ℕ, _*_, _≤_}
 use native.Mathlib.Nat.{mul-le-mul}
 use native.Mathlib.Omega.{arith}
 use lib.Seq.{length-take-le}
-use Rattle.gf2.specs.Operands.{bytesFor}
+use Rattle.gf2.specs.Operands.{maxWidth, carriedBytes, bytesFor}
 use borrow.Author.Needs.{needs}
-use Rattle.vectors.proofs.examples.point.Statement.{statement}
-use Rattle.vectors.proofs.examples.point.Tie as tie
+use Rattle.points.proofs.point.Statement.{statement}
+use Rattle.points.proofs.point.Tie as tie
 
--- the table of width 233 has 6990 bytes
-room : (m : ℕ) → m ≤ 233 → m * bytesFor m ≤ 6990
-room m h = mul-le-mul {n₁ = m} {m₁ = bytesFor m} {n₂ = 233} {m₂ = 30} h (omega arith)
+-- a table has room in carried bytes
+room : (m : ℕ) → m ≤ maxWidth → m * bytesFor m ≤ maxWidth * carriedBytes
+room m h = mul-le-mul {n₁ = m} {m₁ = bytesFor m} {n₂ = maxWidth} {m₂ = carriedBytes} h (omega arith)
 
 mul-whole : tie.Need-mul-whole
 mul-whole c =
