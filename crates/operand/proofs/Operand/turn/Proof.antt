@@ -38,4 +38,5 @@ turn-spec =
     (λ c κs. search needs) (λ c κs e. width (c .before .before .before .before) .greatest)
     (λ c. c .answered .ensures ∙ answer-same _ (whole (c .before .before .before .before)) (λ e.
     let s = c .before .before .before in
-    turn-made _ _ (s .before .before .before .before .before .before .before .args .self .bytes) (width (s .before .before) .greatest) (size (s .before .before)) (s .before .judge-turn .ensures) (s .is-none2 .ensures) (not-false _ (c .before .before .if2 .left)) (c .before .rolled .ensures))))
+    let w = s .before .before in
+    turn-made _ _ (w .before .before .before .before .before .args .self .bytes) (width w .greatest) (size w) (s .before .judge-turn .ensures) (s .is-none2 .ensures) (not-false _ (c .before .before .if2 .left)) (c .before .rolled .ensures))))
