@@ -253,6 +253,10 @@ module _ (m : ℕ) (table : List ℕ) where
   unfolding card
   card-in h = record { within = omega (arith, card-most m table h) }
 
+  -- the rows have room from any place on that isn't after theirs
+  pub rows-in : m ≤ maxWidth → {next : ℕ} → next ≤ length (number 1) + length (number m) → InCard next (rowsCard m table 0 m)
+  rows-in h l = record { within = omega (arith, card-in h .within, length-append (number 1) (number m ++ rowsCard m table 0 m), length-append (number m) (rowsCard m table 0 m)) }
+
   pub card-put : {form rows end : ℕ} {old a b new : List ℕ} → CardPut 0 (number 1) form old a → CardPut form (number m) rows a b → CardPut rows (rowsCard m table 0 m) end b new
       → CardPut 0 (card m table) end old new
   unfolding card

@@ -63,13 +63,26 @@ pub put-most : {n k : ℕ} {old out : List ℕ} {a : List Gate} (m : ℕ) → Ga
 put-most m x h = omega (arith, x .next)
 
 -- the gates of the numbers below j, one after another
-pub put-start : (n : ℕ) (old : List ℕ) (f : ℕ → List Gate) → GatesPut n old (each 0 f) n old
-unfolding each
-put-start n old f = put-none n old
-
 pub put-next : {n k q : ℕ} {old mid out : List ℕ} (f : ℕ → List Gate) (j : ℕ) → GatesPut n old (each j f) k mid → GatesPut k mid (f j) q out → GatesPut n old (each (j + 1) f) q out
 unfolding each
 put-next f j x y = rw add-one (put-more x y)
+
+-- the loop that stores the gates of the numbers below m: those of the numbers below j are stored
+pub record PutTo (m : ℕ) (f : ℕ → List Gate) (n : ℕ) (old out : List ℕ) (k j : ℕ) : Type 0 where
+  pub most : j ≤ m
+  pub put : GatesPut n old (each j f) k out
+  pub size : length out ≡ length old
+
+pub to-none : (m : ℕ) (f : ℕ → List Gate) (n : ℕ) (old : List ℕ) → PutTo m f n old old n 0
+unfolding each
+to-none m f n old = record { most = omega arith; put = put-none n old; size = refl }
+
+module _ {m : ℕ} {f : ℕ → List Gate} {n k j : ℕ} {old mid : List ℕ} (to : PutTo m f n old mid k j) where
+  pub to-next : {q : ℕ} {out : List ℕ} → j < m → GatesPut k mid (f j) q out → length out ≡ length mid → PutTo m f n old out q (j + 1)
+  to-next l p size = record { most = omega arith; put = put-next f j (to .put) p; size = size ∙ to .size }
+
+  pub to-all : m ≤ j → GatesPut n old (each m f) k mid
+  to-all h = let e : j ≡ m = omega (arith, to .most) in rw e at (to .put)
 
 -- the gates of pairs
 gate-most : (mixed : Bool) (m i j : ℕ) → length (pairGate mixed m i j) ≤ 1

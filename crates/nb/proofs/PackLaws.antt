@@ -89,6 +89,13 @@ each-small (c ∷ cs) e = let p = and-both (isSmall (c .fault)) (areSmall cs) e 
 pub small-causes : (cs : List Cause) → areSmall cs ≡ true → isSmall (faultOf cs) ≡ true
 small-causes cs e = keeps IsSmall none-small cs (each-small cs e)
 
+-- an answer with nothing beside its fault, which is that of a list of causes: it has room, and what the call leaves beside it
+pub packs-causes : {f : Fault} (cs : List Cause) → f ≡ faultOf cs → areSmall cs ≡ true → Packs f 0 0
+packs-causes cs e s = packs e (small-causes cs s)
+
+pub answered : {f g : Fault} {r : ℕ} {Q : Type 0} → r ≡ packedAnswer f 0 0 → f ≡ g → Q → (r ≡ packedAnswer g 0 0) × Q
+answered e h q = (e ∙ ap (λ f. packedAnswer f 0 0) h, q)
+
 pub small-both : (cs ds : List Cause) → isSmall (faultOf cs) ≡ true → (Fine cs → isSmall (faultOf ds) ≡ true) → isSmall (faultOf (cs ++ ds)) ≡ true
 small-both = keeps-both IsSmall none-small
 

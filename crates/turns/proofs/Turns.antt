@@ -18,7 +18,7 @@ use Rattle.limbs.specs.Limbs.{carriedLimbs, limbCoord, packLimbs, raised}
 use Rattle.limbs.proofs.LimbCoords.{limb-pack, limbs-ext, limbs-below, bytes-limbs}
 use Rattle.limbs.proofs.LimbLoops.{window-limbs}
 use Rattle.limbs.proofs.RaisedLimbs.{raised-in, raised-out, raised-same, limbOf, pairFrom, raised-coord}
-use Rattle.turns.specs.Moves.{moved, rolled}
+use Rattle.turns.specs.Moves.{bothMoves, rolled}
 
 -- f moved n down
 abbrev pub lowered : ℕ → (ℕ → ℕ) → ℕ → ℕ
@@ -120,12 +120,12 @@ parts : {s u v : ℕ} (x y : ℕ) → s ≡ (u + v) % 2 → u ≡ x % 2 → v �
 parts x y p q r = omega arith
 
 -- the limbs of x moved up and down, added, with the coordinates below m kept, in bytes
-pub moved-bytes : (m k : ℕ) (x l : List ℕ) {up down both low r : List ℕ} → m ≤ 64 * carriedLimbs → limbCoord l ≡ coord x
+pub both-bytes : (m k : ℕ) (x l : List ℕ) {up down both low r : List ℕ} → m ≤ 64 * carriedLimbs → limbCoord l ≡ coord x
     → up ≡ packLimbs carriedLimbs (raised k (limbCoord l)) → down ≡ packLimbs carriedLimbs (λ i. limbCoord l (i + (m - k)))
     → both ≡ packLimbs carriedLimbs (λ i. limbCoord up i + limbCoord down i) → low ≡ packLimbs carriedLimbs (below m (limbCoord both))
-    → r ≡ pack carriedBytes (limbCoord low) → r ≡ moved m k x
-unfolding moved fromCoords
-moved-bytes m k x l {both = both} fits e eu ed eb el er =
+    → r ≡ pack carriedBytes (limbCoord low) → r ≡ bothMoves m k x
+unfolding bothMoves fromCoords
+both-bytes m k x l {both = both} fits e eu ed eb el er =
     er ∙ ap (λ s. pack carriedBytes (limbCoord s)) (el ∙ limbs-below carriedLimbs m (limbCoord both) _ (λ i h.
     parts (raised k (coord x) i) (coord x (i + (m - k))) (ap (λ s. limbCoord s i) eb ∙ limb-pack carriedLimbs _ i (omega arith))
     (ap (λ s. limbCoord s i) eu ∙ limb-pack carriedLimbs _ i (omega arith) ∙ ap (λ f. raised k f i % 2) e)
@@ -141,9 +141,9 @@ unfolding rolled
 rolled-far {m} {k} x fits far = rw (le-leb m maxWidth fits, le-ltb k m far)
 
 module _ {m k : ℕ} (fits : m ≤ maxWidth) (less : k < m) (x : List ℕ) where
-  pub rolled-moved : rolled m k x ≡ moved m k x
+  pub rolled-both : rolled m k x ≡ bothMoves m k x
   unfolding rolled
-  rolled-moved = rw (le-leb m maxWidth fits, lt-ltb k m less)
+  rolled-both = rw (le-leb m maxWidth fits, lt-ltb k m less)
 
   module _ (size : length x ≡ carriedBytes) (clear : (i : ℕ) → m ≤ i → coord x i ≡ 0) where
     -- of the two moved operands, one has the coordinate that comes to place i and the other has 0 there
@@ -154,5 +154,5 @@ module _ {m k : ℕ} (fits : m ≤ maxWidth) (less : k < m) (x : List ℕ) where
     ]
 
     pub rolled-turned : rolled m k x ≡ turned m k x
-    unfolding moved turned
-    rolled-turned = rolled-moved ∙ from-ext carriedBytes m _ _ (λ i l. ap (λ y. y % 2) (shifted i l)) ∙ ap (λ s. fromCoords s m (λ i. coord x (minus m i k))) (sym size)
+    unfolding bothMoves turned
+    rolled-turned = rolled-both ∙ from-ext carriedBytes m _ _ (λ i l. ap (λ y. y % 2) (shifted i l)) ∙ ap (λ s. fromCoords s m (λ i. coord x (minus m i k))) (sym size)

@@ -7,9 +7,9 @@ use Rattle.gf2.specs.Operands.{maxWidth, carriedBytes, choose, fromCoords}
 use Rattle.limbs.specs.Limbs.{raised}
 
 -- the coordinates moved k up, and those moved m - k down, added as far as the width goes
-unfoldable pub moved : ℕ → ℕ → List ℕ → List ℕ
-moved m k x = fromCoords carriedBytes m (λ i. raised k (coord x) i + coord x (i + (m - k)))
+unfoldable pub bothMoves : ℕ → ℕ → List ℕ → List ℕ
+bothMoves m k x = fromCoords carriedBytes m (λ i. raised k (coord x) i + coord x (i + (m - k)))
 
 -- the same where k is below m and m a width that is carried, else what was given
 unfoldable pub rolled : ℕ → ℕ → List ℕ → List ℕ
-rolled m k x = choose (leb m maxWidth) (choose (ltb k m) (moved m k x) x) x
+rolled m k x = choose (leb m maxWidth) (choose (ltb k m) (bothMoves m k x) x) x

@@ -2,7 +2,7 @@
 ghost use mathlib.Core.Path.{_≡_};
 ghost use Prim.Native.Nat.{_<_, _≤_};
 ghost use Rattle.gf2.specs.Operands.{maxWidth};
-ghost use Rattle.turns.specs.Moves.{moved, rolled};
+ghost use Rattle.turns.specs.Moves.{bothMoves, rolled};
 use moves::lower;
 use moves::raise;
 
@@ -11,7 +11,7 @@ mod moves;
 // Coordinates 0 to m-k-1 move up by k; the last k come round to the front.
 fn both_moves(x: [u8; limbs::BYTES], m: usize, k: usize) -> [u8; limbs::BYTES]
     requires { ⌜ (m ≤ maxWidth) × (k < m) ⌝ }
-    ensures { λ r. ⌜ r ≡ moved m k x ⌝ }
+    ensures { λ r. ⌜ r ≡ bothMoves m k x ⌝ }
 {
     let all = limbs::to_limbs(x);
     let back = m - k;

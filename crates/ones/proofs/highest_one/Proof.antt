@@ -18,10 +18,10 @@ loop-holds : tie.Need-loop-holds Inv-loop μ-loop
 loop-holds c = omega arith
 
 add-found : tie.Need-add-found Inv-loop μ-loop
-add-found c = omega (arith, log2-half (c .before .loop .rest) (c .loop-test .taken), log2-le (c .before .before .args .n))
+add-found c = omega (arith, log2-half (c .before .loop .rest) (omega arith), log2-le (c .before .before .args .n))
 
 loop-again : tie.Need-loop-again Inv-loop μ-loop
-loop-again c = omega (arith, log2-half (c .before .loop .rest) (c .loop-test .taken))
+loop-again c = omega (arith, log2-half (c .before .loop .rest) (omega arith))
 
 returns : tie.Need-returns Inv-loop μ-loop
 returns c = omega (arith, log2-small (c .before .loop .rest) (omega arith))

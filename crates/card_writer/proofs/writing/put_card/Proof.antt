@@ -1,6 +1,6 @@
 -- `card_writer::writing::put_card` meets its contract.
 use native.Mathlib.Omega.{arith}
-use Rattle.card_writer.proofs.WriteSteps.{in-second, card-in, card-put}
+use Rattle.card_writer.proofs.WriteSteps.{in-second, card-in, rows-in, card-put}
 use borrow.Author.Needs.{needs}
 use Rattle.card_writer.proofs.writing.put_card.Statement.{statement}
 use Rattle.card_writer.proofs.writing.put_card.Tie as tie
@@ -16,7 +16,7 @@ put-rows-requires c κs =
     let w = c .before .before .before in
     let f = w .before .before .before .before in
     let s = f .before .before .before .before in
-    (s .pre, omega arith, in-second (w .put-number2 .ensures) (in-second (f .put-number .ensures) (card-in _ _ (s .pre .greatest))))
+    (s .pre, omega arith, rows-in _ _ (s .pre .greatest) (omega (arith, w .put-number2 .ensures .ends, f .put-number .ensures .ends)))
 
 returns : tie.Need-returns
 returns c =

@@ -1,6 +1,7 @@
 -- `card_writer::writing::put_number` meets its contract.
 use mathlib.Core.Path.{ap, _∙_}
 use Prim.Native.Nat.{_+_, _/_}
+use native.Mathlib.Omega.{arith}
 use lib.ListN.{set}
 use Rattle.card_writer.proofs.WriteSteps.{put-short, put-long, put-into}
 use borrow.Author.Needs.{needs}
@@ -11,7 +12,7 @@ returns : tie.Need-returns
 returns c =
     let s = c .before .before .before .before in
     let a = s .before .before .args in
-    put-into (c .before .before .put .ensures) (put-short (a .n) (a .at) (a .out .now) (s .if1 .taken))
+    put-into (c .before .before .put .ensures) (put-short (a .n) (a .at) (a .out .now) (omega (arith, s .if1 .taken)))
 
 returns-2 : tie.Need-returns-2
 returns-2 c =

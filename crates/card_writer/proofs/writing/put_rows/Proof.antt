@@ -16,12 +16,12 @@ put-row-requires : tie.Need-put-row-requires Inv-loop μ-loop
 put-row-requires c κs =
     let l = c .before .before in
     let p = l .before .before .before .pre in
-    (p .0, omega (arith, c .before .loop-test .taken, p .1), rows-fits (l .loop .inv) (p .2) (c .before .loop-test .taken))
+    (p .0, omega (arith, c .before .loop-test .taken, p .1), rows-fits (l .loop .inv) (p .2) (omega (arith, c .before .loop-test .taken)))
 
 loop-again : tie.Need-loop-again Inv-loop μ-loop
 loop-again c =
     let l = c .before .before .before .before in
-    rows-more (l .before .loop .inv) (l .loop-test .taken) (c .before .before .put-row .ensures)
+    rows-more (l .before .loop .inv) (omega (arith, l .loop-test .taken)) (c .before .before .put-row .ensures)
 
 pub put-rows-spec : {M : Type 1} → statement M
 put-rows-spec =

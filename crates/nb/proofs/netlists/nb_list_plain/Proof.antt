@@ -6,14 +6,9 @@ use borrow.Author.Needs.{needs}
 use Rattle.nb.proofs.netlists.nb_list_plain.Statement.{statement}
 use Rattle.nb.proofs.netlists.nb_list_plain.Tie as tie
 
-both-requires : tie.Need-both-requires
-both-requires c κs =
-    let s = c .before .before in
-    let a = s .before .before .before .before .args in
-    plain-list-packs (a .width) (a .table .now) (a .out .now) (s .list-plain .ensures .0)
-
-returns : tie.Need-returns
-returns c = (c .both .ensures ∙ ap countsAnswer (c .before .before .before .list-plain .ensures .0), c .before .before .before .list-plain .ensures .1)
-
 pub nb-list-plain-spec : {M : Type 1} → statement M
-nb-list-plain-spec = tie.close (tie.spec (λ c κs. search needs) both-requires (λ c. search needs) returns)
+nb-list-plain-spec =
+    tie.close
+    (tie.spec (λ c κs. search needs) (λ c κs. let a = c .before .before .before .before .before .before .args in
+    plain-list-packs (a .width) (a .table .now) (a .out .now) (c .before .before .list-plain .ensures .0)) (λ c. search needs)
+    (λ c. let s = c .before .before .before .list-plain .ensures in (c .both .ensures ∙ ap countsAnswer (s .0), s .1)))

@@ -1,19 +1,14 @@
 -- `nb::netlists::nb_run` meets its contract.
 use mathlib.Core.Path.{refl, ap, _∙_}
-use Rattle.runner.specs.Causes.{runBytesCauses}
 use Rattle.runner.specs.Calls.{runBytesResult, runBytesWires}
 use Rattle.nb.specs.Packing.{packedAnswer, isSmall}
-use Rattle.nb.proofs.PackLaws.{packs, small-causes}
+use Rattle.nb.proofs.PackLaws.{packs-causes}
 use borrow.Author.Needs.{needs}
 use Rattle.nb.proofs.netlists.nb_run.Statement.{statement}
 use Rattle.nb.proofs.netlists.nb_run.Tie as tie
 
 answer-requires : tie.Need-answer-requires
-answer-requires c κs =
-    let s = c .before .before .before .before in
-    let start = s .before .before .before .before .before .before in
-    let a = start .before .before .args in
-    packs (s .run-bytes .ensures .0) (unfold isSmall in small-causes (runBytesCauses (a .width) (a .list .now) (a .a .now) (a .b .now) (a .result .now) (a .wires .now)) refl)
+answer-requires c κs = packs-causes _ (c .before .before .before .before .run-bytes .ensures .0) (unfold isSmall in refl)
 
 returns : tie.Need-returns
 returns c =

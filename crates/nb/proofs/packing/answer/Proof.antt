@@ -19,7 +19,7 @@ pack-requires-2 c κs =
     let s = c .before .before .before in
     let room = small-of (s .args .fault) (s .pre .0) in
     let e = c .number .ensures in
-    (rw (e .0) (room .number), rw (e .1) (room .first), rw (e .2) (room .second))
+    (omega (arith, e .0, room .number), omega (arith, e .1, e .2, room .first, room .second), omega (arith, e .1, e .2, room .first, room .second))
 
 returns-2 : tie.Need-returns-2
 unfolding packedAnswer packedFault
