@@ -15,7 +15,7 @@ use Rattle.card.specs.Rows.{rowsCard, readRows}
 unfoldable pub card : ℕ → List ℕ → List ℕ
 card m table = number 1 ++ (number m ++ rowsCard m table 0 m)
 
--- 1: "width not 2..255"; "11 following its width": "lent output shorter than needed", m·W bytes
+-- 1: "width not 2..571"; "11 following its width": "lent output shorter than needed", m·W bytes
 abbrev pub lentCauses : ℕ → ℕ → List Cause
 lentCauses room m = badWidth m ∷ tooShort room (m * bytesFor m) ∷ []
 

@@ -15,7 +15,7 @@ use Rattle.gaussian.specs.Causes.{typeCauses, drawCauses}
 unfoldable pub answer : Fault → ℕ → TypeAnswer
 answer f m = record { fault = f; t = choose (isNone f) (typeOf m) 0 }
 
--- "A fixed list holds the type of each width 2 to 255"
+-- "A fixed list holds the type of each width 2 to 571"
 abbrev pub typeCall : ℕ → TypeAnswer
 typeCall m = answer (faultOf (typeCauses m)) m
 

@@ -17,7 +17,7 @@ pub record Listed (m t : ℕ) : Type 0 where
   -- and there no T at all is a type
   pub never : 8 ∣ m → (s : ℕ) → ¬ IsType m s
 
--- "A fixed list holds the type of each width 2 to 255"
+-- "A fixed list holds the type of each width 2 to 571"
 abbrev pub TypeList : Type 0
 TypeList = (m : ℕ) → 2 ≤ m → m ≤ maxWidth → Listed m (typeOf m)
 

@@ -9,17 +9,17 @@ use lib.Dec.{ltb, eqb}
 use Rattle.gf2.specs.Sums.{every}
 use Rattle.gf2.specs.Coordinates.{coord, pack}
 
--- "m is the width, 2 to 255"
+-- "m is the width, 2 to 255", and by document 02, (a), to 571
 abbrev pub maxWidth : ℕ
-maxWidth = 255
+maxWidth = 571
 
 -- "W is m/8 rounded up"
 abbrev pub bytesFor : ℕ → ℕ
 bytesFor m = (m + 7) / 8
 
--- "Inside the program an operand is carried as 32 bytes"
+-- "Inside the program an operand is carried as 32 bytes", and by document 02, (a), as 72
 abbrev pub carriedBytes : ℕ
-carriedBytes = 32
+carriedBytes = 72
 
 -- "All subscripts are taken modulo m": i - k
 unfoldable pub minus : ℕ → ℕ → ℕ → ℕ
@@ -59,7 +59,7 @@ below m f i = choose (ltb i m) (f i) 0
 unfoldable pub fromCoords : ℕ → ℕ → (ℕ → ℕ) → List ℕ
 fromCoords n m f = pack n (below m f)
 
--- "Inside the program an operand is carried as 32 bytes": the coordinates of W bytes
+-- "Inside the program an operand is carried as 72 bytes": the coordinates of W bytes
 abbrev pub carriedBy : List ℕ → List ℕ
 carriedBy a = pack carriedBytes (coord a)
 

@@ -19,7 +19,7 @@ pub not-not : (b : Bool) → not b ≡ false → b ≡ true
 not-not true e = refl
 not-not false e = sym e
 
--- a width: "m is the width, 2 to 255"
+-- a width: "m is the width, 2 to 571"
 pub record IsWidth (m : ℕ) : Type 0 where
   pub least : 2 ≤ m
   pub greatest : m ≤ maxWidth

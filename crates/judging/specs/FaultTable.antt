@@ -16,11 +16,11 @@ use Rattle.judging.specs.declared.fault.Fault.the-variants.{Width, Lengt
 use Rattle.judging.specs.declared.fault.CallFault.the-variants.{TurnCount, InverseOfZero, TraceOne, OutputShort}
 use Rattle.judging.specs.Causes.{Cause, from}
 
--- "width not 2..255"
+-- "width not 2..571"
 abbrev pub BadWidth : ℕ → Type 0
 BadWidth m = ¬ ((2 ≤ m) × (m ≤ maxWidth))
 
--- 1: "width not 2..255"
+-- 1: "width not 2..571"
 abbrev pub badWidth : ℕ → Cause
 badWidth m =
     record { Holds = BadWidth m; test = not (leb 2 m && leb m maxWidth); exact = width-decides m; fault = Width; numbered = refl }

@@ -10,6 +10,7 @@ pub use fault::is_none;
 pub use fault::number;
 pub use parts::judge_both_high;
 pub use parts::judge_high;
+pub use parts::judge_high_of;
 pub use parts::judge_length;
 pub use parts::judge_pair_sizes;
 pub use parts::judge_pair_widths;

@@ -115,6 +115,17 @@ pub fn judge_high(x: [u8; limbs::BYTES], width: usize) -> Fault
     }
 }
 
+// The bits of an operand of W bytes.
+pub fn judge_high_of(s: &[u8], width: usize) -> Fault
+    ensures { λ r. ⌜ r ≡ faultOf (highBit width (now (s .entry)) ∷ []) ⌝ }
+{
+    if limbs::is_clear_slice(s, width) {
+        Fault::None
+    } else {
+        Fault::HighBit
+    }
+}
+
 // The bits of two operands.
 pub fn judge_both_high(x: [u8; limbs::BYTES], m: usize, y: [u8; limbs::BYTES], n: usize) -> Fault
     ensures { λ r. ⌜ r ≡ faultOf (highBit m x ∷ highBit n y ∷ []) ⌝ }

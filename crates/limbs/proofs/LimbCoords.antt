@@ -159,17 +159,22 @@ bytes-of n x = pack-of n _ (limbCoord x) (λ b h. mod-lt _ (omega arith)) (λ b 
     mod-bit _ 8 j l ∙ ap (λ y. y % 2) (shr-shr (getD x (b / 8) 0) (8 * (b % 8)) j)
     ∙ sym (limb-digit x (b / 8) (8 * (b % 8) + j) (omega arith)) ∙ ap (limbCoord x) (omega arith) ∙ sym (mod-eq-of-lt (limb-lt x _)))
 
--- the limbs of a carried operand have its coordinates
-pub limbs-coord : (x : List ℕ) → length x ≡ carriedBytes → (i : ℕ) → limbCoord (packLimbs carriedLimbs (coord x)) i ≡ coord x i
-limbs-coord x size i = elim (decLt i (64 * carriedLimbs)) [
-  | yes h ↦ limb-pack carriedLimbs (coord x) i h ∙ mod-eq-of-lt (coord-lt x i)
-  | no h ↦ limb-past _ i (omega (arith, length-limbs carriedLimbs (coord x))) ∙ sym (coord-past x i (omega arith))
+-- the limbs of bytes have their coordinates
+pub slice-coord : (s : List ℕ) → length s ≤ carriedBytes → (i : ℕ) → limbCoord (packLimbs carriedLimbs (coord s)) i ≡ coord s i
+slice-coord s short i = elim (decLt i (64 * carriedLimbs)) [
+  | yes h ↦ limb-pack carriedLimbs (coord s) i h ∙ mod-eq-of-lt (coord-lt s i)
+  | no h ↦ limb-past _ i (omega (arith, length-limbs carriedLimbs (coord s))) ∙ sym (coord-past s i (omega arith))
 ]
 
-pub limbs-same : (x : List ℕ) {limbs : List ℕ} → limbs ≡ packLimbs carriedLimbs (coord x) → length x ≡ carriedBytes → limbCoord limbs ≡ coord x
-limbs-same x e size = ap limbCoord e ∙ fun-ext (limbs-coord x size)
+pub slice-same : (s : List ℕ) {l : List ℕ} → l ≡ packLimbs carriedLimbs (coord s) → length s ≤ carriedBytes → limbCoord l ≡ coord s
+slice-same s e short = ap limbCoord e ∙ fun-ext (slice-coord s short)
 
--- limbs made from coordinates, in bytes
+pub limbs-coord : (x : List ℕ) → length x ≡ carriedBytes → (i : ℕ) → limbCoord (packLimbs carriedLimbs (coord x)) i ≡ coord x i
+limbs-coord x size = slice-coord x (omega (arith, size))
+
+pub limbs-same : (x : List ℕ) {l : List ℕ} → l ≡ packLimbs carriedLimbs (coord x) → length x ≡ carriedBytes → limbCoord l ≡ coord x
+limbs-same x e size = slice-same x e (omega (arith, size))
+
 pub bytes-limbs : (f : ℕ → ℕ) → pack carriedBytes (limbCoord (packLimbs carriedLimbs f)) ≡ pack carriedBytes f
 bytes-limbs f = pack-ext carriedBytes _ f (λ i h. ap (λ y. y % 2) (limb-pack carriedLimbs f i (omega arith)) ∙ mod-mod _ 2)
 

@@ -3,7 +3,7 @@
 use mathlib.Core.Path.{_≡_, refl, sym, ap, ap₂, _∙_}
 use mathlib.Core.List.{List, [], _∷_}
 use Prim.Native.Nat.{ℕ, zero, suc, _+_, _-_, _*_, _/_, _%_, _^_, _<_, _≤_, min}
-use native.Mathlib.Nat.{min-zero, mul-assoc, mod-lt, mod-le, zero-div, div-eq-of-lt, lt-of-le-of-lt, lt-of-lt-of-le}
+use native.Mathlib.Nat.{mul-assoc, mod-eq-of-lt, mod-lt, mod-le, zero-div, div-eq-of-lt, lt-of-le-of-lt, lt-of-lt-of-le}
 use native.Mathlib.Decide.{decLt, ℕ-discrete}
 use native.Mathlib.Numerals.{add-one}
 use native.Mathlib.Omega.{arith}
@@ -11,7 +11,7 @@ use lib.Dec.{eqb}
 use mir.Val.{Fits}
 use mir.Syntax.{w64}
 use lib.ListN.{length, getD}
-use lib.Bits.{bitOr, or-lt, or-comm, or-shr, or-add-and, and-step, and-le-l, and-le-r, or-zero-l, bitXor, xor-lt}
+use lib.Bits.{bitOr, or-shr, or-add-and, and-le-l, and-le-r, or-zero-l, bitXor, xor-lt, xor-comm}
 use lib.Pow.{pow-pos, pow-mono, pow-add, shr-shr, shr-le}
 use borrow.Author.Tests.{eq-eqb, eqb-true}
 use Rattle.gf2.specs.Coordinates.{coord, value, tabulate}
@@ -21,7 +21,7 @@ use Rattle.gf2.proofs.Parity.{bool-ext}
 use Rattle.gf2.proofs.Coordinates.{value-ext, value-eq, tabulate-ext, mod-bit, mod-bit-out, xor-bit, shl-bit, shl-bit-out}
 use Rattle.gf2.proofs.Operands.{below-in, below-out, clear-at, clear-of}
 use Rattle.limbs.specs.Limbs.{carriedLimbs, limbCoord, packLimbs}
-use Rattle.limbs.proofs.LimbCoords.{limb-digit, limb-past, length-limbs, limbs-lt, limbs-of, limbs-coord}
+use Rattle.limbs.proofs.LimbCoords.{limb-lt, limb-digit, limb-past, length-limbs, limbs-lt, limbs-of, limbs-coord}
 
 -- every element of a list is a limb
 abbrev pub Limbs : List ℕ → Type 0
@@ -30,6 +30,16 @@ Limbs l = (w : ℕ) → getD l w 0 < 2 ^ 64
 -- those of an array do
 pub limbs-fit : (l : List ℕ) → ((w : ℕ) → Fits w64 (getD l w 0)) → Limbs l
 limbs-fit l h w = h w .fits
+
+-- the limb of the coordinates c at place w
+abbrev pub limbFor : (ℕ → ℕ) → ℕ → ℕ
+limbFor c w = value 64 (λ j. c (w * 64 + j))
+
+pub limb-for : (c : ℕ → ℕ) (w : ℕ) (f : ℕ → ℕ) → ((j : ℕ) → j < 64 → f j ≡ c (w * 64 + j)) → value 64 f ≡ limbFor c w
+limb-for c w f e = value-ext 64 f _ (λ j l. ap (λ y. y % 2) (e j l))
+
+pub limb-value : (x : List ℕ) (w : ℕ) → getD x w 0 < 2 ^ 64 → getD x w 0 ≡ limbFor (limbCoord x) w
+limb-value x w small = value-eq 64 _ _ small (λ j l. sym (limb-digit x w j l) ∙ sym (mod-eq-of-lt (limb-lt x _)))
 
 pub xored-limbs : (n : ℕ) (x y : List ℕ) → Limbs x → Limbs y
     → tabulate n (λ w. bitXor (getD x w 0) (getD y w 0)) ≡ packLimbs n (λ i. limbCoord x i + limbCoord y i)
@@ -41,6 +51,10 @@ low-limbs n m x small = limbs-of n _ (below m (limbCoord x)) (λ w h. lt-of-le-o
   | yes q ↦ rw (below-in m (limbCoord x) (w * 64 + j) q, limb-digit x w j l, mod-bit (getD x w 0) (m - w * 64) j (omega arith)) (omega arith)
   | no q ↦ rw (below-out m (limbCoord x) (w * 64 + j) (omega arith), mod-bit-out (getD x w 0) (m - w * 64) j (omega arith))
 ])
+
+-- a limb at the width and above has none of its coordinates
+pub low-none : (x m w : ℕ) → m ≤ w * 64 → x % 2 ^ (m - w * 64) ≡ 0
+low-none x m w h = let e : m - w * 64 ≡ 0 = omega arith in rw e (omega arith)
 
 -- the coordinates of two limbs in a row
 pub pair-low : (low high i : ℕ) → i < 64 → limbCoord (low ∷ high ∷ []) i ≡ low / 2 ^ i % 2
@@ -57,26 +71,15 @@ pair-coord x w i h = elim (decLt i 64) [
       pair-high _ _ i (omega arith) h ∙ sym (limb-digit x (w + 1) (i - 64) (omega arith)) ∙ ap (limbCoord x) e
 ]
 
--- a bit of x | y where y has 0
-or-left : (x y j : ℕ) → y / 2 ^ j % 2 ≡ 0 → bitOr x y / 2 ^ j % 2 ≡ x / 2 ^ j % 2
-or-left x y j e =
-    let d = ap (min (x / 2 ^ j % 2)) e ∙ min-zero (x / 2 ^ j % 2) in
-    rw or-shr (omega (arith, or-add-and (x / 2 ^ j) (y / 2 ^ j), and-step (x / 2 ^ j) (y / 2 ^ j), d))
-
--- two limbs in a row, from bit t of the first on
-pub pair-limb : (low high t : ℕ) → low < 2 ^ 64 → t ≤ 64 → bitOr (low / 2 ^ t) (high * 2 ^ (64 - t) % 2 ^ 64) ≡ value 64 (λ j. limbCoord (low ∷ high ∷ []) (t + j))
-pair-limb low high t hl ht = value-eq 64 _ _ (or-lt 64 _ _ (lt-of-le-of-lt (shr-le low t) hl) (mod-lt _ (pow-pos 64))) (λ j l. elim (decLt (t + j) 64) [
-  | yes q ↦
-      or-left (low / 2 ^ t) up j (shl-bit-out high 64 (64 - t) j (omega arith) l)
-      ∙ omega (arith, shr-shr low t j, pair-low low high (t + j) q)
+-- two limbs in a row, from bit t of the first on: at each bit one of the two shifted limbs is 0
+pub pair-limb : (low high t : ℕ) → low < 2 ^ 64 → t ≤ 64 → bitXor (low / 2 ^ t) (high * 2 ^ (64 - t) % 2 ^ 64) ≡ value 64 (λ j. limbCoord (low ∷ high ∷ []) (t + j))
+pair-limb low high t hl ht = value-eq 64 _ _ (xor-lt 64 _ _ (lt-of-le-of-lt (shr-le low t) hl) (mod-lt _ (pow-pos 64))) (λ j l. xor-bit (low / 2 ^ t) up j ∙ elim (decLt (t + j) 64) [
+  | yes q ↦ omega (arith, shl-bit-out high 64 (64 - t) j (omega arith) l, shr-shr low t j, pair-low low high (t + j) q)
   | no q ↦
       let none = div-eq-of-lt (lt-of-lt-of-le hl (pow-mono {i = 64} {j = t + j} (omega arith))) in
       let place : j - (64 - t) ≡ t + j - 64 = omega arith in
-      ap (λ y. y / 2 ^ j % 2) (or-comm (low / 2 ^ t) up)
-      ∙ or-left up (low / 2 ^ t) j (omega (arith, shr-shr low t j))
-      ∙ shl-bit high 64 (64 - t) j (omega arith) l
-      ∙ ap (λ k. high / 2 ^ k % 2) place
-      ∙ omega (arith, pair-high low high (t + j) (omega arith) (omega arith))
+      let first = shr-shr low t j in
+      omega (arith, first, none, shl-bit high 64 (64 - t) j (omega arith) l ∙ ap (λ k. high / 2 ^ k % 2) place, pair-high low high (t + j) (omega arith) (omega arith))
 ])
   where
     up : ℕ
@@ -84,19 +87,19 @@ pair-limb low high t hl ht = value-eq 64 _ _ (or-lt 64 _ _ (lt-of-le-of-lt (shr-
 
 -- the same by shifts below 64, one of them made of two
 pub lower-pair : (low high skip : ℕ) → low < 2 ^ 64 → skip < 64
-    → bitOr (low / 2 ^ skip) (high * 2 ^ 1 % 2 ^ 64 * 2 ^ (63 - skip) % 2 ^ 64) ≡ value 64 (λ j. limbCoord (low ∷ high ∷ []) (skip + j))
+    → bitXor (low / 2 ^ skip) (high * 2 ^ 1 % 2 ^ 64 * 2 ^ (63 - skip) % 2 ^ 64) ≡ value 64 (λ j. limbCoord (low ∷ high ∷ []) (skip + j))
 lower-pair low high skip hl hs =
     let e : 1 + (63 - skip) ≡ 64 - skip = omega arith in
-    ap (bitOr (low / 2 ^ skip)) (sym (mul-mod-left (high * 2 ^ 1) (2 ^ (63 - skip)) (2 ^ 64)) ∙ ap (λ x. x % 2 ^ 64) (mul-assoc high (2 ^ 1) (2 ^ (63 - skip)) ∙ ap (λ x. high * x) (sym (pow-add 2 1 (63 - skip)) ∙ ap (λ k. 2 ^ k) e)))
+    ap (bitXor (low / 2 ^ skip)) (sym (mul-mod-left (high * 2 ^ 1) (2 ^ (63 - skip)) (2 ^ 64)) ∙ ap (λ x. x % 2 ^ 64) (mul-assoc high (2 ^ 1) (2 ^ (63 - skip)) ∙ ap (λ x. high * x) (sym (pow-add 2 1 (63 - skip)) ∙ ap (λ k. 2 ^ k) e)))
     ∙ pair-limb low high skip hl (omega arith)
 
 pub raise-pair : (low high skip : ℕ) → low < 2 ^ 64 → skip < 64
-    → bitOr (high * 2 ^ skip % 2 ^ 64) (low / 2 ^ 1 / 2 ^ (63 - skip)) ≡ value 64 (λ j. limbCoord (low ∷ high ∷ []) (64 - skip + j))
+    → bitXor (high * 2 ^ skip % 2 ^ 64) (low / 2 ^ 1 / 2 ^ (63 - skip)) ≡ value 64 (λ j. limbCoord (low ∷ high ∷ []) (64 - skip + j))
 raise-pair low high skip hl hs =
     let d : 1 + (63 - skip) ≡ 64 - skip = omega arith in
     let e : skip ≡ 64 - (64 - skip) = omega arith in
-    or-comm (high * 2 ^ skip % 2 ^ 64) _
-    ∙ ap₂ (λ x k. bitOr x (high * 2 ^ k % 2 ^ 64)) (shr-shr low 1 (63 - skip) ∙ ap (λ k. low / 2 ^ k) d) e
+    xor-comm (high * 2 ^ skip % 2 ^ 64) _
+    ∙ ap₂ (λ x k. bitXor x (high * 2 ^ k % 2 ^ 64)) (shr-shr low 1 (63 - skip) ∙ ap (λ k. low / 2 ^ k) d) e
     ∙ pair-limb low high (64 - skip) hl (omega arith)
 
 -- the coordinates of a list from first * 64 + skip on

@@ -8,6 +8,7 @@ ghost use Rattle.gf2.specs.Operands.{bytesFor, carriedBytes, fromCoords, isClea
 use crate::BYTES;
 use crate::LIMBS;
 use crate::limbs;
+use crate::slices;
 
 // The number of bytes of an operand: the width over 8, rounded up.
 pub fn bytes_for(width: usize) -> usize
@@ -46,11 +47,32 @@ pub fn is_clear(x: [u8; BYTES], m: usize) -> bool
     high == 0
 }
 
+// The same of a slice: one byte is looked at where it has as many as the width needs.
+pub fn is_clear_slice(s: &[u8], m: usize) -> bool
+    ensures { λ r. ⌜ r ≡ isClear m (now (s .entry)) ⌝ }
+{
+    let first = m / 8;
+    if s.len() <= first {
+        return true;
+    }
+    if s[first] >> (m % 8) != 0 {
+        return false;
+    }
+    let mut b = first + 1;
+    while b < s.len() {
+        if s[b] != 0 {
+            return false;
+        }
+        b += 1;
+    }
+    true
+}
+
 // The coordinates of a slice, in the bytes of a carried operand.
 pub fn carried(s: &[u8]) -> [u8; BYTES]
     ensures { λ r. ⌜ r ≡ pack carriedBytes (coord (now (s .entry))) ⌝ }
 {
-    limbs::to_bytes(limbs::slice_limbs(s))
+    limbs::to_bytes(slices::slice_limbs(s))
 }
 
 // The coordinates of a carried operand, in the bytes of a slice.

@@ -1,6 +1,6 @@
 -- What the calls answer, from what their parts give.
 -- Answers: with and without a fault, equal faults. Values: zero, one, sum, trace, solution. Bits judged on carried bytes.
-use mathlib.Core.Path.{_≡_, refl, sym, ap, _∙_}
+use mathlib.Core.Path.{_≡_, refl, sym, ap, ap₂, _∙_}
 use mathlib.Core.Bool.{Bool, true, false, not}
 use mathlib.Core.List.{List, [], _∷_, _++_}
 use Prim.Native.Nat.{ℕ, zero, suc, _+_, _-_, _*_, _/_, _%_, _^_, _<_, _≤_}
@@ -12,12 +12,16 @@ use lib.Dec.{eqb}
 use borrow.Author.Tests.{eqb-true, not-true}
 use Rattle.gf2.specs.Sums.{sum, every}
 use Rattle.gf2.specs.Coordinates.{coord, value, tabulate, pack}
-use Rattle.gf2.specs.Operands.{maxWidth, bytesFor, carriedBytes, choose, IsOperand, isClear, carriedBy, fromCoords, zeroes, ones, added, turned}
+use Rattle.gf2.specs.Operands.{maxWidth, bytesFor, carriedBytes, choose, IsOperand, isClear, carriedBy, below, fromCoords, zeroes, ones, added, turned}
 use Rattle.gf2.specs.Quadratic.{trace, rootCoord, root}
-use Rattle.gf2.proofs.Sums.{sum-split, every-at}
+use Rattle.gf2.proofs.Sums.{sum-clear, every-at}
 use Rattle.gf2.proofs.Coordinates.{coord-past, coord-pack, pack-ext, pack-byte, length-pack}
-use Rattle.gf2.proofs.Operands.{coord-from, from-ext, from-eq, from-operand, clear-at, clear-pack}
-use Rattle.gf2.proofs.Carrying.{HasBytes, has-bytes, same-coord, clear-carried, coord-repacked, written-carried}
+use Rattle.gf2.proofs.Operands.{below-in, below-out, coord-from, from-ext, from-eq, from-operand, length-from, clear-at, clear-pack}
+use Rattle.gf2.proofs.Carrying.{HasBytes, has-bytes, same-coord, clear-carried, coord-repacked, written-carried, turned-carried, turned-is}
+use Rattle.limbs.specs.Limbs.{carriedLimbs, reach, limbCoord, packLimbs, limbsOf}
+use Rattle.limbs.proofs.Reach.{reach-room}
+use Rattle.limbs.proofs.LimbCoords.{limb-pack, limbs-ext, limbs-zero, limbs-below, slice-same, limbs-same}
+use Rattle.quadratic.proofs.QuadraticLimbs.{root-from}
 use Rattle.judging.specs.declared.fault.Fault.{Fault}
 use Rattle.judging.specs.Faults.{isNone}
 use Rattle.judging.specs.Causes.{Cause, faultOf}
@@ -25,7 +29,7 @@ use Rattle.judging.specs.FaultTable.{badWidth, badLength, highBit, turnTooFar, 
 use Rattle.judging.proofs.CauseLaws.{same-head, head-fails, fine, judged, ends, ends-some}
 use Rattle.judging.proofs.Passed.{IsWidth, is-width, as-laid-down, is-clear, below-width, turn-passes}
 use Rattle.turns.specs.Moves.{rolled}
-use Rattle.turns.proofs.Turns.{rolled-turned}
+use Rattle.turns.proofs.Turns.{rolled-turned, rolled-limbs}
 use Rattle.operand.specs.declared.Operand.{Operand}
 use Rattle.operand.specs.declared.OperandAnswer.{OperandAnswer}
 use Rattle.operand.specs.Causes.{operandCauses, turnCauses}
@@ -135,7 +139,7 @@ high-by {m} h e cs ds k = ap (λ z. faultOf (highBit m z ∷ cs)) e ∙ high-sam
 
 -- a turn whose width has passed, where its bits and its count do
 pub turn-made : (m k : ℕ) (x : List ℕ) {r : List ℕ} {f : Fault} {b : Bool} → m ≤ maxWidth → length x ≡ carriedBytes → f ≡ faultOf (highBit m x ∷ turnTooFar m k ∷ []) → b ≡ isNone f → b ≡ true
-    → r ≡ rolled m k x → r ≡ turned m k x
+    → r ≡ pack carriedBytes (rolled m k (coord x)) → r ≡ turned m k x
 turn-made m k x fits size e t q h =
     let p = fine (highBit m x ∷ turnTooFar m k ∷ []) (judged (highBit m x ∷ turnTooFar m k ∷ []) [] e t q) in
     h ∙ rolled-turned fits (below-width m k (p .1 .0)) x size (clear-at m x (is-clear m x (p .0)))
@@ -156,59 +160,92 @@ pub one-bytes : (m : ℕ) → m ≤ maxWidth → fromCoords carriedBytes m (coor
 unfolding ones
 one-bytes m h = from-ext carriedBytes m _ (λ i. 1) (λ i l. ap (λ x. x % 2) (all-ones i (omega arith)))
 
+-- W bytes have room in the carried ones
+short : {m : ℕ} {a : List ℕ} → HasBytes m a → length a ≤ carriedBytes
+short h = omega (arith, h .greatest, h .size)
+
+-- limbs that are cut at the width, written to W bytes
+pub limbs-out : {m n : ℕ} (f : ℕ → ℕ) {l new : List ℕ} → m ≤ maxWidth → n ≡ bytesFor m → new ≡ pack n (limbCoord l) → l ≡ packLimbs carriedLimbs (below m f)
+    → new ≡ fromCoords (bytesFor m) m f
+unfolding fromCoords
+limbs-out {m} f {l} h room p q =
+    p ∙ ap (λ k. pack k (limbCoord l)) room ∙ pack-ext (bytesFor m) _ (below m f) (λ i l. ap (λ x. limbCoord x i % 2) q ∙ ap (λ x. x % 2) (limb-pack carriedLimbs (below m f) i (omega arith)) ∙ mod-mod _ 2)
+
 -- zero and one in W bytes
-pub zero-out : (m : ℕ) {n : ℕ} → n ≡ bytesFor m → pack n (coord (replicate carriedBytes 0)) ≡ zeroes (bytesFor m) m
+pub zero-out : (m : ℕ) {n : ℕ} {new : List ℕ} → m ≤ maxWidth → n ≡ bytesFor m → new ≡ pack n (limbCoord (replicate carriedLimbs 0)) → new ≡ zeroes (bytesFor m) m
 unfolding zeroes
-zero-out m e = rw e (pack-ext (bytesFor m) _ (λ i. 0) (λ i h. ap (λ x. x % 2) (no-coord i)) ∙ clear-pack (bytesFor m) m (λ i. 0) (λ i h. refl))
-  where
-    no-coord : (i : ℕ) → coord (replicate carriedBytes 0) i ≡ 0
-    no-coord i = ap (λ x. coord x i) no-bytes ∙ elim (decLt i (8 * carriedBytes)) [
-      | yes l ↦ coord-pack carriedBytes (λ i. 0) i l
-      | no l ↦ coord-past (pack carriedBytes (λ i. 0)) i (omega (arith, length-pack carriedBytes (λ i. 0)))
-    ]
+zero-out m h room p = limbs-out (λ i. 0) h room p (limbs-zero carriedLimbs (below m (λ i. 0)) (λ i l. elim (decLt i m) [
+  | yes q ↦ ap (λ x. x % 2) (below-in m (λ j. 0) i q)
+  | no q ↦ ap (λ x. x % 2) (below-out m (λ j. 0) i (omega arith))
+]))
 
-pub one-out : (m : ℕ) → m ≤ maxWidth → {n : ℕ} → n ≡ bytesFor m → pack n (coord (fromCoords carriedBytes m (coord (replicate carriedBytes 255)))) ≡ ones (bytesFor m) m
+full-ones : (i : ℕ) → i < 64 * carriedLimbs → limbCoord (replicate carriedLimbs 18446744073709551615) i ≡ 1
+unfolding limbCoord
+full-ones i h = rw (getD-replicate {A = ℕ} carriedLimbs (i / 64) 18446744073709551615 0 (omega arith))
+    (eqb-true _ _ (every-at 64 (λ j. eqb (18446744073709551615 / 2 ^ j % 2) 1) (unfold every in refl) (i % 64) (omega arith)))
+
+pub one-out : (m : ℕ) {n : ℕ} {l new : List ℕ} → m ≤ maxWidth → n ≡ bytesFor m → new ≡ pack n (limbCoord l)
+    → l ≡ packLimbs carriedLimbs (below m (limbCoord (replicate carriedLimbs 18446744073709551615))) → new ≡ ones (bytesFor m) m
 unfolding ones
-one-out m h e = rw (e, one-bytes m h) (from-eq (bytesFor m) m (λ i. 1) (packed-operand) (λ i l. same i ∙ coord-from carriedBytes m (λ i. 1) (omega arith) i l))
+one-out m h room p q = limbs-out (λ i. 1) h room p (q ∙ limbs-below carriedLimbs m _ (λ i. 1) (λ i k. ap (λ x. x % 2) (full-ones i (omega arith))))
+
+-- turn, sum and solution of W bytes, in limbs
+pub turn-out : {m n : ℕ} (k : ℕ) {a x l new : List ℕ} → HasBytes m a → isClear m a ≡ true → k < m → n ≡ bytesFor m → new ≡ pack n (limbCoord l) → x ≡ limbsOf a
+    → l ≡ packLimbs carriedLimbs (rolled m k (limbCoord x)) → new ≡ turned m k a
+turn-out {m} {n} k {a} {x} h clear less room p ex e =
+    written-out (h .greatest) (turned-is h k) room
+    (p ∙ ap (λ y. pack n (limbCoord y)) (e ∙ rolled-limbs (h .greatest) less (carriedBy a) (length-pack carriedBytes (coord a)) (clear-at m (carriedBy a) (clear-carried h ∙ clear)) x (slice-same a ex (short h) ∙ sym (same-coord h)))
+    ∙ ap (pack n) (limbs-same (turned m k (carriedBy a)) refl (turned-size ∙ length-pack carriedBytes (coord a)))) (turned-carried h k)
   where
-    o : IsOperand carriedBytes m (ones carriedBytes m)
-    o = from-operand carriedBytes m (λ i. 1)
+    turned-size : length (turned m k (carriedBy a)) ≡ length (carriedBy a)
+    turned-size = unfold turned in length-from (length (carriedBy a)) m _
 
-    same : (i : ℕ) → coord (pack (bytesFor m) (coord (ones carriedBytes m))) i ≡ coord (ones carriedBytes m) i
-    same = coord-repacked (bytesFor m) (ones carriedBytes m) (λ i l. o .clear i (omega arith))
+pub sum-out : {m n : ℕ} {a b l new : List ℕ} → HasBytes m a → HasBytes m b → isClear m a ≡ true → isClear m b ≡ true → n ≡ bytesFor m → new ≡ pack n (limbCoord l)
+    → l ≡ packLimbs carriedLimbs (below (64 * reach m) (λ i. coord a i + coord b i)) → new ≡ added m a b
+unfolding added
+sum-out {m} {a = a} {b} ha hb ca cb room p e =
+    limbs-out f (ha .greatest) room p
+    (e ∙ limbs-ext carriedLimbs (below (64 * reach m) f) (below m f) (λ i h. elim (decLt i m) [
+      | yes q ↦ ap (λ z. z % 2) (below-in (64 * reach m) f i (omega (arith, reach-room m (omega (arith, ha .greatest)))) ∙ sym (below-in m f i q))
+      | no q ↦ ap (λ z. z % 2) (kept i (omega arith) ∙ sym (below-out m f i (omega arith)))
+    ]))
+    ∙ ap (λ k. fromCoords k m f) (sym (ha .size))
+  where
+    f : ℕ → ℕ
+    f i = coord a i + coord b i
 
-    packed-operand : IsOperand (bytesFor m) m (pack (bytesFor m) (coord (ones carriedBytes m)))
-    packed-operand = record { size = length-pack _ _; byte = pack-byte _ _; clear = λ i l. same i ∙ o .clear i l }
+    none : (i : ℕ) → m ≤ i → coord a i + coord b i ≡ 0
+    none i h = ap₂ _+_ (clear-at m a ca i h) (clear-at m b cb i h)
+
+    kept : (i : ℕ) → m ≤ i → below (64 * reach m) f i ≡ 0
+    kept i h = elim (decLt i (64 * reach m)) [ yes q ↦ below-in (64 * reach m) f i q ∙ none i h | no q ↦ below-out (64 * reach m) f i (omega arith) ]
+
+pub root-out : {m n : ℕ} {c x l new : List ℕ} → HasBytes m c → n ≡ bytesFor m → new ≡ pack n (limbCoord l) → x ≡ limbsOf c
+    → l ≡ packLimbs carriedLimbs (below m (λ i. limbCoord x 0 + sum (suc i) (limbCoord x))) → new ≡ root m c
+unfolding root
+root-out {m} {c = c} h room p ex e =
+    limbs-out (λ i. coord c 0 + sum (suc i) (coord c)) (h .greatest) room p
+    (e ∙ ap (λ f. packLimbs carriedLimbs (below m (λ i. f 0 + sum (suc i) f))) (slice-same c ex (short h)))
+    ∙ root-from (bytesFor m) m c ∙ ap (λ k. fromCoords k m (rootCoord c)) (sym (h .size))
 
 pub sum-bytes : (m : ℕ) (x y : List ℕ) → length x ≡ carriedBytes → isClear m x ≡ true → isClear m y ≡ true → pack carriedBytes (λ i. coord x i + coord y i) ≡ added m x y
 unfolding added
 sum-bytes m x y size ex ey = ap (λ n. pack n (λ i. coord x i + coord y i)) (sym size) ∙ clear-pack (length x) m (λ i. coord x i + coord y i) (λ i h. rw (clear-at m x ex i h, clear-at m y ey i h))
 
-pub trace-bytes : (m : ℕ) (x : List ℕ) → m ≤ maxWidth → isClear m x ≡ true → sum (8 * carriedBytes) (coord x) % 2 ≡ trace m x
-unfolding trace sum
-trace-bytes m x h e =
-    let n = 8 * carriedBytes - m in
-    let s : 8 * carriedBytes ≡ m + n = omega arith in
-    ap (λ s. s % 2) (ap (λ k. sum k (coord x)) s ∙ sum-split m n (coord x) ∙ ap (λ r. sum m (coord x) + r) (rest n) ∙ add-zero _)
-  where
-    rest : (k : ℕ) → sum k (λ i. coord x (m + i)) ≡ 0
-    rest zero = refl
-    rest (suc k) = rw (rest k, clear-at m x e (m + k) (omega arith))
-
-pub root-bytes : {m : ℕ} (c : List ℕ) {r y : List ℕ} → length c ≡ carriedBytes → m ≤ maxWidth → y ≡ pack carriedBytes (rootCoord c) → r ≡ fromCoords carriedBytes m (coord y) → r ≡ root m c
-unfolding root
-root-bytes {m} c size h p q = q ∙ ap (λ z. fromCoords carriedBytes m (coord z)) p
-    ∙ rw size (from-ext carriedBytes m _ (rootCoord c) (λ i l. ap (λ x. x % 2) (coord-pack carriedBytes (rootCoord c) i (omega arith)) ∙ mod-mod _ 2))
-
--- the trace over all carried bits of an operand without high bits
-pub trace-same : (m : ℕ) (x : List ℕ) → m ≤ maxWidth → isClear m x ≡ true → faultOf (traceIsOne (8 * carriedBytes) x ∷ []) ≡ faultOf (traceIsOne m x ∷ [])
+-- the trace over more coordinates than an operand without high bits has
+pub trace-bytes : (m n : ℕ) (x : List ℕ) → m ≤ n → isClear m x ≡ true → sum n (coord x) % 2 ≡ trace m x
 unfolding trace
-trace-same m x h e =
-    same-head (traceIsOne (8 * carriedBytes) x) (traceIsOne m x) [] [] (ap (λ t. eqb t 1) (trace-bytes m x h e)) refl (λ q. refl)
+trace-bytes m n x h e = ap (λ s. s % 2) (sum-clear m n (coord x) h (clear-at m x e))
 
--- the same after the bits were judged
-pub trace-after : (m : ℕ) (x : List ℕ) → m ≤ maxWidth → faultOf (highBit m x ∷ traceIsOne (8 * carriedBytes) x ∷ []) ≡ faultOf (highBit m x ∷ traceIsOne m x ∷ [])
-trace-after m x h = same-head (highBit m x) (highBit m x) _ _ refl refl (λ q. trace-same m x h (is-clear m x q))
+pub root-bytes : (m : ℕ) (c : List ℕ) {r : List ℕ} → length c ≡ carriedBytes → r ≡ fromCoords carriedBytes m (rootCoord c) → r ≡ root m c
+unfolding root
+root-bytes m c size e = rw size e
+
+-- the same as a cause, after the bits were judged
+pub trace-after : (m n : ℕ) (x : List ℕ) → m ≤ n → faultOf (highBit m x ∷ traceIsOne n x ∷ []) ≡ faultOf (highBit m x ∷ traceIsOne m x ∷ [])
+unfolding trace
+trace-after m n x h = same-head (highBit m x) (highBit m x) _ _ refl refl (λ q.
+    same-head (traceIsOne n x) (traceIsOne m x) [] [] (ap (λ t. eqb t 1) (trace-bytes m n x h (is-clear m x q))) refl (λ p. refl))
 
 -- a turn by one is never refused for its count
 pub square-fault : (a : Operand) → faultOf (turnCauses a 1) ≡ faultOf (operandCauses a)
@@ -218,11 +255,3 @@ square-fault a =
     let h = highBit m (a .bytes) in
     same-head (badWidth m) (badWidth m) (h ∷ turnTooFar m 1 ∷ []) (h ∷ []) refl refl (λ w.
     same-head h h (turnTooFar m 1 ∷ []) [] refl refl (λ q. head-fails (turnTooFar m 1) [] (turn-passes m 1 (is-width m w .least))))
-
--- the trace of W bytes, carried
-pub trace-coords : {m : ℕ} {a : List ℕ} → HasBytes m a → trace m (pack carriedBytes (coord a)) ≡ trace m a
-unfolding trace
-trace-coords {m} h = ap (λ f. sum m f % 2) (same-coord h)
-
-pub trace-carried : {m : ℕ} {a : List ℕ} → HasBytes m a → faultOf (traceIsOne m (pack carriedBytes (coord a)) ∷ []) ≡ faultOf (traceIsOne m a ∷ [])
-trace-carried {m} {a} h = same-head (traceIsOne m (pack carriedBytes (coord a))) (traceIsOne m a) [] [] (ap (λ t. eqb t 1) (trace-coords h)) refl (λ q. refl)

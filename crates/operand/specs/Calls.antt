@@ -55,7 +55,7 @@ traceCall a = traceAnswer (faultOf (operandCauses a)) (trace (a .width) (a .byte
 abbrev pub solveCall : Operand → OperandAnswer
 solveCall c = answer (faultOf (solveCauses c)) (c .width) (root (c .width) (c .bytes))
 
--- "An operand is W bytes"; "Inside the program an operand is carried as 32 bytes with its width"
+-- "An operand is W bytes"; "Inside the program an operand is carried as 72 bytes with its width"
 abbrev pub readCall : ℕ → List ℕ → OperandAnswer
 readCall m bytes = answer (faultOf (bytesCauses m bytes)) m (carriedBy bytes)
 

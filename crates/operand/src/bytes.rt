@@ -14,7 +14,7 @@ pub fn zero_into(width: usize, result: &mut [u8]) -> Fault
 {
     let fault = judging::judge_size(width, result.len());
     if is_none(fault) {
-        limbs::copy_out([0u8; Operand::BYTES], result);
+        limbs::store([0u64; limbs::LIMBS], result);
     }
     fault
 }
@@ -24,8 +24,8 @@ pub fn one_into(width: usize, result: &mut [u8]) -> Fault
 {
     let fault = judging::judge_size(width, result.len());
     if is_none(fault) {
-        let full = [255u8; Operand::BYTES];
-        limbs::copy_out(limbs::cleared(full, width), result);
+        let full = [18446744073709551615u64; limbs::LIMBS];
+        limbs::store(limbs::low_limbs(full, width), result);
     }
     fault
 }
@@ -38,10 +38,9 @@ pub fn turn_into(width: usize, a: &[u8], k: usize, result: &mut [u8]) -> Fault
     if !is_none(sizes) {
         return sizes;
     }
-    let x = limbs::carried(a);
-    let fault = judge::judge_turn(x, width, k);
+    let fault = judge::judge_turn(a, width, k);
     if is_none(fault) {
-        limbs::copy_out(turns::rolled(x, width, k), result);
+        limbs::store(turns::rolled_limbs(limbs::slice_limbs(a), width, k), result);
     }
     fault
 }
@@ -54,16 +53,13 @@ pub fn sum_into(width: usize, a: &[u8], b: &[u8], result: &mut [u8]) -> Fault
     if !is_none(sizes) {
         return sizes;
     }
-    let x = limbs::carried(a);
-    let y = limbs::carried(b);
-    // In line: a call for both costs half as much as the sum.
-    let left = judging::judge_high(x, width);
+    let left = judging::judge_high_of(a, width);
     if !is_none(left) {
         return left;
     }
-    let fault = judging::judge_high(y, width);
+    let fault = judging::judge_high_of(b, width);
     if is_none(fault) {
-        limbs::copy_out(limbs::xored(x, y), result);
+        limbs::store(limbs::xored_slices(a, b, width), result);
     }
     fault
 }
@@ -77,10 +73,9 @@ pub fn solve_into(width: usize, c: &[u8], result: &mut [u8]) -> Fault
     if !is_none(sizes) {
         return sizes;
     }
-    let x = limbs::carried(c);
-    let fault = judge::judge_solve(x, width);
+    let fault = judge::judge_solve(c, width);
     if is_none(fault) {
-        limbs::copy_out(limbs::cleared(quadratic::root(x), width), result);
+        limbs::store(quadratic::root_limbs(limbs::slice_limbs(c), width), result);
     }
     fault
 }
@@ -95,13 +90,12 @@ pub fn trace_of(width: usize, a: &[u8]) -> TraceAnswer
             trace: 0,
         };
     }
-    let x = limbs::carried(a);
-    let fault = judging::judge_high(x, width);
+    let fault = judging::judge_high_of(a, width);
     if !is_none(fault) {
         return TraceAnswer { fault, trace: 0 };
     }
     TraceAnswer {
         fault,
-        trace: quadratic::trace(x) as usize,
+        trace: quadratic::trace_of(a) as usize,
     }
 }

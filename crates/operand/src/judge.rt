@@ -1,9 +1,9 @@
-// What a call on operands judges before its work, each part only where those before it give no fault.
-// Bits are judged on the carried bytes, which have the coordinates of the W bytes.
+// What a call on operands judges before its work, each part only where those before it give no fault. Calls on carried operands judge
+// the carried bytes, those on W bytes these.
 ghost use mathlib.Core.Path.{_≡_};
 ghost use mathlib.Core.List.{[], _∷_};
 ghost use Prim.Native.Nat.{_*_};
-ghost use Rattle.gf2.specs.Operands.{carriedBytes};
+ghost use lib.ListN.{length};
 ghost use Rattle.judging.specs.Causes.{faultOf};
 ghost use Rattle.judging.specs.FaultTable.{highBit, turnTooFar, traceIsOne};
 ghost use Rattle.operand.specs.Causes.{operandCauses, pairCauses};
@@ -40,11 +40,11 @@ pub(crate) fn judge_pair(a: Operand, b: Operand) -> Fault
     judging::judge_both_high(x, m, y, n)
 }
 
-// The bits of an operand, then a turn's count.
-pub(crate) fn judge_turn(x: [u8; Operand::BYTES], m: usize, k: usize) -> Fault
-    ensures { λ r. ⌜ r ≡ faultOf (highBit m x ∷ turnTooFar m k ∷ []) ⌝ }
+// The bits of an operand, carried or in W bytes, then a turn's count.
+pub(crate) fn judge_turn(a: &[u8], m: usize, k: usize) -> Fault
+    ensures { λ r. ⌜ r ≡ faultOf (highBit m (now (a .entry)) ∷ turnTooFar m k ∷ []) ⌝ }
 {
-    let first = judge_high(x, m);
+    let first = judging::judge_high_of(a, m);
     if !is_none(first) {
         return first;
     }
@@ -54,15 +54,15 @@ pub(crate) fn judge_turn(x: [u8; Operand::BYTES], m: usize, k: usize) -> Fault
     Fault::None
 }
 
-// The bits of an operand, then its trace, over all carried bits: that is the operand's where none is set at its width or above.
-pub(crate) fn judge_solve(x: [u8; Operand::BYTES], m: usize) -> Fault
-    ensures { λ r. ⌜ r ≡ faultOf (highBit m x ∷ traceIsOne (8 * carriedBytes) x ∷ []) ⌝ }
+// The bits of an operand, then its trace, over all bits: that is the operand's where none is set at its width or above.
+pub(crate) fn judge_solve(c: &[u8], m: usize) -> Fault
+    ensures { λ r. ⌜ r ≡ faultOf (highBit m (now (c .entry)) ∷ traceIsOne (8 * length (now (c .entry))) (now (c .entry)) ∷ []) ⌝ }
 {
-    let first = judge_high(x, m);
+    let first = judging::judge_high_of(c, m);
     if !is_none(first) {
         return first;
     }
-    if quadratic::trace(x) == 1 {
+    if quadratic::trace_of(c) == 1 {
         return Fault::Call(CallFault::TraceOne);
     }
     Fault::None

@@ -98,7 +98,7 @@ impl Operand {
         if !is_none(first) {
             return refused(first);
         }
-        let fault = judge::judge_turn(x, m, k);
+        let fault = judge::judge_turn(&x, m, k);
         if !is_none(fault) {
             return refused(fault);
         }
@@ -146,11 +146,7 @@ impl Operand {
         if !is_none(first) {
             return refused(first);
         }
-        answered(
-            judge::judge_solve(c, m),
-            m,
-            limbs::cleared(quadratic::root(c), m),
-        )
+        answered(judge::judge_solve(&c, m), m, quadratic::root(c, m))
     }
 
     pub fn read(width: usize, s: &[u8]) -> OperandAnswer

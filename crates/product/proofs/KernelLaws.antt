@@ -1,40 +1,31 @@
--- What rows of a table add at the slots of their ones: a row in limbs, operands written twice, what a row meets, row after row.
+-- What rows of a table add at the slots of their ones: operands written twice, what a row meets, row after row.
 use mathlib.Core.Path.{_≡_, refl, sym, ap, ap₂, _∙_}
-use mathlib.Core.Bool.{Bool, true, false}
+use mathlib.Core.Bool.{Bool, true, false, _&&_}
 use mathlib.Core.List.{List}
 use Prim.Native.Nat.{ℕ, zero, suc, _+_, _-_, _*_, _/_, _%_, _<_, _≤_}
-use native.Mathlib.Nat.{zero-mul, mul-zero, mod-eq-of-lt, add-mod-left}
+use native.Mathlib.Nat.{zero-mul, mod-eq-of-lt, add-mod-left}
 use native.Mathlib.Numerals.{add-one}
 use native.Mathlib.Decide.{decLt}
 use native.Mathlib.Omega.{arith}
 use lib.ListN.{length, replicate}
 use Rattle.gf2.specs.Sums.{sum}
-use Rattle.gf2.specs.Coordinates.{coord, pack}
-use Rattle.gf2.specs.Operands.{carriedBytes, maxWidth, minus, choose}
+use Rattle.gf2.specs.Coordinates.{coord}
+use Rattle.gf2.specs.Operands.{carriedBytes, maxWidth, minus, choose, below}
 use Rattle.gf2.specs.Tables.{row}
-use Rattle.gf2.proofs.Sums.{sum-ext, sum-none}
-use Rattle.gf2.proofs.Coordinates.{coord-lt, length-pack}
+use Rattle.gf2.proofs.Sums.{sum-ext, sum-mod}
+use Rattle.gf2.proofs.Coordinates.{coord-lt}
+use Rattle.gf2.proofs.Operands.{below-in, below-out}
 use Rattle.operand.specs.declared.Operand.{Operand}
-use Rattle.limbs.specs.Limbs.{carriedLimbs, limbCoord, packLimbs, raised}
+use Rattle.limbs.specs.Limbs.{carriedLimbs, reach, limbCoord, packLimbs, raised}
 use Rattle.limbs.proofs.LimbCoords.{limb-lt, limb-pack, length-limbs, limb-zero, limbs-same}
 use Rattle.limbs.proofs.RaisedLimbs.{raised-in, raised-out}
-use Rattle.gf2.proofs.Carrying.{coord-carried}
+use Rattle.limbs.proofs.Reach.{reach-most, reach-room}
 use Rattle.table.specs.Rows.{Shaped}
-use Rattle.table.proofs.Shapes.{row-short, sized}
-use Rattle.product.specs.Inner.{Clear, Within, metLimbs, rowsTo, Sound, isOneWay}
+use Rattle.product.specs.Inner.{Clear, metLimbs, slotSum, rowsTo, gatheredAt, Sound, isOneWay}
 use Rattle.scatter.specs.declared.methods.Method.{Method}
-use Rattle.scatter.specs.Cells.{twiceLimbs, slots, HasSlots, cell, Added, plusRow, metAt}
-use Rattle.scatter.proofs.CellLaws.{added-none, added-more, added-same, seen-at, slots-there}
-use Rattle.scatter.proofs.OnesLaws.{row-added}
+use Rattle.scatter.specs.Cells.{twiceLimbs, slots, cell, Added, limbsAdd, metAt}
+use Rattle.scatter.proofs.CellLaws.{added-none, added-more, long-enough}
 use Rattle.product.proofs.GatherLaws.{gathered-rows}
-
--- a row of a table, carried and in limbs
-pub line-added : {m : ℕ} {t : List ℕ} → Shaped m t → (d : ℕ) → d < m → (e : List ℕ) {bytes line a b : List ℕ} → HasSlots a → bytes ≡ pack carriedBytes (coord (row m t d)) → line ≡ packLimbs carriedLimbs (coord bytes)
-    → b ≡ plusRow a e line → Added (λ s i. coord (row m t d) s * limbCoord e i) a b
-line-added {m} {t} shaped d l e {bytes} {line} {a} there q r p = added-same _ _ (row-added line e (ap length r ∙ length-limbs carriedLimbs _) there p) (λ s i h. ap₂ (λ c y. choose c (y * limbCoord e i) 0 % 2) (slots-there a there) (same s))
-  where
-    same : (s : ℕ) → limbCoord line s ≡ coord (row m t d) s
-    same s = ap (λ f. f s) (limbs-same bytes r (ap length q ∙ length-pack carriedBytes _)) ∙ ap (λ z. coord z s) q ∙ coord-carried carriedBytes (row m t d) (row-short m d t (sized shaped) l) s
 
 -- x and the same again m places up
 abbrev pub Twice : ℕ → List ℕ → List ℕ → Type 0
@@ -55,10 +46,10 @@ twice-coord m d i x big clear e h l =
           rw (raised-in m (limbCoord x) (d + i) (omega arith), clear (d + i) (omega arith), p) (omega (arith, limb-lt x (d + i - m)))
     ]
 
-bit-times : (c p z : ℕ) → c < 2 → (z + c * (p % 2)) % 2 ≡ (z + c * p) % 2
-bit-times zero p z h = omega arith
-bit-times (suc zero) p z h = omega arith
-bit-times (suc (suc c)) p z h = absurd (omega arith)
+bit-times : (c p : ℕ) → c < 2 → c * (p % 2) % 2 ≡ c * p % 2
+bit-times zero p h = omega arith
+bit-times (suc zero) p h = omega arith
+bit-times (suc (suc c)) p h = absurd (omega arith)
 
 -- the coordinates of x times others are 0 where those of x are
 clear-times : (a b c d : ℕ) (t : Bool) → a ≡ 0 → c ≡ 0 → a * b + choose t 0 (c * d) ≡ 0
@@ -71,39 +62,63 @@ metBytes how m d a b i = coord a i * coord b ((i + d) % m) + choose (isOneWay ho
 
 module _ (how : Method) (m : ℕ) (t x y : List ℕ) (from : ℕ) where
   pub rows-none : (g : List ℕ) → Added (rowsTo how m t x y from 0) g g
-  rows-none g = added-none (rowsTo how m t x y from 0) g (λ s i. unfold sum in refl)
+  rows-none g = added-none (rowsTo how m t x y from 0) g (λ r i. unfold sum in refl)
 
   module _ (shaped : Shaped m t) (cx : Clear m x) (cy : Clear m y) where
-    met-clear : (d i : ℕ) → m ≤ i → metLimbs how m d x y i ≡ 0
+    pub met-clear : (d i : ℕ) → m ≤ i → metLimbs how m d x y i ≡ 0
     unfolding metLimbs
     met-clear d i h = clear-times _ _ _ _ (isOneWay how m d) (cx i h) (cy i h)
 
-    met-coord : (d i : ℕ) {xx yy : List ℕ} → d < m → Twice m x xx → Twice m y yy → metAt (isOneWay how m d) d x y xx yy i ≡ metLimbs how m d x y i
+    met-coord : (d i : ℕ) {xx yy : List ℕ} → d < m → Twice m x xx → Twice m y yy → i < 64 * reach m → metAt (isOneWay how m d) m d x y xx yy i ≡ metLimbs how m d x y i
     unfolding metLimbs
-    met-coord d i h ex ey = let w = shaped .greatest in elim (decLt i m) [
-      | yes l ↦ ap₂ (λ u v. limbCoord x i * u + choose (isOneWay how m d) 0 (limbCoord y i * v)) (seen-at d _ (room m d y w h ey) i ∙ twice-coord m d i y w cy ey h l) (seen-at d _ (room m d x w h ex) i ∙ twice-coord m d i x w cx ex h l)
-      | no l ↦ clear-times _ _ _ _ (isOneWay how m d) (cx i (omega arith)) (cy i (omega arith)) ∙ sym (clear-times _ _ _ _ (isOneWay how m d) (cx i (omega arith)) (cy i (omega arith)))
+    met-coord d i {xx} {yy} h ex ey k =
+        let w = shaped .greatest in
+        below-in (64 * reach m) _ i k
+        ∙ ap (λ b. choose b (limbCoord x i * limbCoord yy (d + i) + choose (isOneWay how m d) 0 (limbCoord y i * limbCoord xx (d + i))) 0) (ap₂ _&&_ (long-enough d xx (room m d x w h ex)) (long-enough d yy (room m d y w h ey)))
+        ∙ elim (decLt i m) [
+          | yes l ↦ ap₂ (λ u v. limbCoord x i * u + choose (isOneWay how m d) 0 (limbCoord y i * v)) (twice-coord m d i y w cy ey h l) (twice-coord m d i x w cx ex h l)
+          | no l ↦ clear-times _ _ _ _ (isOneWay how m d) (cx i (omega arith)) (cy i (omega arith)) ∙ sym (clear-times _ _ _ _ (isOneWay how m d) (cx i (omega arith)) (cy i (omega arith)))
+        ]
+
+    -- what a row meets, as it is added
+    met-kept : (d i : ℕ) {once : Bool} {xx yy e : List ℕ} → d < m → Twice m x xx → Twice m y yy → once ≡ isOneWay how m d → e ≡ packLimbs carriedLimbs (metAt once m d x y xx yy)
+        → below (64 * reach m) (limbCoord e) i ≡ metLimbs how m d x y i % 2
+    met-kept d i {xx = xx} {yy} {e} h ex ey o q = elim (decLt i (64 * reach m)) [
+      | yes l ↦ below-in (64 * reach m) (limbCoord e) i l ∙ ap (λ z. limbCoord z i) q ∙ limb-pack carriedLimbs _ i (omega (arith, reach-most m))
+          ∙ ap (λ z. z % 2) (ap (λ b. metAt b m d x y xx yy i) o ∙ met-coord d i h ex ey l)
+      | no l ↦ below-out (64 * reach m) (limbCoord e) i (omega arith) ∙ sym (ap (λ z. z % 2) (met-clear d i (omega (arith, reach-room m (omega (arith, shaped .greatest))))))
     ]
 
-    pub rows-more : (k : ℕ) {once : Bool} {xx yy e u v w : List ℕ} → from + k < m → Twice m x xx → Twice m y yy → once ≡ isOneWay how m (from + k) → e ≡ packLimbs carriedLimbs (metAt once (from + k) x y xx yy)
-        → Added (rowsTo how m t x y from k) u v → Added (λ s i. coord (row m t (from + k)) s * limbCoord e i) v w → Added (rowsTo how m t x y from (k + 1)) u w
-    rows-more k {once} {xx} {yy} {e} h ex ey o q p r = added-more (rowsTo how m t x y from k) _ _ p r (λ s i l.
-        ap (λ z. (rowsTo how m t x y from k s i + coord (row m t (from + k)) s * z) % 2) (ap (λ z. limbCoord z i) q ∙ limb-pack carriedLimbs _ i l ∙ ap (λ z. z % 2) (ap (λ b. metAt b (from + k) x y xx yy i) o ∙ met-coord (from + k) i h ex ey))
-        ∙ bit-times (coord (row m t (from + k)) s) (metLimbs how m (from + k) x y i) (rowsTo how m t x y from k s i) (coord-lt (row m t (from + k)) s) ∙ ap (λ z. z % 2) (more s i))
+    pub rows-more : (k : ℕ) {once : Bool} {xx yy e u v w : List ℕ} → from + k < m → Twice m x xx → Twice m y yy → once ≡ isOneWay how m (from + k) → e ≡ packLimbs carriedLimbs (metAt once m (from + k) x y xx yy)
+        → Added (rowsTo how m t x y from k) u v → Added (limbsAdd m e (row m t (from + k)) (reach m)) v w → Added (rowsTo how m t x y from (k + 1)) u w
+    rows-more k {e = e} h ex ey o q p r = added-more (rowsTo how m t x y from k) _ _ p r (λ s i b l. parts (rowsTo how m t x y from k s i) (limbsAdd m e line (reach m) s i) (slotSum m line f s i) (same s i) ∙ ap (λ z. z % 2) (more s i))
       where
-        more : (s i : ℕ) → rowsTo how m t x y from k s i + coord (row m t (from + k)) s * metLimbs how m (from + k) x y i ≡ rowsTo how m t x y from (k + 1) s i
+        f : ℕ → ℕ
+        f = metLimbs how m (from + k) x y
+
+        line : List ℕ
+        line = row m t (from + k)
+
+        moved : (n i : ℕ) → raised n (below (64 * reach m) (limbCoord e)) i ≡ raised n f i % 2
+        moved n i = elim (decLt i n) [
+          | yes c ↦ raised-out n (below (64 * reach m) (limbCoord e)) i c ∙ sym (ap (λ z. z % 2) (raised-out n f i c))
+          | no c ↦ raised-in n (below (64 * reach m) (limbCoord e)) i (omega arith) ∙ met-kept (from + k) (i - n) h ex ey o q ∙ sym (ap (λ z. z % 2) (raised-in n f i (omega arith)))
+        ]
+
+        same : (s i : ℕ) → limbsAdd m e line (reach m) s i % 2 ≡ slotSum m line f s i % 2
+        same s i = sym (sum-mod (reach m) _) ∙ ap (λ z. z % 2) (sum-ext (reach m) _ _ (λ n c. ap (λ z. coord line (n * 64 + s) * z % 2) (moved (n * 64) i)
+            ∙ bit-times (coord line (n * 64 + s)) (raised (n * 64) f i) (coord-lt line (n * 64 + s)))) ∙ sum-mod (reach m) _
+
+        parts : (a b c : ℕ) → b % 2 ≡ c % 2 → (a + b) % 2 ≡ (a + c) % 2
+        parts a b c z = omega arith
+
+        more : (s i : ℕ) → rowsTo how m t x y from k s i + slotSum m line f s i ≡ rowsTo how m t x y from (k + 1) s i
         more s i = unfold sum in rw add-one
 
   -- from empty slots on
-  module _ (n c : ℕ) {g : List ℕ} (p : Added (rowsTo how m t x y from n) (replicate c 0) g) where
-    rows-cell : (s i : ℕ) → i < slots → cell g s i ≡ rowsTo how m t x y from n s i % 2
-    rows-cell s i l = p .coords s i l ∙ ap (λ z. (z + rowsTo how m t x y from n s i) % 2) (limb-zero c (s * slots + i)) ∙ ap (λ z. z % 2) (omega arith)
-
-    pub rows-within : Shaped m t → Clear m x → Clear m y → from + n ≤ m → Within m g
-    rows-within shaped cx cy h = record {
-      empty = λ s i q l. rows-cell s i l ∙ ap (λ z. z % 2) (sum-none n _ (λ k b. ap (λ z. z * metLimbs how m (from + k) x y i) (shaped .isTable .rows (from + k) (omega arith) .clear s q) ∙ zero-mul _));
-      clear = λ s i q l. rows-cell s i l ∙ ap (λ z. z % 2) (sum-none n _ (λ k b. ap (λ z. coord (row m t (from + k)) s * z) (met-clear shaped cx cy (from + k) i q) ∙ mul-zero _));
-    }
+  rows-cell : (n c : ℕ) {g : List ℕ} → Added (rowsTo how m t x y from n) (replicate c 0) g
+      → (r i : ℕ) → r < slots → i < 64 * twiceLimbs → cell g r i ≡ rowsTo how m t x y from n r i % 2
+  rows-cell n c p r i b l = p .coords r i b l ∙ ap (λ z. (z + rowsTo how m t x y from n r i) % 2) (limb-zero c (r * (64 * twiceLimbs) + i)) ∙ ap (λ z. z % 2) (omega arith)
 
 -- an operand's coordinates in limbs
 module _ {m : ℕ} {a : Operand} (s : Sound m a) {x : List ℕ} (e : x ≡ packLimbs carriedLimbs (coord (a .bytes))) where
@@ -116,11 +131,12 @@ module _ {m : ℕ} {a : Operand} (s : Sound m a) {x : List ℕ} (e : x ≡ packL
 module _ {m : ℕ} {a b : Operand} {x y : List ℕ} (sa : Sound m a) (sb : Sound m b)
     (ex : x ≡ packLimbs carriedLimbs (coord (a .bytes))) (ey : y ≡ packLimbs carriedLimbs (coord (b .bytes))) where
   -- what the rows add, gathered, in the operands' coordinates
-  pub rows-made : {t : List ℕ} (how : Method) (from n c : ℕ) {g : List ℕ} → Shaped m t → Added (rowsTo how m t x y from n) (replicate c 0) g
-      → (i : ℕ) → i < m → sum m (λ s. cell g s (minus m i s)) % 2 ≡ sum n (λ k. sum m (λ s. coord (row m t (from + k)) s * metBytes how m (from + k) (a .bytes) (b .bytes) (minus m i s))) % 2
-  rows-made {t} how from n c {g} shaped p i l =
-      let w = shaped .greatest in
-      gathered-rows m n (λ k. row m t (from + k)) (λ k. metLimbs how m (from + k) x y) g (λ s j h. rows-cell how m t x y from n c p s j (omega arith)) i l
+  pub rows-made : {t : List ℕ} (how : Method) (from n c : ℕ) {g : List ℕ} → Shaped m t → from + n ≤ m → Added (rowsTo how m t x y from n) (replicate c 0) g
+      → (i : ℕ) → i < m → gatheredAt m g i % 2 ≡ sum n (λ k. sum m (λ s. coord (row m t (from + k)) s * metBytes how m (from + k) (a .bytes) (b .bytes) (minus m i s))) % 2
+  rows-made {t} how from n c {g} shaped inside p i l =
+      gathered-rows m n (λ k. row m t (from + k)) (λ k. metLimbs how m (from + k) x y) g (rows-cell how m t x y from n c p) (omega (arith, shaped .greatest))
+      (λ k s h q. shaped .isTable .rows (from + k) (omega arith) .clear s q)
+      (λ k j q. met-clear how m t x y from shaped (limbs-clear sa ex) (limbs-clear sb ey) (from + k) j q) i l
       ∙ ap (λ z. z % 2) (sum-ext n _ _ (λ k h. sum-ext m _ _ (λ s q. ap (λ z. coord (row m t (from + k)) s * z) (same (from + k) (minus m i s)))))
     where
       same : (d j : ℕ) → metLimbs how m d x y j ≡ metBytes how m d (a .bytes) (b .bytes) j

@@ -65,7 +65,7 @@ module _ {m : ℕ} (t : List ℕ) {a b : Operand} {x y : List ℕ} (sa : Sound m
       → rows ≡ made m (gatheredAt m g) → r ≡ made m (λ i. coord (rows .bytes) i + diagonalAt how m x y i) → r ≡ operandOf m (multiplied how m t (a .bytes) (b .bytes))
   times-made how {g} serves p q e = e ∙ ap (operandOf m)
       (from-ext carriedBytes m _ (rowsAt how m t (a .bytes) (b .bytes)) (λ i l.
-      parts _ _ (ap (λ z. coord (z .bytes) i) q ∙ coord-from carriedBytes m (gatheredAt m g) (fits m (sa .greatest)) i l) (rows-made sa sb ex ey how (firstRow how) (rowCount how m) n (serves-shaped how m t serves) p i l) (diagonal-same how i))
+      parts _ _ (ap (λ z. coord (z .bytes) i) q ∙ coord-from carriedBytes m (gatheredAt m g) (fits m (sa .greatest)) i l) (rows-made sa sb ex ey how (firstRow how) (rowCount how m) n (serves-shaped how m t serves) (rows-inside how m (sa .least)) p i l) (diagonal-same how i))
       ∙ by-rows how m t (a .bytes) (b .bytes) serves (sa .operand .size))
     where
       parts : {c d w : ℕ} (u v : ℕ) → c ≡ u % 2 → u % 2 ≡ v % 2 → d ≡ w → (c + d) % 2 ≡ (w + v) % 2

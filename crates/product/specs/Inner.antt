@@ -12,7 +12,7 @@ use Rattle.gf2.specs.Tables.{row}
 use Rattle.gf2.specs.Products.{product, reduced}
 use Rattle.gf2.specs.Check.{Symmetric}
 use Rattle.gf2.specs.Inverse.{Chain, adding, digits, inverse, productsMade}
-use Rattle.limbs.specs.Limbs.{limbCoord}
+use Rattle.limbs.specs.Limbs.{reach, limbCoord, raised}
 use Rattle.operand.specs.declared.Operand.{Operand}
 use Rattle.operand.specs.declared.OperandAnswer.{OperandAnswer}
 use Rattle.judging.specs.declared.fault.Fault.the-variants.{None}
@@ -100,22 +100,24 @@ isOneWay Reduced m d = eqb (2 * d) m
 unfoldable pub metLimbs : Method → ℕ → ℕ → List ℕ → List ℕ → ℕ → ℕ
 metLimbs k m d x y i = limbCoord x i * limbCoord y ((i + d) % m) + choose (isOneWay k m d) 0 (limbCoord y i * limbCoord x ((i + d) % m))
 
--- what n rows from row `from` on add to coordinate i at slot s
+-- what a row of bytes adds to coordinate i at slot r, limb after limb: f from limb q on, where the row has coordinate q * 64 + r
+abbrev pub slotSum : ℕ → List ℕ → (ℕ → ℕ) → ℕ → ℕ → ℕ
+slotSum m line f r i = sum (reach m) (λ q. coord line (q * 64 + r) * raised (q * 64) f i)
+
+-- what n rows from row `from` on add to coordinate i at slot r
 abbrev pub rowsTo : Method → ℕ → List ℕ → List ℕ → List ℕ → ℕ → ℕ → ℕ → ℕ → ℕ
-rowsTo k m table x y from n s i = sum n (λ d. coord (row m table (from + d)) s * metLimbs k m (from + d) x y i)
+rowsTo k m table x y from n r i = sum n (λ d. slotSum m (row m table (from + d)) (metLimbs k m (from + d) x y) r i)
 
 -- "bits at m and above are 0"
 abbrev pub Clear : ℕ → List ℕ → Type 0
 Clear m x = (i : ℕ) → m ≤ i → limbCoord x i ≡ 0
 
--- only the slots below m have coordinates that are 1, and only below m
-pub record Within (m : ℕ) (g : List ℕ) : Type 0 where
-  pub empty : (s i : ℕ) → m ≤ s → i < slots → cell g s i ≡ 0
-  pub clear : (s i : ℕ) → m ≤ i → i < slots → cell g s i ≡ 0
+-- coordinate i of the sum of all slots, slot r moved up r, and of what comes round at m
+abbrev pub totalAt : List ℕ → ℕ → ℕ
+totalAt g i = sum slots (λ r. raised r (cell g r) i)
 
--- coordinate i of the sum of all slots below m, slot s turned s
 abbrev pub gatheredAt : ℕ → List ℕ → ℕ → ℕ
-gatheredAt m g i = sum m (λ s. cell g s (minus m i s))
+gatheredAt m g i = totalAt g i + totalAt g (m + i)
 
 -- coordinate i of what the reduced product adds to its rows: the products of the coordinates, turned one place
 abbrev pub diagonalAt : Method → ℕ → List ℕ → List ℕ → ℕ → ℕ

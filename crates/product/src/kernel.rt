@@ -39,7 +39,7 @@ pub(crate) fn add_rows(
     while k < count {
         let d = from + k;
         let once = is_one_way(method, width, d);
-        let e = scatter::met(once, d, x, y, &xx, &yy);
+        let e = scatter::met(once, width, d, x, y, &xx, &yy);
         slots::add_line(width, table, d, e, g);
         k += 1;
     }

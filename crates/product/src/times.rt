@@ -4,8 +4,7 @@ ghost use mathlib.Core.Path.{_≡_};
 ghost use Prim.Native.Nat.{_+_, _*_};
 ghost use lib.ListN.{replicate};
 ghost use Rattle.gf2.specs.Coordinates.{coord};
-ghost use Rattle.limbs.specs.Limbs.{carriedLimbs};
-ghost use Rattle.scatter.specs.Cells.{slots};
+ghost use Rattle.scatter.specs.Cells.{slots, twiceLimbs};
 ghost use Rattle.product.specs.Inner.{Sound, Serves, operandOf, made, multiplied, diagonalAt};
 use crate::kernel;
 use crate::slots;
@@ -34,7 +33,7 @@ fn plus_diagonal(
     }
 }
 
-// g is scratch: a slot of limbs for each coordinate, all 0.
+// g is scratch: slots of limbs, all 0.
 pub(crate) fn times(
     method: Method,
     width: usize,
@@ -43,7 +42,7 @@ pub(crate) fn times(
     b: Operand,
     g: &mut [u64],
 ) -> Operand
-    requires { ⌜ Serves method width (now table) × Sound width a × Sound width b × (now g ≡ replicate (slots * carriedLimbs) 0) ⌝ }
+    requires { ⌜ Serves method width (now table) × Sound width a × Sound width b × (now g ≡ replicate (slots * twiceLimbs) 0) ⌝ }
     ensures { λ r. ⌜ r ≡ operandOf width (multiplied method width (now (table .entry)) (a .bytes) (b .bytes)) ⌝ }
 {
     let p = a.bytes;

@@ -61,7 +61,7 @@ RowsStand m zero s rest = s ≡ rest
 RowsStand m (suc d) s rest =
     (x : List ℕ) × (middle : List ℕ) × IsOperand (bytesFor m) m x × (s ≡ rowCard m x ++ middle) × RowsStand m d middle rest
 
--- "form 1, m" stand in s before the rest, m is 2..255, and a table of width m has room
+-- "form 1, m" stand in s before the rest, m is 2..571, and a table of width m has room
 pub record HeadStands (room : ℕ) (s : List ℕ) (m : ℕ) (rest : List ℕ) : Type 0 where
   pub middle : List ℕ
   pub form : Stands 1 s middle
@@ -76,7 +76,7 @@ pub data BadCard (room : ℕ) (s : List ℕ) (f : Fault) : Type 0 where
   -- 14: "form not 1"
   otherForm : (form : ℕ) (rest : List ℕ) → Stands form s rest → ¬ (form ≡ 1) → f ≡ cardForm → BadCard room s f
   noWidth : (rest : List ℕ) → Stands 1 s rest → BadNumber rest f → BadCard room s f
-  -- 1: "width not 2..255"
+  -- 1: "width not 2..571"
   badWidth : (m : ℕ) (middle rest : List ℕ) → Stands 1 s middle → Stands m middle rest → BadWidth m → f ≡ Width → BadCard room s f
   -- 11: "lent output shorter than needed"
   noRoom : (m : ℕ) (middle rest : List ℕ) → Stands 1 s middle → Stands m middle rest → (2 ≤ m) × (m ≤ maxWidth) →

@@ -108,7 +108,7 @@ pub record UnderAccepted (m : ℕ) (table : List ℕ) : Type 0 where
       HasGates (common m table) (countsCommonCall m table) (m * m) (m * (onesIn m table - 1))
 
 pub record Demand3 : Type 0 where
-  -- "For every table of every width m from 2 to 255, the check accepts it exactly when the operands .. form a field in which each operand
+  -- "For every table of every width m from 2 to 571, the check accepts it exactly when the operands .. form a field in which each operand
   -- times itself is that operand turned one place": of every number m and every list of numbers, tables (`Shaped`) or not
   pub check : (m : ℕ) (table : List ℕ) → (checkFault m table ≡ None) ↔ (Shaped m table × Field m table × Squares m table)
   -- "Under every accepted table .."

@@ -1,9 +1,10 @@
 // The trace of a carried operand, and its sums of coordinates from the lowest on, which solve z² + z = c.
 ghost use mathlib.Core.Path.{_≡_};
 ghost use Prim.Native.Nat.{suc, _+_, _*_, _/_, _%_, _^_, _<_};
+ghost use lib.ListN.{length};
 ghost use Rattle.gf2.specs.Sums.{sum};
-ghost use Rattle.gf2.specs.Coordinates.{coord, value, pack};
-ghost use Rattle.gf2.specs.Operands.{carriedBytes};
+ghost use Rattle.gf2.specs.Coordinates.{coord, value};
+ghost use Rattle.gf2.specs.Operands.{carriedBytes, below, fromCoords};
 ghost use Rattle.gf2.specs.Quadratic.{rootCoord};
 ghost use Rattle.limbs.specs.Limbs.{carriedLimbs, limbCoord, packLimbs};
 
@@ -48,25 +49,41 @@ fn prefix_sums(x: u64, carry: u64) -> u64
     f ^ (carry * 18446744073709551615)
 }
 
-// The solution's coordinates. It starts from coordinate 0 as the carry, so that its own coordinate 0 is 0.
-fn root_limbs(c: [u64; limbs::LIMBS]) -> [u64; limbs::LIMBS]
-    ensures { λ r. ⌜ r ≡ packLimbs carriedLimbs (λ i. limbCoord c 0 + sum (suc i) (limbCoord c)) ⌝ }
+// The sum of the coordinates of a slice, modulo 2.
+pub fn trace_of(s: &[u8]) -> u8
+    ensures { λ r. ⌜ r ≡ sum (8 * length (now (s .entry))) (coord (now (s .entry))) % 2 ⌝ }
+{
+    let mut total: u64 = 0;
+    let mut w = 0;
+    while w * 8 < s.len() {
+        total = total ^ limbs::limb_of(s, w);
+        w += 1;
+    }
+    parity(total)
+}
+
+// The solution's coordinates below m. It starts from coordinate 0 as the carry, so that its own coordinate 0 is 0.
+pub fn root_limbs(c: [u64; limbs::LIMBS], m: usize) -> [u64; limbs::LIMBS]
+    ensures { λ r. ⌜ r ≡ packLimbs carriedLimbs (below m (λ i. limbCoord c 0 + sum (suc i) (limbCoord c))) ⌝ }
 {
     let mut out = [0u64; limbs::LIMBS];
     let mut carry = c[0] % 2;
     let mut w = 0;
     while w < limbs::LIMBS {
+        if limbs::ends_at(w, m) {
+            return out;
+        }
         let limb = c[w];
         let sums = prefix_sums(limb, carry);
-        out[w] = sums;
+        out[w] = limbs::low_limb(sums, w, m);
         carry = sums >> 63;
         w += 1;
     }
     out
 }
 
-pub fn root(c: [u8; limbs::BYTES]) -> [u8; limbs::BYTES]
-    ensures { λ r. ⌜ r ≡ pack carriedBytes (rootCoord c) ⌝ }
+pub fn root(c: [u8; limbs::BYTES], m: usize) -> [u8; limbs::BYTES]
+    ensures { λ r. ⌜ r ≡ fromCoords carriedBytes m (rootCoord c) ⌝ }
 {
-    limbs::to_bytes(root_limbs(limbs::to_limbs(c)))
+    limbs::to_bytes(root_limbs(limbs::to_limbs(c), m))
 }

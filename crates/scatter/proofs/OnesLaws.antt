@@ -1,129 +1,82 @@
 -- The ones of a limb, taken off from the lowest on, and of a row limb by limb; what they add at their slots, by coordinates and as an equation.
 use mathlib.Core.Path.{_≡_, refl, sym, ap, ap₂, _∙_}
-use mathlib.Core.Bool.{Bool, true, false}
 use mathlib.Core.List.{List}
-use Prim.Native.Nat.{ℕ, _+_, _-_, _*_, _/_, _%_, _^_, _<_, _≤_}
-use native.Mathlib.Nat.{add-zero, add-mul, zero-mul, div-eq-of-lt, lt-of-lt-of-le, zero-div}
-use native.Mathlib.Decide.{decLt, ℕ-discrete}
+use Prim.Native.Nat.{ℕ, _+_, _-_, _*_, _/_, _%_, _^_, _<_}
+use native.Mathlib.Nat.{add-zero, add-mul, mod-eq-of-lt, zero-div}
+use native.Mathlib.Numerals.{add-one}
 use native.Mathlib.Omega.{arith}
 use lib.ListN.{length, getD}
 use lib.Dec.{eqb}
 use lib.Bits.{bitAnd}
-use lib.Pow.{pow-mono}
 use lib.Count.{trailingZeros}
-use borrow.Author.Tests.{eq-eqb, ne-eqb, lt-ltb, le-ltb}
-use Rattle.gf2.specs.Operands.{choose, below}
+use Rattle.gf2.specs.Coordinates.{coord}
+use Rattle.gf2.specs.Operands.{choose}
+use Rattle.gf2.proofs.Coordinates.{coord-lt}
+use Rattle.gf2.proofs.Sums.{sum-zero, sum-next}
 use Rattle.gf2.proofs.TrailingZeros.{lowest-off}
-use Rattle.gf2.proofs.Operands.{below-in, below-out}
-use Rattle.limbs.specs.Limbs.{carriedLimbs, limbCoord}
-use Rattle.limbs.proofs.LimbCoords.{limb-past, limb-digit, limb-pack, length-limbs, limbs-eq}
+use Rattle.limbs.specs.Limbs.{carriedLimbs, reach, limbCoord, limbsOf}
+use Rattle.limbs.proofs.LimbCoords.{limb-lt, limb-digit, limb-pack, length-limbs, limbs-eq}
 use Rattle.limbs.proofs.LimbLoops.{Limbs}
-use Rattle.scatter.specs.Cells.{slots, HasSlots, hasSlots, cell, Added, bitFrom, rowAdds, plusRow}
-use Rattle.scatter.proofs.CellLaws.{limb-more, added-none, added-more, added-same, slots-there, slots-missing}
+use Rattle.scatter.specs.Cells.{slots, twiceLimbs, HasSlots, cell, Added, keptFrom, limbsAdd, rowAdds, plusRow}
+use Rattle.scatter.proofs.CellLaws.{added-none, added-more, added-same, slots-there, slots-missing}
 
--- what is left of a limb whose bits stand for the slots from `from` on: each step takes off its lowest one
-module _ (limb from rest : ℕ) (small : rest < 2 ^ 64) (some : rest ≡ 0 → ⊥) where
-  abbrev zeros : ℕ
-  zeros = trailingZeros 64 rest
+-- the bits of two limbs, each of which adds f at its slot
+abbrev pub bothAdd : ℕ → ℕ → (ℕ → ℕ) → ℕ → ℕ → ℕ
+bothAdd limb rest f r i = (limb / 2 ^ r % 2 + rest / 2 ^ r % 2) * f i
 
-  ones-more : (s : ℕ) → bitFrom (bitAnd rest (rest - 1)) from s + choose (eqb s (from + zeros)) 1 0 ≡ bitFrom rest from s
-  unfolding bitFrom
-  ones-more s = elim (decLt s from) [
-    | yes l ↦ rw (lt-ltb s from l, ne-eqb s (from + zeros) (λ z. omega arith))
-    | no l ↦ rw (le-ltb s from (omega arith), same l) (lowest-off 64 rest small some (s - from))
-  ]
+module _ (limb : ℕ) (f : ℕ → ℕ) where
+  pub ones-none : (g : List ℕ) → Added (bothAdd limb limb f) g g
+  ones-none g = added-same (λ r i. 0) _ (added-none (λ r i. 0) g (λ r i. refl)) (λ r i h l. even _ _)
     where
-      same : (s < from → ⊥) → eqb s (from + zeros) ≡ eqb (s - from) zeros
-      same l = elim (ℕ-discrete s (from + zeros)) [
-        | yes q ↦ eq-eqb s (from + zeros) q ∙ sym (eq-eqb (s - from) zeros (omega arith))
-        | no q ↦ ne-eqb s (from + zeros) q ∙ sym (ne-eqb (s - from) zeros (λ z. q (omega arith)))
-      ]
+      even : (b e : ℕ) → 0 % 2 ≡ (b + b) * e % 2
+      even b e = omega (arith, add-mul b b e)
 
-  -- the ones that are taken off already: those of the limb and those left, modulo 2
-  pub ones-added : (x : List ℕ) {a b c : List ℕ} → Added (λ s i. (bitFrom limb from s + bitFrom rest from s) * limbCoord x i) a b
-      → Added (λ s i. choose (eqb s (from + zeros)) 1 0 * limbCoord x i) b c → Added (λ s i. (bitFrom limb from s + bitFrom (bitAnd rest (rest - 1)) from s) * limbCoord x i) a c
-  ones-added x p q = added-more _ _ _ p q (λ s i l. ap (λ y. ((bitFrom limb from s + y) * limbCoord x i + choose (eqb s (from + zeros)) 1 0 * limbCoord x i) % 2) (sym (ones-more s)) ∙ twice _ _ _ _)
+  -- the ones that are taken off already: those of the limb and those left, modulo 2; a step takes off the lowest
+  pub ones-more : (rest : ℕ) → rest < 2 ^ 64 → (rest ≡ 0 → ⊥) → {a b c : List ℕ} → Added (bothAdd limb rest f) a b
+      → Added (λ r i. choose (eqb r (trailingZeros 64 rest)) 1 0 * f i) b c → Added (bothAdd limb (bitAnd rest (rest - 1)) f) a c
+  ones-more rest small some p q = added-more _ _ _ p q (λ r i h l.
+      ap (λ y. ((limb / 2 ^ r % 2 + y) * f i + choose (eqb r (trailingZeros 64 rest)) 1 0 * f i) % 2) (sym (lowest-off 64 rest small some r)) ∙ twice _ _ _ _)
     where
       twice : (w r z e : ℕ) → ((w + (r + z)) * e + z * e) % 2 ≡ (w + r) * e % 2
       twice w r z e = omega (arith, add-mul w (r + z) e, add-mul r z e, add-mul w r e)
 
-pub ones-none : (limb from : ℕ) (x g : List ℕ) → Added (λ s i. (bitFrom limb from s + bitFrom limb from s) * limbCoord x i) g g
-ones-none limb from x g = added-same (λ s i. 0) _ (added-none (λ s i. 0) g (λ s i. refl)) (λ s i l. even _ _)
-  where
-    even : (b e : ℕ) → 0 % 2 ≡ (b + b) * e % 2
-    even b e = omega (arith, add-mul b b e)
-
-pub ones-all : (limb from : ℕ) (x : List ℕ) {rest : ℕ} {a b : List ℕ} → rest ≡ 0 → Added (λ s i. (bitFrom limb from s + bitFrom rest from s) * limbCoord x i) a b → Added (λ s i. bitFrom limb from s * limbCoord x i) a b
-unfolding bitFrom
-ones-all limb from x {rest} z p = added-same _ _ p (λ s i l. ap (λ y. y * limbCoord x i % 2) (ap (λ r. bitFrom limb from s + bitFrom r from s) z ∙ ap (λ y. bitFrom limb from s + y) (none s) ∙ add-zero _))
-  where
-    none : (s : ℕ) → bitFrom 0 from s ≡ 0
-    none s = elim (decLt s from) [
-      | yes l ↦ rw (lt-ltb s from l)
-      | no l ↦ rw (le-ltb s from (omega arith), zero-div)
-    ]
+  pub ones-all : {rest : ℕ} {a b : List ℕ} → rest ≡ 0 → Added (bothAdd limb rest f) a b → Added (λ r i. limb / 2 ^ r % 2 * f i) a b
+  ones-all {rest} z p = added-same _ _ p (λ r i h l. ap (λ y. (limb / 2 ^ r % 2 + y) * f i % 2) (ap (λ k. k / 2 ^ r % 2) z ∙ ap (λ k. k % 2) (zero-div (2 ^ r))) ∙ ap (λ y. y * f i % 2) (add-zero _))
 
 -- limb after limb of a row
-abbrev pub limbsTo : List ℕ → List ℕ → ℕ → ℕ → ℕ → ℕ
-limbsTo row x w s i = below (w * 64) (limbCoord row) s * limbCoord x i
+module _ (m : ℕ) (e row : List ℕ) where
+  pub row-none : (g : List ℕ) → Added (limbsAdd m e row 0) g g
+  row-none g = added-none _ g (λ r i. sum-zero _)
 
-module _ (row x : List ℕ) where
-  pub row-none : (g : List ℕ) → Added (limbsTo row x 0) g g
-  row-none g = added-none _ g (λ s i. ap (λ y. y * limbCoord x i) (below-out (0 * 64) (limbCoord row) s (omega arith)) ∙ omega arith)
+  limb-bit : (q r : ℕ) → q < carriedLimbs → r < slots → getD (limbsOf row) q 0 / 2 ^ r % 2 ≡ coord row (q * 64 + r)
+  limb-bit q r h l = sym (limb-digit (limbsOf row) q r l) ∙ limb-pack carriedLimbs (coord row) (q * 64 + r) (omega arith) ∙ mod-eq-of-lt (coord-lt row _)
 
-  limb-bits : Limbs row → (w s : ℕ) → bitFrom (getD row w 0) (w * 64) s ≡ choose (eqb (s / 64) w) (limbCoord row s) 0
-  unfolding bitFrom
-  limb-bits small w s = elim (decLt s (w * 64)) [
-    | yes l ↦ rw (lt-ltb s (w * 64) l, ne-eqb (s / 64) w (λ z. omega arith))
-    | no l ↦ elim (ℕ-discrete (s / 64) w) [
-      | yes q ↦ rw (le-ltb s (w * 64) (omega arith), eq-eqb (s / 64) w q) (sym (limb-digit row w (s - w * 64) (omega arith)) ∙ ap (limbCoord row) (omega arith))
-      | no q ↦ rw (le-ltb s (w * 64) (omega arith), ne-eqb (s / 64) w q)
-          (ap (λ y. y % 2) (div-eq-of-lt (lt-of-lt-of-le (small w) (pow-mono {i = 64} {j = s - w * 64} (omega arith)))))
-    ]
-  ]
+  pub row-more : (q : ℕ) → q < carriedLimbs → {limb : ℕ} {a b c : List ℕ} → limb ≡ getD (limbsOf row) q 0 → Added (limbsAdd m e row q) a b
+      → Added (λ r i. limb / 2 ^ r % 2 * keptFrom m q e i) b c → Added (limbsAdd m e row (q + 1)) a c
+  row-more q h z p s = added-more _ _ _ p s (λ r i b l. ap (λ y. y % 2)
+      (ap (λ y. limbsAdd m e row q r i + y * keptFrom m q e i) (ap (λ y. y / 2 ^ r % 2) z ∙ limb-bit q r h b)
+      ∙ sym (ap (λ n. limbsAdd m e row n r i) (add-one q) ∙ sum-next _ q)))
 
-  pub row-more : Limbs row → (w : ℕ) {a b c : List ℕ} → Added (limbsTo row x w) a b → Added (λ s i. bitFrom (getD row w 0) (w * 64) s * limbCoord x i) b c → Added (limbsTo row x (w + 1)) a c
-  row-more small w p q = added-more _ _ _ p q (λ s i l. ap (λ y. y % 2)
-      (sym (add-mul _ _ (limbCoord x i)) ∙ ap (λ y. y * limbCoord x i) (ap (λ y. below (w * 64) (limbCoord row) s + y) (limb-bits small w s) ∙ limb-more w s (limbCoord row))))
-
-  pub row-all : length row ≡ carriedLimbs → (w : ℕ) → carriedLimbs ≤ w → {a b : List ℕ} → HasSlots a → Added (limbsTo row x w) a b → Added (rowAdds a x row) a b
-  row-all size w h {a} there p = added-same _ _ p (λ s i l. ap₂ (λ t y. choose t (y * limbCoord x i) 0 % 2) (sym (slots-there a there)) (all s))
-    where
-      all : (s : ℕ) → below (w * 64) (limbCoord row) s ≡ limbCoord row s
-      all s = elim (decLt s (w * 64)) [
-        | yes l ↦ below-in (w * 64) (limbCoord row) s l
-        | no l ↦ below-out (w * 64) (limbCoord row) s (omega arith) ∙ sym (limb-past row s (omega arith))
-      ]
-
-  pub row-missing : (a : List ℕ) → (HasSlots a → ⊥) → Added (rowAdds a x row) a a
-  row-missing a h = added-none _ a (λ s i. ap (λ t. choose t (limbCoord row s * limbCoord x i) 0) (slots-missing a h))
-
-  -- by an equation, and back
-  pub row-equal : {a b : List ℕ} → Limbs b → Added (rowAdds a x row) a b → b ≡ plusRow a x row
+  -- a row's sum, by an equation and back
+  pub row-equal : {q : ℕ} {a b : List ℕ} → q ≡ reach m → Limbs b → HasSlots a → Added (limbsAdd m e row q) a b → b ≡ plusRow m a e row
   unfolding plusRow
-  row-equal {a} {b} small p = limbs-eq (length a) _ (p .size) small (λ c l.
-      let e : c ≡ c / slots * slots + c % slots = omega arith in
-      ap (limbCoord b) e ∙ p .coords (c / slots) (c % slots) (omega arith) ∙ ap (λ k. (limbCoord a k + rowAdds a x row (c / slots) (c % slots)) % 2) (sym e))
+  row-equal {q} {a} {b} z small there p = limbs-eq (length a) _ (p .size) small (λ c l.
+      let place : c ≡ c / (64 * twiceLimbs) * (64 * twiceLimbs) + c % (64 * twiceLimbs) = omega arith in
+      ap (limbCoord b) place ∙ p .coords (c / (64 * twiceLimbs)) (c % (64 * twiceLimbs)) (omega arith) (omega arith)
+      ∙ ap₂ (λ k y. (limbCoord a k + y) % 2) (sym place) (ap₂ (λ t n. choose t (limbsAdd m e row n (c / (64 * twiceLimbs)) (c % (64 * twiceLimbs))) 0) (sym (slots-there a there)) z))
 
-  pub row-added : length row ≡ carriedLimbs → {a b : List ℕ} → HasSlots a → b ≡ plusRow a x row → Added (rowAdds a x row) a b
+  pub row-missing : (a : List ℕ) → Limbs a → (HasSlots a → ⊥) → a ≡ plusRow m a e row
   unfolding plusRow
-  row-added size {a} {b} there q = record {
-    size = long;
-    coords = λ s i l. elim (decLt s slots) [
-      | yes h ↦
-          let d : (s * slots + i) / slots ≡ s = omega arith in
-          let r : (s * slots + i) % slots ≡ i = omega arith in
-          ap (λ z. limbCoord z (s * slots + i)) q ∙ limb-pack (length a) _ (s * slots + i) (omega (arith, there))
-          ∙ ap₂ (λ t j. (cell a s i + rowAdds a x row t j) % 2) d r
-      | no h ↦
-          limb-past b (s * slots + i) (omega (arith, long, there))
-          ∙ sym (ap₂ (λ y z. (y + choose (hasSlots a) (z * limbCoord x i) 0) % 2) (limb-past a (s * slots + i) (omega (arith, there))) (limb-past row s (omega arith)) ∙ nothing (hasSlots a) (limbCoord x i))
-    ];
+  row-missing a small h = limbs-eq (length a) _ refl small (λ c l.
+      sym (ap (λ t. (limbCoord a c + choose t (limbsAdd m e row (reach m) (c / (64 * twiceLimbs)) (c % (64 * twiceLimbs))) 0) % 2) (slots-missing a h) ∙ omega (arith, limb-lt a c)))
+
+  pub row-added : {a b : List ℕ} → HasSlots a → b ≡ plusRow m a e row → Added (limbsAdd m e row (reach m)) a b
+  unfolding plusRow
+  row-added {a} {b} there z = record {
+    size = ap length z ∙ length-limbs (length a) _;
+    coords = λ r i h l.
+        let d : (r * (64 * twiceLimbs) + i) / (64 * twiceLimbs) ≡ r = omega arith in
+        let k : (r * (64 * twiceLimbs) + i) % (64 * twiceLimbs) ≡ i = omega arith in
+        ap (λ y. limbCoord y (r * (64 * twiceLimbs) + i)) z ∙ limb-pack (length a) _ (r * (64 * twiceLimbs) + i) (omega (arith, there))
+        ∙ ap₂ (λ t j. (cell a r i + rowAdds m a e row t j) % 2) d k ∙ ap (λ t. (cell a r i + choose t (limbsAdd m e row (reach m) r i) 0) % 2) (slots-there a there);
   }
-    where
-      long : length b ≡ length a
-      long = ap length q ∙ length-limbs (length a) _
-
-      nothing : (t : Bool) (y : ℕ) → (0 + choose t (0 * y) 0) % 2 ≡ 0
-      nothing true y = ap (λ z. (0 + z) % 2) (zero-mul y)
-      nothing false y = refl

@@ -1,68 +1,78 @@
 -- What the kernels make: slots of limbs at which sums are gathered, coordinate by coordinate.
 use mathlib.Core.Path.{_≡_}
-use mathlib.Core.Bool.{Bool}
+use mathlib.Core.Bool.{Bool, _&&_}
 use mathlib.Core.List.{List}
-use Prim.Native.Nat.{ℕ, _+_, _-_, _*_, _/_, _%_, _^_, _<_}
+use Prim.Native.Nat.{ℕ, _+_, _*_, _/_, _%_, _<_}
 use lib.ListN.{length}
 use lib.Dec.{ltb, eqb}
 use Rattle.gf2.specs.Sums.{sum}
-use Rattle.gf2.specs.Operands.{carriedBytes, choose, below}
-use Rattle.limbs.specs.Limbs.{carriedLimbs, limbCoord, packLimbs, raised}
+use Rattle.gf2.specs.Coordinates.{coord}
+use Rattle.gf2.specs.Operands.{choose, below}
+use Rattle.limbs.specs.Limbs.{carriedLimbs, few, reach, limbCoord, packLimbs, raised}
 
--- the coordinates of an operand's limbs, and as many slots; a slot gathers what the ones at one place of the rows ask for
+-- a slot for each bit of a limb: it gathers what the ones at that bit of the rows' limbs ask for
 abbrev pub slots : ℕ
-slots = 8 * carriedBytes
+slots = 64
 
--- room for an operand's limbs twice, and one more
+-- room for an operand's limbs twice, and one more: a slot's limbs too
 abbrev pub twiceLimbs : ℕ
 twiceLimbs = 2 * carriedLimbs + 1
 
+-- the limbs of a product that a width is worked on in
+abbrev pub twiceReach : ℕ → ℕ
+twiceReach m = choose (ltb m (64 * few)) (2 * few) twiceLimbs
+
+-- whether a loop over these ends before limb w
+unfoldable pub twiceEndsAt : ℕ → ℕ → Bool
+twiceEndsAt w m = eqb w (2 * few) && ltb m (64 * few)
+
 -- a list of limbs has all slots
 abbrev pub HasSlots : List ℕ → Type 0
-HasSlots g = length g ≡ slots * carriedLimbs
+HasSlots g = length g ≡ slots * twiceLimbs
 
--- coordinate i of the limbs at slot s
+-- coordinate i of the limbs at slot r
 abbrev pub cell : List ℕ → ℕ → ℕ → ℕ
-cell g s i = limbCoord g (s * slots + i)
+cell g r i = limbCoord g (r * (64 * twiceLimbs) + i)
 
--- coordinate i of the limbs at slot s moved up by k places
-abbrev pub cellRaised : List ℕ → ℕ → ℕ → ℕ → ℕ
-cellRaised g s k = raised k (below slots (cell g s))
-
--- coordinate i of the sum of the first n of the slots r, 64 + r, .., each from its own limb on
-abbrev pub columnTo : List ℕ → ℕ → ℕ → ℕ → ℕ
-columnTo g r n i = sum n (λ q. cellRaised g (q * 64 + r) (q * 64) i)
-
--- h is g with f s i added to coordinate i at slot s, modulo 2
+-- h is g with f r i added to coordinate i at each slot r, modulo 2
 pub record Added (f : ℕ → ℕ → ℕ) (g h : List ℕ) : Type 0 where
   pub size : length h ≡ length g
-  pub coords : (s i : ℕ) → i < slots → cell h s i ≡ (cell g s i + f s i) % 2
+  pub coords : (r i : ℕ) → r < slots → i < 64 * twiceLimbs → cell h r i ≡ (cell g r i + f r i) % 2
 
--- the bits of a limb, for the slots from `from` on
-unfoldable pub bitFrom : ℕ → ℕ → ℕ → ℕ
-bitFrom limb from s = choose (ltb s from) 0 (limb / 2 ^ (s - from) % 2)
+-- coordinates in the limbs that a width is worked on in, from limb q on
+abbrev pub keptFrom : ℕ → ℕ → List ℕ → ℕ → ℕ
+keptFrom m q e = raised (q * 64) (below (64 * reach m) (limbCoord e))
+
+-- what the first n limbs of a row add to coordinate i at slot r: e from limb q on, where the row has coordinate q * 64 + r
+abbrev pub limbsAdd : ℕ → List ℕ → List ℕ → ℕ → ℕ → ℕ → ℕ
+limbsAdd m e row n r i = sum n (λ q. coord row (q * 64 + r) * keptFrom m q e i)
 
 -- whether a list of limbs has all slots
 abbrev pub hasSlots : List ℕ → Bool
-hasSlots g = eqb (length g) (slots * carriedLimbs)
+hasSlots g = eqb (length g) (slots * twiceLimbs)
 
--- what a row adds to coordinate i at slot s: coordinate i of e, where coordinate s of the row is 1 and g has all slots
-abbrev pub rowAdds : List ℕ → List ℕ → List ℕ → ℕ → ℕ → ℕ
-rowAdds g e row s i = choose (hasSlots g) (limbCoord row s * limbCoord e i) 0
+-- what a row adds to coordinate i at slot r, where g has all slots
+abbrev pub rowAdds : ℕ → List ℕ → List ℕ → List ℕ → ℕ → ℕ → ℕ
+rowAdds m g e row r i = choose (hasSlots g) (limbsAdd m e row (reach m) r i) 0
 
--- g with what a row adds to it: coordinate c of g is coordinate c modulo `slots` at slot c / slots rounded down
-unfoldable pub plusRow : List ℕ → List ℕ → List ℕ → List ℕ
-plusRow g e row = packLimbs (length g) (λ c. limbCoord g c + rowAdds g e row (c / slots) (c % slots))
+-- g with what a row adds to it: coordinate c of g is coordinate c modulo a slot's at slot c over that, rounded down
+unfoldable pub plusRow : ℕ → List ℕ → List ℕ → List ℕ → List ℕ
+plusRow m g e row = packLimbs (length g) (λ c. limbCoord g c + rowAdds m g e row (c / (64 * twiceLimbs)) (c % (64 * twiceLimbs)))
 
--- coordinate i of the sum of all slots, slot s moved up s
-abbrev pub spreadSum : List ℕ → ℕ → ℕ
-spreadSum g i = choose (hasSlots g) (sum slots (λ s. cellRaised g s s i)) 0
+-- coordinate i of the sum of all slots, slot r moved up r, in the limbs that the width is worked on in
+abbrev pub spreadSum : ℕ → List ℕ → ℕ → ℕ
+spreadSum m g = below (64 * twiceReach m) (λ i. choose (hasSlots g) (sum slots (λ r. raised r (cell g r) i)) 0)
+
+-- whether limbs go on for an operand's from a coordinate on, and one more
+abbrev pub isLong : ℕ → List ℕ → Bool
+isLong at x = ltb (at / 64 + carriedLimbs) (length x)
 
 -- coordinate i of what is seen of limbs from a coordinate on, where there are limbs enough
-abbrev pub seenFrom : List ℕ → ℕ → ℕ → ℕ
-seenFrom x at i = choose (ltb (at / 64 + carriedLimbs) (length x)) (limbCoord x (at + i)) 0
+abbrev pub seenFrom : ℕ → List ℕ → ℕ → ℕ → ℕ
+seenFrom m x at = below (64 * reach m) (λ i. choose (isLong at x) (limbCoord x (at + i)) 0)
 
 -- coordinate i of what a row at distance d meets, where xx and yy are x and y written twice: the product of the pair i, i + d,
 -- and unless it is met one way round that of the pair the other way
-abbrev pub metAt : Bool → ℕ → List ℕ → List ℕ → List ℕ → List ℕ → ℕ → ℕ
-metAt once d x y xx yy i = limbCoord x i * seenFrom yy d i + choose once 0 (limbCoord y i * seenFrom xx d i)
+abbrev pub metAt : Bool → ℕ → ℕ → List ℕ → List ℕ → List ℕ → List ℕ → ℕ → ℕ
+metAt once m d x y xx yy = below (64 * reach m) (λ i. choose (isLong d xx && isLong d yy)
+    (limbCoord x i * limbCoord yy (d + i) + choose once 0 (limbCoord y i * limbCoord xx (d + i))) 0)

@@ -18,5 +18,8 @@ pub use windows::window;
 // Room for an operand's limbs twice, and one more to read past a limb's end.
 pub const TWICE: usize = 2 * limbs::LIMBS + 1;
 
-// The limbs of a slot for each coordinate.
-pub const ROOM: usize = 8 * limbs::BYTES * limbs::LIMBS;
+// A slot for each bit of a limb.
+pub const SLOTS: usize = 64;
+
+// The limbs of all slots, each with room for a product: some 10 KiB, which stay in a processor's nearest cache.
+pub const ROOM: usize = SLOTS * TWICE;

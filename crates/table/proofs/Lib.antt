@@ -1,14 +1,16 @@
 -- Parts: causes judged part after part.
--- Comparing: bytes compared as limbs.
+-- Comparing: operands compared by their limbs and by their coordinates.
+-- Squares: the square of an operand, limb by limb.
 -- Shapes: tables without fault of shape: their rows, as they lie in the table and carried.
 -- BasisOperands: the basis operands, products of them and sums of rows as operands.
 -- Rules: rules 5 and 6 as tests of one row and of one pair.
 -- RowSums: sums of rows: which products they are, and the sum of all rows.
--- RowsAtOnes: the sum of the rows at the ones of an operand, in limbs.
+-- RowsAtOnes: the sum of the rows at the ones of an operand, below the width.
 -- TableOnes: the ones of a table's bytes are those of its rows.
 -- Theorems: the proofs of the statements in specs/Statements.antt.
 pub mod Parts
 pub mod Comparing
+pub mod Squares
 pub mod Shapes
 pub mod BasisOperands
 pub mod Rules

@@ -1,21 +1,23 @@
 -- Sums of rows: which products they are, and the sum of all rows.
 -- left-sum, right-sum: under rules 4 and 5 the two sides of rule 6; first-left, first-right: those for i = 0.
--- rows-none, rows-more, rows-all: the sum of all rows, row after row.
-use mathlib.Core.Path.{_≡_, refl, sym, ap, _∙_}
-use mathlib.Core.Bool.{_&&_}
+-- first-test: rule 6 for i = 0, coordinate by coordinate. rows-all: the sum of all rows is that at the ones of one.
+use mathlib.Core.Path.{_≡_, refl, sym, ap, ap₂, _∙_}
+use mathlib.Core.Bool.{true, _&&_}
 use mathlib.Core.List.{List}
-use Prim.Native.Nat.{ℕ, zero, suc, _+_, _-_, _*_, _%_, _<_, _≤_}
-use native.Mathlib.Nat.{mod-eq-of-lt}
-use native.Mathlib.Numerals.{add-one}
+use Prim.Native.Nat.{ℕ, zero, suc, _+_, _-_, _*_, _/_, _%_, _^_, _<_, _≤_}
+use native.Mathlib.Nat.{one-mul, mod-eq-of-lt}
 use native.Mathlib.Omega.{arith}
-use lib.ListN.{replicate}
-use Rattle.gf2.specs.Sums.{sum}
-use Rattle.gf2.specs.Coordinates.{coord, pack}
-use Rattle.gf2.specs.Operands.{bytesFor, carriedBytes, minus, IsOperand, turned, carriedBy}
+use lib.Dec.{eqb}
+use lib.ListN.{replicate, getD-replicate}
+use borrow.Author.Tests.{eqb-true}
+use Rattle.gf2.specs.Sums.{sum, every}
+use Rattle.gf2.specs.Coordinates.{coord}
+use Rattle.gf2.specs.Operands.{bytesFor, carriedBytes, minus, IsOperand, fromCoords, turned, carriedBy, same}
 use Rattle.gf2.specs.Tables.{row}
 use Rattle.gf2.specs.Check.{Symmetric, rowSum}
-use Rattle.gf2.proofs.Sums.{sum-none}
-use Rattle.gf2.proofs.Operands.{minus-lt, from-operand, clear-pack}
+use Rattle.gf2.proofs.Sums.{sum-ext, every-at}
+use Rattle.gf2.proofs.Coordinates.{length-pack}
+use Rattle.gf2.proofs.Operands.{minus-lt, coord-from, from-operand, from-ext, turned-operand, coord-turned}
 use Rattle.gf2.proofs.Parity.{bits, odd-mul}
 use Rattle.gf2.proofs.Index.{Ix, at, o, _⊖_, at-minus, z-add, sub-add}
 use Rattle.gf2.proofs.IndexSums.{Σ-ext, odd-Σ}
@@ -23,11 +25,12 @@ use Rattle.gf2.proofs.Vector.{Vec, turn, β, lin, turn-turn, turn-z, turn-β}
 use Rattle.gf2.proofs.VectorProduct.{_·_ as mul, pair, turn-mul, mul-ββ, mul-o, pair-o, mul-comm, Symmetric as Symmetricᵛ}
 use Rattle.gf2.proofs.OperandVectors.{bytes-fit, vec, bytes, vec-bytes, from-vec, basis-vec, turned-bytes}
 use Rattle.gf2.proofs.TableVectors.{rows, row-vec, product-bytes, symmetric}
-use Rattle.gf2.proofs.Carrying.{carried-from}
-use Rattle.limbs.specs.Limbs.{carriedLimbs, limbCoord, packLimbs}
-use Rattle.limbs.proofs.LimbCoords.{limb-pack, limbs-ext, limbs-zero, bytes-limbs}
+use Rattle.gf2.proofs.Carrying.{carried-from, same-carried, same-coord, has-bytes}
+use Rattle.limbs.specs.Limbs.{limbCoord}
 use Rattle.table.specs.Rows.{Shaped}
-use Rattle.table.specs.Inner.{carriedRow, rowsAt, leftProduct, rightProduct}
+use Rattle.table.specs.Inner.{carriedRow, rowsAt, Below, leftProduct, rightProduct, associates}
+use Rattle.table.proofs.BasisOperands.{left-operand, right-operand}
+use Rattle.table.proofs.Comparing.{every-same}
 
 pub minus-at : (m k j : ℕ) → j < m → (k + (m - j)) % m ≡ minus m k j
 unfolding minus
@@ -124,20 +127,44 @@ pub first-right : {m : ℕ} {t : List ℕ} → Shaped m t → (j : ℕ) → j < 
 first-right {m = zero} {t} s j l = absurd (omega arith)
 first-right {m = suc p} {t} s j l = first-rows p t s j l
 
--- the sum of the first n rows, in limbs
-abbrev pub firstRows : ℕ → List ℕ → ℕ → List ℕ
-firstRows m t n = packLimbs carriedLimbs (λ s. sum n (λ d. coord (row m t d) s))
+-- rule 6 for i = 0, coordinate by coordinate
+pub first-test : {m : ℕ} {t : List ℕ} → Shaped m t → Symmetric m t → (j : ℕ) → j < m → (x : List ℕ) → Below m (λ r. sum m (λ k. coord (row m t j) k * coord (row m t k) r)) x
+    → every m (λ i. eqb (limbCoord x i) (coord (row m t (minus m j 1)) (minus m i 1))) ≡ associates m t 0 j
+unfolding associates rowsAt
+first-test {m} {t} s y j l x e =
+    every-same (turned-operand _ (length-pack carriedBytes _) 1) (at-operand m t (carriedRow m t j)) right left
+    ∙ ap₂ same (first-left s y j l) (first-right s j l) ∙ same-carried (omega (arith, s .greatest)) (left-operand m t 0 j) (right-operand m t 0 j)
+  where
+    fits : m ≤ 8 * carriedBytes
+    fits = let g = s .greatest in omega arith
 
-pub rows-none : (m : ℕ) (t : List ℕ) → replicate carriedLimbs 0 ≡ firstRows m t 0
-unfolding sum
-rows-none m t = limbs-zero carriedLimbs _ (λ i h. refl)
+    own : (d : ℕ) → d < m → coord (carriedRow m t d) ≡ coord (row m t d)
+    own d h = same-coord (has-bytes (s .greatest) (s .isTable .rows d h))
 
-pub rows-more : (m : ℕ) (t : List ℕ) (d : ℕ) {total : List ℕ} → total ≡ firstRows m t d → packLimbs carriedLimbs (λ s. limbCoord total s + coord (row m t d) s) ≡ firstRows m t (d + 1)
-unfolding sum
-rows-more m t d e = rw add-one (limbs-ext carriedLimbs _ _ (λ i h. omega (arith, ap (λ l. limbCoord l i) e ∙ limb-pack carriedLimbs _ i h)))
+    right : (i : ℕ) → i < m → limbCoord x i ≡ coord (rowsAt m t (carriedRow m t j)) i
+    right i h = e i h ∙ sym (coord-from carriedBytes m _ fits i h ∙ ap (λ f. sum m (λ k. f k * coord (row m t k) i) % 2) (own j l))
 
-pub rows-all : {m : ℕ} {t : List ℕ} → Shaped m t → pack carriedBytes (limbCoord (firstRows m t m)) ≡ carriedBy (rowSum m t)
-unfolding rowSum
+    left : (i : ℕ) → i < m → coord (row m t (minus m j 1)) (minus m i 1) ≡ coord (turned m 1 (carriedRow m t (minus m j 1))) i
+    left i h = sym (coord-turned _ (length-pack carriedBytes _) fits 1 i h ∙ ap (λ f. f (minus m i 1)) (own (minus m j 1) (minus-lt m j 1 (omega arith))))
+
+-- the coordinates of full bytes
+full-byte : every 8 (λ j. eqb (255 / 2 ^ j % 2) 1) ≡ true
+unfolding every
+full-byte = refl
+
+full : (k : ℕ) → k < 8 * carriedBytes → coord (replicate carriedBytes 255) k ≡ 1
+unfolding coord
+full k h = ap (λ y. y / 2 ^ (k % 8) % 2) (getD-replicate {A = ℕ} carriedBytes (k / 8) 255 0 (omega arith))
+    ∙ eqb-true _ _ (every-at 8 (λ j. eqb (255 / 2 ^ j % 2) 1) full-byte (k % 8) (omega arith))
+
+-- the rows at the ones of one are all rows
+pub rows-all : {m : ℕ} {t : List ℕ} → Shaped m t → rowsAt m t (fromCoords carriedBytes m (coord (replicate carriedBytes 255))) ≡ carriedBy (rowSum m t)
+unfolding rowsAt rowSum
 rows-all {m} {t} s =
-    let g = s .greatest in
-    bytes-limbs _ ∙ clear-pack carriedBytes m _ (λ i h. sum-none m _ (λ d l. s .isTable .rows d l .clear i h)) ∙ sym (carried-from (omega arith) (bytes-fit m) _)
+    from-ext carriedBytes m _ _ (λ i l. ap (λ n. n % 2) (sum-ext m _ _ (λ k h. ap (λ y. y * coord (row m t k) i) (one k h) ∙ one-mul _)))
+    ∙ sym (carried-from (omega (arith, s .greatest)) (bytes-fit m) _)
+  where
+    one : (k : ℕ) → k < m → coord (fromCoords carriedBytes m (coord (replicate carriedBytes 255))) k ≡ 1
+    one k h =
+        let g = s .greatest in
+        coord-from carriedBytes m _ (omega arith) k h ∙ ap (λ y. y % 2) (full k (omega arith))

@@ -1,66 +1,76 @@
--- The sum of the rows at the ones of an operand, in limbs: the steps of the loops that make it.
--- plus-row: one row more. ones-none, ones-step, ones-within, ones-clear: the ones of a limb, taken off from the lowest on.
--- limbs-none, limbs-more, limb-within, limbs-all: limb after limb of the operand.
-use mathlib.Core.Path.{_≡_, refl, sym, ap, fun-ext, _∙_}
+-- The sum of the rows at the ones of an operand, below the width: the steps of the loops that make it.
+-- plus-whole, plus-part: one row more. ones-none, ones-step, ones-within, ones-clear: the ones of a limb, taken off from the lowest on.
+-- limbs-none, limbs-more, limb-within, limbs-all: limb after limb of the operand. low-bytes: the sum, carried.
+use mathlib.Core.Path.{_≡_, sym, ap, _∙_}
 use mathlib.Core.List.{List}
 use Prim.Native.Nat.{ℕ, _+_, _-_, _*_, _/_, _%_, _^_, _<_, _≤_}
-use native.Mathlib.Nat.{add-zero, zero-mul, mul-zero, zero-div, mod-eq-of-lt, mod-mod, div-eq-of-lt, lt-of-lt-of-le}
+use native.Mathlib.Nat.{zero-mul, zero-div, mod-mod, div-eq-of-lt, lt-of-lt-of-le}
 use native.Mathlib.Decide.{decLt}
 use native.Mathlib.Omega.{arith}
-use lib.ListN.{length, getD, replicate}
+use lib.Dec.{leb}
+use lib.ListN.{length, getD, take, drop, replicate, length-drop}
 use lib.Bits.{bitAnd}
 use lib.Count.{trailingZeros}
 use lib.Pow.{pow-mono}
+use lib.Seq.{getD-take, length-take-le}
+use borrow.Author.Tests.{le-leb}
 use Rattle.gf2.specs.Sums.{sum}
 use Rattle.gf2.specs.Coordinates.{coord, pack}
-use Rattle.gf2.specs.Operands.{carriedBytes, IsOperand}
+use Rattle.gf2.specs.Operands.{maxWidth, bytesFor, carriedBytes, choose, below, fromCoords}
 use Rattle.gf2.specs.Tables.{row}
 use Rattle.gf2.proofs.Sums.{sum-ext, sum-none, sum-split, sum-clear}
-use Rattle.gf2.proofs.Coordinates.{length-pack}
-use Rattle.gf2.proofs.Operands.{clear-pack}
+use Rattle.gf2.proofs.Operands.{below-in, from-ext}
 use Rattle.gf2.proofs.TrailingZeros.{lowest-one, lowest-off, lowest-sum}
-use Rattle.limbs.specs.Limbs.{carriedLimbs, limbCoord, packLimbs}
-use Rattle.limbs.proofs.LimbCoords.{limb-lt, limb-digit, limb-pack, limbs-lt, limbs-ext, limbs-eq, limbs-zero, limbs-same, bytes-limbs}
-use Rattle.limbs.proofs.LimbLoops.{Limbs}
-use Rattle.gf2.proofs.Carrying.{coord-carried}
-use Rattle.table.specs.Rows.{Shaped}
-use Rattle.table.specs.Inner.{carriedRow, rowsAt, plusRows}
-use Rattle.table.proofs.Shapes.{sized, row-short}
+use Rattle.limbs.specs.Limbs.{carriedLimbs, reach, limbCoord, packLimbs, limbsOf}
+use Rattle.limbs.proofs.LimbCoords.{limb-lt, limb-pack, limbs-lt, limb-zero, bytes-from}
+use Rattle.limbs.proofs.Reach.{reach-room}
+use Rattle.table.specs.Inner.{Below, limbRows, rowsAt}
+use Rattle.table.proofs.Comparing.{limb-bit}
 
-pub plus-row : {m : ℕ} {t : List ℕ} → Shaped m t → (d : ℕ) → d < m → (x : List ℕ) {limbs : List ℕ} → limbs ≡ packLimbs carriedLimbs (coord (carriedRow m t d))
-    → packLimbs carriedLimbs (λ s. limbCoord x s + limbCoord limbs s) ≡ packLimbs carriedLimbs (λ s. limbCoord x s + coord (row m t d) s)
-plus-row {m} {t} s d l x e = limbs-ext carriedLimbs _ _ (λ i h. ap (λ y. (limbCoord x i + y) % 2)
-    (ap (λ f. f i) (limbs-same _ e (length-pack carriedBytes _)) ∙ coord-carried carriedBytes (row m t d) (row-short m d t (sized s) l) i))
+-- bytes from a row's start on, as many as the row has or more: below the width they are the row's
+part-coord : (m d n : ℕ) (t : List ℕ) (i : ℕ) → bytesFor m ≤ n → i < m → coord (take n (drop (d * bytesFor m) t)) i ≡ coord (row m t d) i
+unfolding row coord
+part-coord m d n t i h l = ap (λ y. y / 2 ^ (i % 8) % 2)
+    (getD-take {A = ℕ} n (drop (d * bytesFor m) t) (i / 8) 0 (omega arith) ∙ sym (getD-take {A = ℕ} (bytesFor m) (drop (d * bytesFor m) t) (i / 8) 0 (omega arith)))
 
--- the limbs of a carried operand
-abbrev pub Packed : List ℕ → Type 0
-Packed x = x ≡ packLimbs carriedLimbs (limbCoord x)
+abbrev rowPart : ℕ → List ℕ → ℕ → List ℕ
+rowPart m t d = take carriedBytes (drop (d * bytesFor m) t)
 
-pub packed-limbs : {x : List ℕ} → length x ≡ carriedLimbs → Limbs x → Packed x
-packed-limbs {x} size small = limbs-eq carriedLimbs _ size small (λ i h. sym (mod-eq-of-lt (limb-lt x i)))
+module _ {m : ℕ} (g : m ≤ maxWidth) (t : List ℕ) (d : ℕ) (x : List ℕ) {r : List ℕ} where
+  pub plus-whole : r ≡ packLimbs carriedLimbs (λ i. limbCoord x i + coord (row m t d) i) → Below m (λ s. limbCoord x s + coord (row m t d) s) r
+  plus-whole e i l = ap (λ y. limbCoord y i) e ∙ limb-pack carriedLimbs _ i (omega arith)
 
-pub packed-made : {x : List ℕ} (f : ℕ → ℕ) → x ≡ packLimbs carriedLimbs f → Packed x
-packed-made {x} f e = e ∙ limbs-ext carriedLimbs f _ (λ i h. sym (ap (λ l. limbCoord l i % 2) e ∙ ap (λ y. y % 2) (limb-pack carriedLimbs f i h) ∙ mod-mod _ 2))
+  -- read with what follows the row
+  pub plus-part : d * bytesFor m + carriedBytes ≤ length t
+      → r ≡ packLimbs carriedLimbs (λ i. limbCoord x i + choose (leb carriedBytes (length (rowPart m t d))) (below (64 * reach m) (coord (rowPart m t d)) i) 0)
+      → Below m (λ s. limbCoord x s + coord (row m t d) s) r
+  plus-part h e i l =
+      let part = rowPart m t d in
+      let size : length part ≡ carriedBytes = length-take-le carriedBytes (drop (d * bytesFor m) t) (rw length-drop (omega arith)) in
+      ap (λ y. limbCoord y i) e ∙ limb-pack carriedLimbs _ i (omega arith)
+      ∙ ap (λ y. (limbCoord x i + y) % 2) (ap (λ b. choose b (below (64 * reach m) (coord part) i) 0) (le-leb carriedBytes (length part) (omega arith))
+      ∙ below-in (64 * reach m) (coord part) i (omega (arith, reach-room m (omega arith))) ∙ part-coord m d carriedBytes t i (omega arith) l)
 
 -- a limb whose bits stand for the rows from `from` on: no row past the last
 abbrev pub Within : ℕ → ℕ → ℕ → Type 0
 Within m limb from = (b : ℕ) → m ≤ from + b → limb / 2 ^ b % 2 ≡ 0
 
 module _ (m : ℕ) (t : List ℕ) (from : ℕ) where
-  pub ones-none : {x : List ℕ} → Packed x → {rest : ℕ} → rest ≡ 0 → x ≡ plusRows m t x rest from
-  unfolding plusRows
-  ones-none {x} q {rest} e = q ∙ limbs-ext carriedLimbs _ _ (λ i h. ap (λ y. y % 2) (sym (ap (λ y. limbCoord x i + y) (sum-none 64 _ (λ b l.
-      ap (λ y. y * coord (row m t (from + b)) i) (ap (λ r. r / 2 ^ b % 2) e ∙ ap (λ y. y % 2) (zero-div (2 ^ b))) ∙ zero-mul _)) ∙ add-zero _)))
+  -- coordinate s of limbs and of the rows at the ones of a limb
+  abbrev pub withRows : List ℕ → ℕ → ℕ → ℕ
+  withRows x rest s = (limbCoord x s + limbRows m t rest from s) % 2
+
+  pub ones-none : (x : List ℕ) {rest : ℕ} → rest ≡ 0 → (s : ℕ) → limbCoord x s ≡ withRows x rest s
+  ones-none x {rest} e s = omega (
+    arith,
+    limb-lt x s,
+    sum-none 64 _ (λ b l. ap (λ y. y * coord (row m t (from + b)) s) (ap (λ r. r / 2 ^ b % 2) e ∙ ap (λ y. y % 2) (zero-div (2 ^ b))) ∙ zero-mul _),
+  )
 
   module _ (rest : ℕ) (small : rest < 2 ^ 64) (some : rest ≡ 0 → ⊥) where
-    pub ones-step : (x : List ℕ) {y : List ℕ} → y ≡ packLimbs carriedLimbs (λ s. limbCoord x s + coord (row m t (from + trailingZeros 64 rest)) s)
-        → plusRows m t y (bitAnd rest (rest - 1)) from ≡ plusRows m t x rest from
-    unfolding plusRows
-    ones-step x e = limbs-ext carriedLimbs _ _ (λ i h. omega (
-      arith,
-      ap (λ l. limbCoord l i) e ∙ limb-pack carriedLimbs _ i h,
-      lowest-sum 64 rest small some (λ b. coord (row m t (from + b)) i),
-    ))
+    pub ones-step : (x y : List ℕ) → Below m (λ s. limbCoord x s + coord (row m t (from + trailingZeros 64 rest)) s) y
+        → (s : ℕ) → s < m → withRows y (bitAnd rest (rest - 1)) s ≡ withRows x rest s
+    ones-step x y e s h = omega (arith, e s h, lowest-sum 64 rest small some (λ b. coord (row m t (from + b)) s))
 
     pub ones-within : Within m rest from → from + trailingZeros 64 rest < m
     ones-within clear = elim (decLt (from + trailingZeros 64 rest) m) [
@@ -71,39 +81,39 @@ module _ (m : ℕ) (t : List ℕ) (from : ℕ) where
     pub ones-clear : Within m rest from → Within m (bitAnd rest (rest - 1)) from
     ones-clear clear b h = omega (arith, lowest-off 64 rest small some b, clear b h)
 
--- the rows at the ones of the first w limbs of an operand
-abbrev pub limbsTo : ℕ → List ℕ → List ℕ → ℕ → List ℕ
-limbsTo m t limbs w = packLimbs carriedLimbs (λ s. sum (w * 64) (λ k. limbCoord limbs k * coord (row m t k) s))
+-- coordinate s of the rows at the ones of the first n coordinates of an operand
+abbrev pub rowsTo : ℕ → List ℕ → List ℕ → ℕ → ℕ → ℕ
+rowsTo m t x n s = sum n (λ k. coord x k * coord (row m t k) s)
 
-module _ (m : ℕ) (t limbs : List ℕ) where
-  pub limbs-none : replicate carriedLimbs 0 ≡ limbsTo m t limbs 0
+module _ (m : ℕ) (t x : List ℕ) where
+  pub limbs-none : Below m (rowsTo m t x (0 * 64)) (replicate carriedLimbs 0)
   unfolding sum
-  limbs-none = limbs-zero carriedLimbs _ (λ i h. refl)
+  limbs-none s h = limb-zero carriedLimbs s
 
-  pub limbs-more : (w : ℕ) {total : List ℕ} → total ≡ limbsTo m t limbs w → plusRows m t total (getD limbs w 0) (w * 64) ≡ limbsTo m t limbs (w + 1)
-  unfolding plusRows
-  limbs-more w e = limbs-ext carriedLimbs _ _ (λ i h.
+  pub limbs-more : (w : ℕ) → w < carriedLimbs → {limb : ℕ} → limb ≡ getD (limbsOf x) w 0 → (total next : List ℕ) → Below m (rowsTo m t x (w * 64)) total
+      → Below m (λ s. limbCoord total s + limbRows m t limb (w * 64) s) next → Below m (rowsTo m t x ((w + 1) * 64)) next
+  limbs-more w h q total next done e s l =
       let place : (w + 1) * 64 ≡ w * 64 + 64 = omega arith in
       omega (
         arith,
-        ap (λ l. limbCoord l i) e ∙ limb-pack carriedLimbs _ i h,
-        sum-ext 64 _ (λ b. limbCoord limbs (w * 64 + b) * coord (row m t (w * 64 + b)) i) (λ b l. ap (λ y. y * coord (row m t (w * 64 + b)) i) (sym (limb-digit limbs w b l))),
-        ap (λ n. sum n (λ k. limbCoord limbs k * coord (row m t k) i)) place ∙ sum-split (w * 64) 64 (λ k. limbCoord limbs k * coord (row m t k) i),
-      ))
+        done s l,
+        e s l,
+        sum-ext 64 _ (λ b. coord x (w * 64 + b) * coord (row m t (w * 64 + b)) s) (λ b k. ap (λ y. y * coord (row m t (w * 64 + b)) s) (limb-bit x w b h k q)),
+        ap (λ n. rowsTo m t x n s) place ∙ sum-split (w * 64) 64 (λ k. coord x k * coord (row m t k) s),
+      )
 
-module _ {m : ℕ} {t x : List ℕ} (s : Shaped m t) (o : IsOperand carriedBytes m x) {limbs : List ℕ} (e : limbs ≡ packLimbs carriedLimbs (coord x)) where
-  pub limb-within : (w : ℕ) → Within m (getD limbs w 0) (w * 64)
-  limb-within w b h = elim (decLt b 64) [
-    | yes l ↦ sym (limb-digit limbs w b l) ∙ ap (λ f. f (w * 64 + b)) (limbs-same x e (o .size)) ∙ o .clear (w * 64 + b) h
-    | no l ↦ ap (λ y. y % 2) (div-eq-of-lt (lt-of-lt-of-le (rw e (limbs-lt carriedLimbs (coord x) w)) (pow-mono {i = 64} {j = b} (omega arith))))
-  ]
+  module _ (clear : (i : ℕ) → m ≤ i → coord x i ≡ 0) where
+    pub limb-within : (w : ℕ) → w < carriedLimbs → {limb : ℕ} → limb ≡ getD (limbsOf x) w 0 → Within m limb (w * 64)
+    limb-within w h q b l = elim (decLt b 64) [
+      | yes k ↦ limb-bit x w b h k q ∙ clear (w * 64 + b) l
+      | no k ↦ ap (λ y. y % 2) (div-eq-of-lt (lt-of-lt-of-le (rw q (limbs-lt carriedLimbs (coord x) w)) (pow-mono {i = 64} {j = b} (omega arith))))
+    ]
 
-  pub limbs-all : {w : ℕ} → w ≡ carriedLimbs → pack carriedBytes (limbCoord (limbsTo m t limbs w)) ≡ rowsAt m t x
-  unfolding rowsAt
-  limbs-all {w} q =
-      bytes-limbs _ ∙ ap (pack carriedBytes) (fun-ext all)
-      ∙ clear-pack carriedBytes m _ (λ i h. sum-none m _ (λ k l. ap (λ y. coord x k * y) (s .isTable .rows k l .clear i h) ∙ mul-zero _))
-    where
-      all : (i : ℕ) → sum (w * 64) (λ k. limbCoord limbs k * coord (row m t k) i) ≡ sum m (λ k. coord x k * coord (row m t k) i)
-      all i = ap (λ f. sum (w * 64) (λ k. f k * coord (row m t k) i)) (limbs-same x e (o .size))
-          ∙ sum-clear m (w * 64) _ (omega (arith, s .greatest)) (λ k h. ap (λ y. y * coord (row m t k) i) (o .clear k h) ∙ zero-mul _)
+    pub limbs-all : (w : ℕ) → m ≤ 64 * w → (total : List ℕ) → Below m (rowsTo m t x (w * 64)) total → Below m (rowsTo m t x m) total
+    limbs-all w h total done s l = done s l ∙ ap (λ y. y % 2) (sum-clear m (w * 64) _ (omega arith) (λ k q. ap (λ y. y * coord (row m t k) s) (clear k q) ∙ zero-mul _))
+
+  pub low-bytes : (total : List ℕ) {limbs r : List ℕ} → Below m (rowsTo m t x m) total → limbs ≡ packLimbs carriedLimbs (below m (limbCoord total)) → r ≡ pack carriedBytes (limbCoord limbs)
+      → r ≡ rowsAt m t x
+  unfolding rowsAt fromCoords
+  low-bytes total done p q =
+      bytes-from (below m (limbCoord total)) q p ∙ from-ext carriedBytes m (limbCoord total) _ (λ i l. ap (λ y. y % 2) (done i l) ∙ mod-mod _ 2)

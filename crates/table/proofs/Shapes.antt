@@ -9,7 +9,7 @@ use Prim.Native.Nat.{ℕ, _+_, _-_, _*_, _/_, _%_, _^_, _<_, _≤_}
 use native.Mathlib.Nat.{suc-mul, mul-le-mul-right, min-le-left, le-trans, lt-of-le-of-lt, lt-of-lt-of-le, div-eq-of-lt, zero-div}
 use native.Mathlib.Decide.{decLt}
 use native.Mathlib.Omega.{arith}
-use lib.ListN.{length, getD, drop, length-drop, length-take, List·getD-eq-default}
+use lib.ListN.{length, getD, take, drop, length-drop, length-take, List·getD-eq-default}
 use lib.Pow.{shr-shr, shr-le, pow-mono}
 use lib.Seq.{length-take-le, getD-take, getD-drop}
 use Rattle.gf2.specs.Sums.{sum, every}
@@ -66,6 +66,14 @@ module _ (m d : ℕ) (t : List ℕ) (h : length t ≡ m * bytesFor m) (l : d < m
   pub row-getD : (b : ℕ) → b < bytesFor m → getD (row m t d) b 0 ≡ getD t (d * bytesFor m + b) 0
   unfolding row
   row-getD b q = rw (getD-take {A = ℕ} (bytesFor m) (drop (d * bytesFor m) t) b 0 q, getD-drop)
+
+-- row d as the code takes it from the table: by the number of bytes that it was given
+pub row-fits : {m : ℕ} {t : List ℕ} → Shaped m t → (d : ℕ) → d < m → {n : ℕ} → n ≡ bytesFor m → d * n + n ≤ length t
+row-fits {m} {t} s d l e = rw e (row-within m d t (s .isTable .size) l)
+
+pub row-part : (m : ℕ) (t : List ℕ) (d : ℕ) {n : ℕ} → n ≡ bytesFor m → take (d * n + n - d * n) (drop (d * n) t) ≡ row m t d
+unfolding row
+row-part m t d {n} e = let k : d * n + n - d * n ≡ n = omega arith in rw (k, e)
 
 past-end : (l : List ℕ) (b : ℕ) → length l ≤ b → getD l b 0 < 256
 past-end l b h = rw (List·getD-eq-default l 0 {n = b} h) (omega arith)

@@ -2,12 +2,16 @@
 ghost use mathlib.Core.Path.{_≡_};
 ghost use mathlib.Core.List.{[], _∷_};
 ghost use Prim.Native.Nat.{_-_, _<_, _≤_};
-ghost use Rattle.gf2.specs.Operands.{maxWidth, carriedBy, same};
+ghost use lib.Dec.{eqb};
+ghost use Rattle.gf2.specs.Sums.{every};
+ghost use Rattle.gf2.specs.Coordinates.{coord};
+ghost use Rattle.gf2.specs.Operands.{maxWidth, bytesFor, IsOperand, carriedBy, same};
 ghost use Rattle.gf2.specs.Tables.{basis};
+ghost use Rattle.limbs.specs.Limbs.{limbCoord};
 ghost use Rattle.judging.specs.Causes.{faultOf};
 ghost use Rattle.judging.specs.FaultTable.{rowZeroWrong, rowPairCauses};
 ghost use Rattle.table.specs.Rows.{Shaped};
-ghost use Rattle.table.specs.Inner.{mirrors};
+ghost use Rattle.table.specs.Inner.{Clear, mirrors};
 ghost use Rattle.table.specs.Judgements.{symmetryFault};
 use crate::rows;
 use judging::Fault;
@@ -48,15 +52,35 @@ fn judge_row_zero(width: usize, table: &[u8]) -> Fault
     }
 }
 
+// Whether limbs have the coordinates of an operand of W bytes. Each limb is read by itself, as it was stored.
+fn agrees(x: &[u64; limbs::LIMBS], s: &[u8], m: usize) -> bool
+    requires { ⌜ (m ≤ maxWidth) × (IsOperand (bytesFor m) m (now s)) × Clear m (now x) ⌝ }
+    ensures { λ r. ⌜ r ≡ every m (λ i. eqb (limbCoord (now (x .entry)) i) (coord (now (s .entry)) i)) ⌝ }
+{
+    let mut w = 0;
+    while w < limbs::LIMBS {
+        if limbs::ends_at(w, m) {
+            return true;
+        }
+        if x[w] != limbs::carried_limb(s, w) {
+            return false;
+        }
+        w += 1;
+    }
+    true
+}
+
 // Whether row d is row m-d turned d places.
 fn mirrored(width: usize, table: &[u8], d: usize) -> bool
     requires { ⌜ (Shaped width (now table)) × (1 ≤ d) × (d < width) ⌝ }
     ensures { λ r. ⌜ r ≡ mirrors width (now (table .entry)) d ⌝ }
 {
-    same_bytes(
-        rows::row_bytes(width, table, d),
-        rows::turned(width, rows::row_bytes(width, table, width - d), d),
-    )
+    let size = limbs::bytes_for(width);
+    let from = d * size;
+    let mirror = (width - d) * size;
+    let other = limbs::slice_limbs(&table[mirror..mirror + size]);
+    let turned = turns::rolled_limbs(other, width, d);
+    agrees(&turned, &table[from..from + size], width)
 }
 
 // Rows d and m-d are looked at once: if one is the other turned, so is the other.

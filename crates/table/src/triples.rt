@@ -36,11 +36,14 @@ fn right_product(width: usize, table: &[u8], i: usize, j: usize) -> [u8; limbs::
     sums::times_first(width, table, factor)
 }
 
-// Whether the triple of 0, i and j is associative.
+// Whether the triple of 0, i and j is associative; for i = 0 as before the search.
 fn associative(width: usize, table: &[u8], i: usize, j: usize) -> bool
     requires { ⌜ (Shaped width (now table)) × (Symmetric width (now table)) × (i < width) × (j < width) ⌝ }
     ensures { λ r. ⌜ r ≡ associates width (now (table .entry)) i j ⌝ }
 {
+    if i == 0 {
+        return first::acts_twice(width, table, j);
+    }
     symmetry::same_bytes(
         left_product(width, table, i, j),
         right_product(width, table, i, j),
@@ -84,7 +87,8 @@ fn judge_row_sum(width: usize, table: &[u8]) -> Fault
     requires { ⌜ Shaped width (now table) ⌝ }
     ensures { λ r. ⌜ r ≡ faultOf (rowSumWrong width (now (table .entry)) ∷ []) ⌝ }
 {
-    let sum = sums::sum_of_rows(width, table);
+    let full = [255u8; limbs::BYTES];
+    let sum = sums::times_first(width, table, limbs::cleared(full, width));
     if symmetry::same_bytes(sum, symmetry::basis_bytes(width, 0)) {
         Fault::None
     } else {

@@ -1,151 +1,230 @@
 -- A turn made of two moves of limbs: by steps of 1, 2, 4, .. limbs, then by the bits of two limbs in a row; and what the two moves, added, are.
-use mathlib.Core.Path.{_≡_, sym, ap, ap₂, _∙_}
-use mathlib.Core.List.{List}
-use Prim.Native.Nat.{ℕ, _+_, _-_, _*_, _/_, _%_, _<_, _≤_}
-use native.Mathlib.Nat.{add-zero, add-comm, mod-one, mod-eq-of-lt}
+-- Loops over the limbs that a width is worked on in. Moves of whole limbs, of bits, and their sum. The turn, in bytes and in limbs.
+use mathlib.Core.Path.{_≡_, refl, sym, ap, ap₂, fun-ext, _∙_}
+use mathlib.Core.Bool.{Bool, true, false}
+use mathlib.Core.List.{List, [], _∷_}
+use Prim.Native.Nat.{ℕ, _+_, _-_, _*_, _/_, _%_, _^_, _<_, _≤_}
+use native.Mathlib.Nat.{add-zero, mod-one, mod-eq-of-lt, mod-mod, mod-le, zero-div, lt-of-le-of-lt}
 use native.Mathlib.Decide.{decLt, ℕ-discrete}
 use native.Mathlib.Omega.{arith}
 use lib.Arith.{mod-mul}
+use lib.Bits.{bitXor, xor-lt}
 use lib.Dec.{eqb}
-use lib.ListN.{length, getD, List·getD-eq-default}
-use lib.Seq.{ext-getD}
+use lib.ListN.{length, set, replicate, length-replicate, List·getD-eq-default}
 use borrow.Author.Tests.{le-leb, lt-leb, lt-ltb, le-ltb, eq-eqb, ne-eqb}
-use Rattle.gf2.specs.Coordinates.{coord, tabulate, pack}
+use Rattle.gf2.specs.Coordinates.{coord, value, tabulate, pack}
 use Rattle.gf2.specs.Operands.{maxWidth, carriedBytes, minus, choose, below, fromCoords, turned}
-use Rattle.gf2.proofs.Coordinates.{value-ext, length-tabulate, getD-tabulate, tabulate-ext}
-use Rattle.gf2.proofs.Operands.{from-ext, minus-below, minus-round}
-use Rattle.limbs.specs.Limbs.{carriedLimbs, limbCoord, packLimbs, raised}
-use Rattle.limbs.proofs.LimbCoords.{limb-pack, limbs-ext, limbs-below, bytes-limbs}
-use Rattle.limbs.proofs.LimbLoops.{window-limbs}
+use Rattle.gf2.proofs.Coordinates.{value-ext, value-eq, length-tabulate, getD-tabulate, tabulate-ext, coord-pack, mod-bit, mod-bit-out, xor-bit}
+use Rattle.gf2.proofs.Loops.{Filled, filled-more, filled-reach}
+use Rattle.gf2.proofs.Operands.{below-in, below-out, from-ext, minus-below, minus-round}
+use Rattle.limbs.specs.Limbs.{carriedLimbs, reach, endsAt, limbCoord, packLimbs, limbsOf, raised}
+use Rattle.limbs.proofs.Reach.{reach-most, reach-least, reach-room, ends-true, ends-false}
+use Rattle.limbs.proofs.LimbCoords.{limb-lt, limb-digit, limb-pack, limbs-of, limbs-ext, limbs-eq, limbs-below}
+use Rattle.limbs.proofs.LimbLoops.{Limbs, pair-low, pair-high}
 use Rattle.limbs.proofs.RaisedLimbs.{raised-in, raised-out, raised-same, limbOf, pairFrom, raised-coord}
-use Rattle.turns.specs.Moves.{bothMoves, rolled}
+use Rattle.turns.specs.Moves.{kept, bothMoves, rolled}
 
--- f moved n down
-abbrev pub lowered : ℕ → (ℕ → ℕ) → ℕ → ℕ
-lowered n f i = f (i + n)
+-- a loop over the limbs that a width is worked on in: one limb more, and the two ends
+module _ (m : ℕ) {f : ℕ → ℕ} {l : List ℕ} {w : ℕ} (done : Filled (reach m) f (replicate carriedLimbs 0) l w) where
+  pub limbs-more : {x : ℕ} {b : Bool} → w < carriedLimbs → b ≡ endsAt w m → b ≡ false → x ≡ f w → Filled (reach m) f (replicate carriedLimbs 0) (set l w x) (w + 1)
+  limbs-more h e q p =
+      filled-more done (ends-false w m (done .within) h (sym e ∙ q)) (omega (arith, reach-most m, length-replicate {A = ℕ} carriedLimbs 0)) p
 
--- a way to move the n limbs of x by a count: by 0 nothing moves, and two moves are one by the sum
-pub record Moves (n : ℕ) (x : List ℕ) (by : ℕ → (ℕ → ℕ) → ℕ → ℕ) : Type 0 where
-  pub none : (f : ℕ → ℕ) (w : ℕ) → by 0 f w ≡ f w
-  pub twice : (j k w : ℕ) → w < n → by k (limbOf (tabulate n (by j (limbOf x)))) w ≡ by (j + k) (limbOf x) w
+  pub limbs-ended : {b : Bool} → b ≡ endsAt w m → b ≡ true → l ≡ tabulate carriedLimbs (below (reach m) f)
+  limbs-ended e q = filled-reach carriedLimbs done (omega (arith, ends-true w m (sym e ∙ q))) (reach-most m)
 
-pub moves-down : (n : ℕ) (x : List ℕ) → length x ≡ n → Moves n x lowered
-moves-down n x size = record {
-  none = λ f w. ap f (add-zero w);
-  twice = λ j k w h. elim (decLt (w + k) n) [
-    | yes q ↦ getD-tabulate n (lowered j (limbOf x)) (w + k) q ∙ ap (limbOf x) (omega arith)
-    | no q ↦
-        List·getD-eq-default (tabulate n (lowered j (limbOf x))) 0 {n = w + k} (omega (arith, length-tabulate n (lowered j (limbOf x))))
-        ∙ sym (List·getD-eq-default x 0 {n = w + (j + k)} (omega arith))
+  pub limbs-all : carriedLimbs ≤ w → l ≡ tabulate carriedLimbs (below (reach m) f)
+  limbs-all h = filled-reach carriedLimbs done (omega (arith, reach-most m)) (reach-most m)
+
+-- lists of limbs that are 0 from r on
+cut-ext : (r : ℕ) (f g : ℕ → ℕ) → ((w : ℕ) → w < r → f w ≡ g w) → tabulate carriedLimbs (below r f) ≡ tabulate carriedLimbs (below r g)
+cut-ext r f g e = tabulate-ext carriedLimbs _ _ (λ w h. elim (decLt w r) [
+  | yes q ↦ below-in r f w q ∙ e w q ∙ sym (below-in r g w q)
+  | no q ↦ below-out r f w (omega arith) ∙ sym (below-out r g w (omega arith))
+])
+
+cut-limb : (r : ℕ) (f : ℕ → ℕ) {l : List ℕ} → l ≡ tabulate carriedLimbs (below r f) → r ≤ carriedLimbs → (w : ℕ) → limbOf l w ≡ below r f w
+cut-limb r f e fits w = ap (λ s. limbOf s w) e ∙ elim (decLt w carriedLimbs) [
+  | yes q ↦ getD-tabulate carriedLimbs (below r f) w q
+  | no q ↦
+      List·getD-eq-default (tabulate carriedLimbs (below r f)) 0 {n = w} (omega (arith, length-tabulate carriedLimbs (below r f)))
+      ∙ sym (below-out r f w (omega arith))
+]
+
+cut-digit : (r : ℕ) (x : List ℕ) (w j : ℕ) → j < 64 → below r (limbOf x) w / 2 ^ j % 2 ≡ below (64 * r) (limbCoord x) (w * 64 + j)
+cut-digit r x w j l = elim (decLt w r) [
+  | yes q ↦ ap (λ y. y / 2 ^ j % 2) (below-in r (limbOf x) w q) ∙ sym (below-in (64 * r) (limbCoord x) (w * 64 + j) (omega arith) ∙ limb-digit x w j l)
+  | no q ↦ rw (below-out r (limbOf x) w (omega arith), below-out (64 * r) (limbCoord x) (w * 64 + j) (omega arith), zero-div)
+]
+
+cut-pack : (r : ℕ) (f : ℕ → ℕ) → tabulate carriedLimbs (below r (λ w. value 64 (λ j. f (w * 64 + j)))) ≡ packLimbs carriedLimbs (below (64 * r) f)
+unfolding packLimbs
+cut-pack r f = tabulate-ext carriedLimbs _ _ (λ w h. elim (decLt w r) [
+  | yes q ↦ below-in r _ w q ∙ value-ext 64 _ _ (λ j l. ap (λ y. y % 2) (sym (below-in (64 * r) f (w * 64 + j) (omega arith))))
+  | no q ↦ below-out r _ w (omega arith) ∙ value-eq 64 _ 0 (omega arith) (λ j l. rw (zero-div, below-out (64 * r) f (w * 64 + j) (omega arith)))
+])
+
+-- f moved n down, where it is 0 from r on
+abbrev pub lowered : ℕ → ℕ → (ℕ → ℕ) → ℕ → ℕ
+lowered r n f i = below r f (i + n)
+
+-- a way to move limbs by a count, as far as limb r: by 0 nothing moves, and two moves are one by the sum
+pub record Moves (r : ℕ) (by : ℕ → (ℕ → ℕ) → ℕ → ℕ) : Type 0 where
+  pub none : (f : ℕ → ℕ) (w : ℕ) → w < r → by 0 f w ≡ f w
+  pub twice : (f g : ℕ → ℕ) (j k : ℕ) → ((w : ℕ) → w < r → g w ≡ by j f w) → (w : ℕ) → w < r → by k g w ≡ by (j + k) f w
+
+pub moves-down : (r : ℕ) → Moves r (lowered r)
+moves-down r = record {
+  none = λ f w h. ap (below r f) (add-zero w) ∙ below-in r f w h;
+  twice = λ f g j k e w h. elim (decLt (w + k) r) [
+    | yes q ↦ below-in r g (w + k) q ∙ e (w + k) q ∙ ap (below r f) (omega arith)
+    | no q ↦ below-out r g (w + k) (omega arith) ∙ sym (below-out r f (w + (j + k)) (omega arith))
   ];
 }
 
-pub moves-up : (n : ℕ) (x : List ℕ) → Moves n x raised
-moves-up n x = record {
-  none = λ f w. let d : w - 0 ≡ w = omega arith in raised-in 0 f w (omega arith) ∙ ap f d;
-  twice = λ j k w h. elim (decLt w k) [
-    | yes q ↦ raised-out k (limbOf (tabulate n (raised j (limbOf x)))) w q ∙ sym (raised-out (j + k) (limbOf x) w (omega arith))
-    | no q ↦
-        raised-in k (limbOf (tabulate n (raised j (limbOf x)))) w (omega arith)
-        ∙ getD-tabulate n (raised j (limbOf x)) (w - k) (omega arith) ∙ raised-same (limbOf x) j (w - k) (j + k) w (omega arith)
+pub moves-up : (r : ℕ) → Moves r raised
+moves-up r = record {
+  none = λ f w h. let d : w - 0 ≡ w = omega arith in raised-in 0 f w (omega arith) ∙ ap f d;
+  twice = λ f g j k e w h. elim (decLt w k) [
+    | yes q ↦ raised-out k g w q ∙ sym (raised-out (j + k) f w (omega arith))
+    | no q ↦ raised-in k g w (omega arith) ∙ e (w - k) (omega arith) ∙ raised-same f j (w - k) (j + k) w (omega arith)
   ];
 }
 
--- the loop that moves limbs by steps: those below `step` are made
-pub record Moved (n : ℕ) (by : ℕ → (ℕ → ℕ) → ℕ → ℕ) (x : List ℕ) (count : ℕ) (l : List ℕ) (step : ℕ) : Type 0 where
+-- the loop that moves limbs by steps: those below `step` are made; what was given may have limbs from r on, what a step made has none
+pub record Moved (r : ℕ) (by : ℕ → (ℕ → ℕ) → ℕ → ℕ) (x : List ℕ) (count : ℕ) (l : List ℕ) (step : ℕ) : Type 0 where
   pub some : 0 < step
-  pub content : l ≡ tabulate n (by (count % step) (limbOf x))
+  pub content : (w : ℕ) → w < r → limbOf l w ≡ by (count % step) (limbOf x) w
+  pub form : 1 < step → l ≡ tabulate carriedLimbs (below r (limbOf l))
 
-module _ {n : ℕ} {x : List ℕ} {by : ℕ → (ℕ → ℕ) → ℕ → ℕ} (moves : Moves n x by) (count : ℕ) where
-  pub moved-none : length x ≡ n → Moved n by x count x 1
-  moved-none size = record {
+module _ (m : ℕ) {by : ℕ → (ℕ → ℕ) → ℕ → ℕ} (moves : Moves (reach m) by) {x : List ℕ} {count : ℕ} where
+  pub moved-none : Moved (reach m) by x count x 1
+  moved-none = record {
     some = omega arith;
-    content =
-        ext-getD 0 x (tabulate n (by (count % 1) (limbOf x))) (size ∙ sym (length-tabulate n _)) (λ w h.
-        sym (getD-tabulate n (by (count % 1) (limbOf x)) w (omega arith) ∙ ap (λ k. by k (limbOf x) w) (mod-one count) ∙ moves .none (limbOf x) w));
+    content = λ w h. sym (ap (λ k. by k (limbOf x) w) (mod-one count) ∙ moves .none (limbOf x) w h);
+    form = λ h. absurd (omega arith);
   }
 
-  pub moved-more : {l : List ℕ} {step : ℕ} {next : List ℕ} → Moved n by x count l step
-      → next ≡ tabulate n (λ w. choose (eqb (count / step % 2) 1) (by step (limbOf l) w) (limbOf l w)) → Moved n by x count next (2 * step)
+  pub moved-more : {l : List ℕ} {step : ℕ} {next : List ℕ} → Moved (reach m) by x count l step
+      → next ≡ tabulate carriedLimbs (below (reach m) (λ w. choose (eqb (count / step % 2) 1) (by step (limbOf l) w) (limbOf l w))) → Moved (reach m) by x count next (2 * step)
   moved-more {l} {step} {next} done e = record {
     some = omega (arith, done .some);
-    content = e ∙ tabulate-ext n _ _ (λ w h. elim (ℕ-discrete (count / step % 2) 1) [
+    content = λ w h. at w h ∙ elim (ℕ-discrete (count / step % 2) 1) [
       | yes q ↦
           let d : count % step + step ≡ count % (2 * step) = omega (arith, digits, ap (λ k. k * step) q) in
-          ap (λ t. choose t (by step (limbOf l) w) (limbOf l w)) (eq-eqb _ 1 q) ∙ ap (λ s. by step (limbOf s) w) (done .content)
-          ∙ moves .twice (count % step) step w h ∙ ap (λ k. by k (limbOf x) w) d
+          ap (λ t. choose t (by step (limbOf l) w) (limbOf l w)) (eq-eqb _ 1 q)
+          ∙ moves .twice (limbOf x) (limbOf l) (count % step) step (done .content) w h ∙ ap (λ k. by k (limbOf x) w) d
       | no q ↦
           let z : count / step % 2 ≡ 0 = omega arith in
           let d : count % step ≡ count % (2 * step) = omega (arith, digits, ap (λ k. k * step) z) in
-          ap (λ t. choose t (by step (limbOf l) w) (limbOf l w)) (ne-eqb _ 1 q) ∙ ap (λ s. limbOf s w) (done .content)
-          ∙ getD-tabulate n (by (count % step) (limbOf x)) w h ∙ ap (λ k. by k (limbOf x) w) d
-    ]);
+          ap (λ t. choose t (by step (limbOf l) w) (limbOf l w)) (ne-eqb _ 1 q) ∙ done .content w h ∙ ap (λ k. by k (limbOf x) w) d
+    ];
+    form = λ h. e ∙ cut-ext (reach m) _ (limbOf next) (λ w q. sym (at w q));
   }
     where
       digits : count % (2 * step) ≡ count / step % 2 * step + count % step
       digits = mod-mul count (omega arith) (done .some)
 
-  pub moved-all : {l : List ℕ} {step : ℕ} → Moved n by x count l step → n ≤ step → count < n → l ≡ tabulate n (by count (limbOf x))
+      at : (w : ℕ) → w < reach m → limbOf next w ≡ choose (eqb (count / step % 2) 1) (by step (limbOf l) w) (limbOf l w)
+      at w h = ap (λ s. limbOf s w) e ∙ getD-tabulate carriedLimbs _ w (omega (arith, reach-most m)) ∙ below-in (reach m) _ w h
+
+  pub moved-all : {l : List ℕ} {step : ℕ} → Moved (reach m) by x count l step → reach m ≤ step → count < reach m
+      → l ≡ tabulate carriedLimbs (below (reach m) (by count (limbOf x)))
   moved-all {l} {step} done h less =
       let l' : count < step = omega arith in
-      done .content ∙ ap (λ k. tabulate n (by k (limbOf x))) (mod-eq-of-lt l')
+      done .form (omega (arith, reach-least m)) ∙ cut-ext (reach m) _ _ (λ w q. done .content w q ∙ ap (λ k. by k (limbOf x) w) (mod-eq-of-lt l'))
 
 -- the limbs moved by k / 64, two in a row taken from the bit where k falls
-module _ (n k : ℕ) (x : List ℕ) where
-  pub lower-bits : {moved : List ℕ} → length x ≡ n → moved ≡ tabulate n (lowered (k / 64) (limbOf x))
-      → tabulate n (λ w. pairFrom (k % 64) (limbOf moved w) (limbOf moved (w + 1))) ≡ packLimbs n (λ i. limbCoord x (i + k))
-  lower-bits {moved} size e =
-      tabulate-ext n _ _ (λ w h. ap₂ (pairFrom (k % 64)) (first w h) (second w h))
-      ∙ window-limbs n (k / 64) (k % 64) x (omega arith)
-      ∙ limbs-ext n _ _ (λ i h. ap (λ j. limbCoord x j % 2) (omega arith))
+module _ (m k : ℕ) (x : List ℕ) where
+  -- two limbs in a row, k / 64 above limb w
+  lowered-coord : (w j : ℕ) → j < 64
+      → limbCoord (lowered (reach m) (k / 64) (limbOf x) w ∷ lowered (reach m) (k / 64 + 1) (limbOf x) w ∷ []) (k % 64 + j) ≡ kept m (limbCoord x) (w * 64 + j + k)
+  lowered-coord w j l = elim (decLt (k % 64 + j) 64) [
+    | yes q ↦ pair-low _ _ (k % 64 + j) q ∙ cut-digit (reach m) x (w + k / 64) (k % 64 + j) q ∙ ap (kept m (limbCoord x)) (omega arith)
+    | no q ↦
+        pair-high _ _ (k % 64 + j) (omega arith) (omega arith) ∙ cut-digit (reach m) x (w + (k / 64 + 1)) (k % 64 + j - 64) (omega arith)
+        ∙ ap (kept m (limbCoord x)) (omega arith)
+  ]
+
+  pub lower-bits : {moved : List ℕ} → moved ≡ tabulate carriedLimbs (below (reach m) (lowered (reach m) (k / 64) (limbOf x)))
+      → tabulate carriedLimbs (below (reach m) (λ w. pairFrom (k % 64) (limbOf moved w) (limbOf moved (w + 1))))
+      ≡ packLimbs carriedLimbs (below (64 * reach m) (λ i. kept m (limbCoord x) (i + k)))
+  lower-bits {moved} e =
+      cut-ext (reach m) _ _ (λ w h. ap₂ (pairFrom (k % 64)) (at w ∙ below-in (reach m) _ w h) (at (w + 1) ∙ moves-down (reach m) .twice (limbOf x) _ (k / 64) 1 (λ v q. refl) w h)
+      ∙ value-ext 64 _ _ (λ j l. ap (λ y. y % 2) (lowered-coord w j l)))
+      ∙ cut-pack (reach m) (λ i. kept m (limbCoord x) (i + k))
     where
-      first : (w : ℕ) → w < n → getD moved w 0 ≡ getD x (k / 64 + w) 0
-      first w h = ap (λ s. getD s w 0) e ∙ getD-tabulate n (lowered (k / 64) (limbOf x)) w h ∙ ap (limbOf x) (add-comm w (k / 64))
+      at : (w : ℕ) → limbOf moved w ≡ below (reach m) (lowered (reach m) (k / 64) (limbOf x)) w
+      at = cut-limb (reach m) _ e (reach-most m)
 
-      second : (w : ℕ) → w < n → getD moved (w + 1) 0 ≡ getD x (k / 64 + w + 1) 0
-      second w h = ap (λ s. getD s (w + 1) 0) e ∙ moves-down n x size .twice (k / 64) 1 w h ∙ ap (limbOf x) (omega arith)
-
-  pub raise-bits : {moved : List ℕ} → moved ≡ tabulate n (raised (k / 64) (limbOf x))
-      → tabulate n (λ w. pairFrom (64 - k % 64) (raised 1 (limbOf moved) w) (limbOf moved w)) ≡ packLimbs n (raised k (limbCoord x))
-  unfolding packLimbs
-  raise-bits {moved} e = tabulate-ext n _ _ (λ w h. ap₂ (pairFrom (64 - k % 64)) (first w h) (second w h) ∙ value-ext 64 _ _ (λ j l. ap (λ y. y % 2) (raised-coord n k x w j l)))
+  pub raise-bits : {moved : List ℕ} → moved ≡ tabulate carriedLimbs (below (reach m) (raised (k / 64) (limbOf x)))
+      → tabulate carriedLimbs (below (reach m) (λ w. pairFrom (64 - k % 64) (raised 1 (limbOf moved) w) (limbOf moved w)))
+      ≡ packLimbs carriedLimbs (below (64 * reach m) (raised k (limbCoord x)))
+  raise-bits {moved} e =
+      cut-ext (reach m) _ _ (λ w h. ap₂ (pairFrom (64 - k % 64)) (moves-up (reach m) .twice (limbOf x) (limbOf moved) (k / 64) 1 at w h) (at w h)
+      ∙ value-ext 64 _ _ (λ j l. ap (λ y. y % 2) (raised-coord carriedLimbs k x w j l)))
+      ∙ cut-pack (reach m) (raised k (limbCoord x))
     where
-      first : (w : ℕ) → w < n → raised 1 (limbOf moved) w ≡ raised (k / 64 + 1) (limbOf x) w
-      first w h = ap (λ s. raised 1 (limbOf s) w) e ∙ moves-up n x .twice (k / 64) 1 w h
+      at : (w : ℕ) → w < reach m → limbOf moved w ≡ raised (k / 64) (limbOf x) w
+      at w h = cut-limb (reach m) _ e (reach-most m) w ∙ below-in (reach m) _ w h
 
-      second : (w : ℕ) → w < n → getD moved w 0 ≡ raised (k / 64) (limbOf x) w
-      second w h = ap (λ s. getD s w 0) e ∙ getD-tabulate n (raised (k / 64) (limbOf x)) w h
+-- limbs added, each with its coordinates below m
+pub merged-limbs : (n m : ℕ) (x y : List ℕ) → Limbs x → Limbs y
+    → tabulate n (λ w. bitXor (limbOf x w) (limbOf y w) % 2 ^ (m - w * 64)) ≡ packLimbs n (below m (λ i. limbCoord x i + limbCoord y i))
+merged-limbs n m x y sx sy = limbs-of n _ (below m (λ i. limbCoord x i + limbCoord y i)) (λ w h. lt-of-le-of-lt (mod-le _ (2 ^ (m - w * 64))) (xor-lt 64 (limbOf x w) (limbOf y w) (sx w) (sy w))) (λ w j h l. elim (decLt (w * 64 + j) m) [
+  | yes q ↦
+      rw (below-in m (λ i. limbCoord x i + limbCoord y i) (w * 64 + j) q, limb-digit x w j l, limb-digit y w j l, mod-bit (bitXor (limbOf x w) (limbOf y w)) (m - w * 64) j (omega arith))
+      (xor-bit (limbOf x w) (limbOf y w) j)
+  | no q ↦ rw (below-out m (λ i. limbCoord x i + limbCoord y i) (w * 64 + j) (omega arith), mod-bit-out (bitXor (limbOf x w) (limbOf y w)) (m - w * 64) j (omega arith))
+])
 
-parts : {s u v : ℕ} (x y : ℕ) → s ≡ (u + v) % 2 → u ≡ x % 2 → v ≡ y % 2 → s % 2 ≡ (x + y) % 2
-parts x y p q r = omega arith
+raised-kept : (m k : ℕ) (f : ℕ → ℕ) (i : ℕ) → i < 64 * reach m → raised k f i ≡ raised k (kept m f) i
+raised-kept m k f i h = elim (decLt i k) [
+  | yes q ↦ raised-out k f i q ∙ sym (raised-out k (kept m f) i q)
+  | no q ↦ raised-in k f i (omega arith) ∙ sym (raised-in k (kept m f) i (omega arith) ∙ below-in (64 * reach m) f (i - k) (omega arith))
+]
 
--- the limbs of x moved up and down, added, with the coordinates below m kept, in bytes
-pub both-bytes : (m k : ℕ) (x l : List ℕ) {up down both low r : List ℕ} → m ≤ 64 * carriedLimbs → limbCoord l ≡ coord x
-    → up ≡ packLimbs carriedLimbs (raised k (limbCoord l)) → down ≡ packLimbs carriedLimbs (λ i. limbCoord l (i + (m - k)))
-    → both ≡ packLimbs carriedLimbs (λ i. limbCoord up i + limbCoord down i) → low ≡ packLimbs carriedLimbs (below m (limbCoord both))
-    → r ≡ pack carriedBytes (limbCoord low) → r ≡ bothMoves m k x
-unfolding bothMoves fromCoords
-both-bytes m k x l {both = both} fits e eu ed eb el er =
-    er ∙ ap (λ s. pack carriedBytes (limbCoord s)) (el ∙ limbs-below carriedLimbs m (limbCoord both) _ (λ i h.
-    parts (raised k (coord x) i) (coord x (i + (m - k))) (ap (λ s. limbCoord s i) eb ∙ limb-pack carriedLimbs _ i (omega arith))
-    (ap (λ s. limbCoord s i) eu ∙ limb-pack carriedLimbs _ i (omega arith) ∙ ap (λ f. raised k f i % 2) e)
-    (ap (λ s. limbCoord s i) ed ∙ limb-pack carriedLimbs _ i (omega arith) ∙ ap (λ f. f (i + (m - k)) % 2) e)))
-    ∙ bytes-limbs _
+parts : {u v : ℕ} (x y : ℕ) → u ≡ x % 2 → v ≡ y % 2 → (u + v) % 2 ≡ (x + y) % 2
+parts x y p q = omega arith
 
-pub rolled-wide : {m : ℕ} (k : ℕ) (x : List ℕ) → maxWidth < m → rolled m k x ≡ x
+-- the limbs of x moved up and down, added, with the coordinates below m kept
+pub both-limbs : (m k : ℕ) (x : List ℕ) {up down r : List ℕ} → m ≤ maxWidth → up ≡ packLimbs carriedLimbs (below (64 * reach m) (raised k (limbCoord x)))
+    → down ≡ packLimbs carriedLimbs (below (64 * reach m) (λ i. kept m (limbCoord x) (i + (m - k))))
+    → r ≡ packLimbs carriedLimbs (below m (λ i. limbCoord up i + limbCoord down i)) → r ≡ packLimbs carriedLimbs (bothMoves m k (limbCoord x))
+unfolding bothMoves
+both-limbs m k x {up} {down} fits eu ed er = er ∙ limbs-below carriedLimbs m _ _ (λ i h.
+    parts (raised k (kept m (limbCoord x)) i) (kept m (limbCoord x) (i + (m - k))) (at _ eu i h ∙ ap (λ y. y % 2) (raised-kept m k (limbCoord x) i (omega (arith, room)))) (at _ ed i h))
+  where
+    room : m < 64 * reach m
+    room = reach-room m (omega arith)
+
+    at : (f : ℕ → ℕ) {l : List ℕ} → l ≡ packLimbs carriedLimbs (below (64 * reach m) f) → (i : ℕ) → i < m → limbCoord l i ≡ f i % 2
+    at f e i h = ap (λ s. limbCoord s i) e ∙ limb-pack carriedLimbs _ i (omega arith) ∙ ap (λ y. y % 2) (below-in (64 * reach m) f i (omega (arith, room)))
+
+-- limbs are those of their coordinates
+pub same-limbs : {x : List ℕ} (f : ℕ → ℕ) → length x ≡ carriedLimbs → Limbs x → f ≡ limbCoord x → x ≡ packLimbs carriedLimbs f
+same-limbs {x} f size small e = limbs-eq carriedLimbs f size small (λ i h. sym (ap (λ g. g i % 2) e ∙ mod-eq-of-lt (limb-lt x i)))
+
+pub rolled-wide : {m : ℕ} (k : ℕ) (f : ℕ → ℕ) → maxWidth < m → rolled m k f ≡ f
 unfolding rolled
-rolled-wide {m} k x wide = rw (lt-leb m maxWidth wide)
+rolled-wide {m} k f wide = rw (lt-leb m maxWidth wide)
 
-pub rolled-far : {m k : ℕ} (x : List ℕ) → m ≤ maxWidth → m ≤ k → rolled m k x ≡ x
+pub rolled-far : {m k : ℕ} (f : ℕ → ℕ) → m ≤ maxWidth → m ≤ k → rolled m k f ≡ f
 unfolding rolled
-rolled-far {m} {k} x fits far = rw (le-leb m maxWidth fits, le-ltb k m far)
+rolled-far {m} {k} f fits far = rw (le-leb m maxWidth fits, le-ltb k m far)
 
-module _ {m k : ℕ} (fits : m ≤ maxWidth) (less : k < m) (x : List ℕ) where
-  pub rolled-both : rolled m k x ≡ bothMoves m k x
+module _ {m k : ℕ} (fits : m ≤ maxWidth) (less : k < m) where
+  pub rolled-both : (f : ℕ → ℕ) → rolled m k f ≡ bothMoves m k f
   unfolding rolled
-  rolled-both = rw (le-leb m maxWidth fits, lt-ltb k m less)
+  rolled-both f = rw (le-leb m maxWidth fits, lt-ltb k m less)
 
-  module _ (size : length x ≡ carriedBytes) (clear : (i : ℕ) → m ≤ i → coord x i ≡ 0) where
+  module _ (x : List ℕ) (size : length x ≡ carriedBytes) (clear : (i : ℕ) → m ≤ i → coord x i ≡ 0) where
+    kept-all : kept m (coord x) ≡ coord x
+    kept-all = fun-ext (λ i. elim (decLt i (64 * reach m)) [
+      | yes h ↦ below-in (64 * reach m) (coord x) i h
+      | no h ↦ below-out (64 * reach m) (coord x) i (omega arith) ∙ sym (clear i (omega (arith, reach-room m (omega arith))))
+    ])
+
     -- of the two moved operands, one has the coordinate that comes to place i and the other has 0 there
     shifted : (i : ℕ) → i < m → raised k (coord x) i + coord x (i + (m - k)) ≡ coord x (minus m i k)
     shifted i l = elim (decLt i k) [
@@ -153,6 +232,14 @@ module _ {m k : ℕ} (fits : m ≤ maxWidth) (less : k < m) (x : List ℕ) where
       | no h ↦ rw (raised-in k (coord x) i (omega arith), clear (i + (m - k)) (omega arith), minus-below m i k (omega arith) l) (omega arith)
     ]
 
-    pub rolled-turned : rolled m k x ≡ turned m k x
-    unfolding bothMoves turned
-    rolled-turned = rolled-both ∙ from-ext carriedBytes m _ _ (λ i l. ap (λ y. y % 2) (shifted i l)) ∙ ap (λ s. fromCoords s m (λ i. coord x (minus m i k))) (sym size)
+    pub rolled-turned : pack carriedBytes (rolled m k (coord x)) ≡ turned m k x
+    unfolding bothMoves turned fromCoords
+    rolled-turned =
+        ap (pack carriedBytes) (rolled-both (coord x))
+        ∙ from-ext carriedBytes m _ _ (λ i l. ap (λ y. y % 2) (ap (λ f. raised k f i + f (i + (m - k))) kept-all ∙ shifted i l))
+        ∙ ap (λ s. fromCoords s m (λ i. coord x (minus m i k))) (sym size)
+
+    -- the same in limbs
+    pub rolled-limbs : (l : List ℕ) → limbCoord l ≡ coord x → packLimbs carriedLimbs (rolled m k (limbCoord l)) ≡ limbsOf (turned m k x)
+    rolled-limbs l e = ap (λ f. packLimbs carriedLimbs (rolled m k f)) e ∙ limbs-ext carriedLimbs _ _ (λ i h.
+        sym (ap (λ y. y % 2) (sym (ap (λ a. coord a i) rolled-turned) ∙ coord-pack carriedBytes (rolled m k (coord x)) i (omega arith)) ∙ mod-mod _ 2))

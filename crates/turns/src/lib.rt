@@ -1,27 +1,43 @@
-// The turn of a carried operand: its coordinates moved up, and those that leave at the width moved to the front.
+// The turn of a carried operand, in limbs and in bytes: its coordinates moved up, and those that leave at the width moved to the front.
 ghost use mathlib.Core.Path.{_≡_};
-ghost use Prim.Native.Nat.{_<_, _≤_};
-ghost use Rattle.gf2.specs.Operands.{maxWidth};
+ghost use Prim.Native.Nat.{_+_, _<_, _≤_};
+ghost use Rattle.gf2.specs.Coordinates.{coord, pack};
+ghost use Rattle.gf2.specs.Operands.{maxWidth, carriedBytes, below};
+ghost use Rattle.limbs.specs.Limbs.{carriedLimbs, limbCoord, packLimbs};
 ghost use Rattle.turns.specs.Moves.{bothMoves, rolled};
 use moves::lower;
 use moves::raise;
 
 mod moves;
 
-// Coordinates 0 to m-k-1 move up by k; the last k come round to the front.
-fn both_moves(x: [u8; limbs::BYTES], m: usize, k: usize) -> [u8; limbs::BYTES]
-    requires { ⌜ (m ≤ maxWidth) × (k < m) ⌝ }
-    ensures { λ r. ⌜ r ≡ bothMoves m k x ⌝ }
+// The sum of two moves, as far as the width goes.
+fn merged(x: [u64; limbs::LIMBS], y: [u64; limbs::LIMBS], m: usize) -> [u64; limbs::LIMBS]
+    ensures { λ r. ⌜ r ≡ packLimbs carriedLimbs (below m (λ i. limbCoord x i + limbCoord y i)) ⌝ }
 {
-    let all = limbs::to_limbs(x);
+    let mut out = [0u64; limbs::LIMBS];
+    let mut w = 0;
+    while w < limbs::LIMBS {
+        if limbs::ends_at(w, m) {
+            return out;
+        }
+        out[w] = limbs::low_limb(x[w] ^ y[w], w, m);
+        w += 1;
+    }
+    out
+}
+
+// Coordinates 0 to m-k-1 move up by k; the last k come round to the front.
+fn both_moves(x: [u64; limbs::LIMBS], m: usize, k: usize) -> [u64; limbs::LIMBS]
+    requires { ⌜ (m ≤ maxWidth) × (k < m) ⌝ }
+    ensures { λ r. ⌜ r ≡ packLimbs carriedLimbs (bothMoves m k (limbCoord x)) ⌝ }
+{
     let back = m - k;
-    let both = limbs::xored_limbs(raise(all, k), lower(all, back));
-    limbs::to_bytes(limbs::low_limbs(both, m))
+    merged(raise(x, k, m), lower(x, back, m), m)
 }
 
 // The turn by k of an operand of width m, whose bits at m and above are 0. Total: what is no turn leaves x as it is.
-pub fn rolled(x: [u8; limbs::BYTES], m: usize, k: usize) -> [u8; limbs::BYTES]
-    ensures { λ r. ⌜ r ≡ rolled m k x ⌝ }
+pub fn rolled_limbs(x: [u64; limbs::LIMBS], m: usize, k: usize) -> [u64; limbs::LIMBS]
+    ensures { λ r. ⌜ r ≡ packLimbs carriedLimbs (rolled m k (limbCoord x)) ⌝ }
 {
     if m <= limbs::MAX_WIDTH {
         if k < m {
@@ -29,4 +45,11 @@ pub fn rolled(x: [u8; limbs::BYTES], m: usize, k: usize) -> [u8; limbs::BYTES]
         }
     }
     x
+}
+
+// The same in bytes.
+pub fn rolled(x: [u8; limbs::BYTES], m: usize, k: usize) -> [u8; limbs::BYTES]
+    ensures { λ r. ⌜ r ≡ pack carriedBytes (rolled m k (coord x)) ⌝ }
+{
+    limbs::to_bytes(rolled_limbs(limbs::to_limbs(x), m, k))
 }

@@ -15,7 +15,7 @@ fn fault_of(answer: OperandAnswer) -> usize
     number.0
 }
 
-// "Widths 1, 256: 1; 2, 255 pass", for zero and one.
+// "Widths 1, 572: 1; 2, 571 pass", for zero and one.
 pub(crate) fn widths(width: usize)
     ensures { λ _. ⊤ₛ }
 {

@@ -28,12 +28,12 @@ fn cards()
 
 fn main() {
     examples::widths(1);
-    examples::widths(256);
+    examples::widths(572);
     examples::widths(2);
-    examples::widths(255);
+    examples::widths(571);
     examples::turns(2);
     examples::turns(5);
-    examples::turns(255);
+    examples::turns(571);
     examples::drawn(8);
     examples::drawn(2);
     examples::drawn(3);

@@ -12,7 +12,7 @@ use Rattle.limbs.proofs.limbs.mask.Tie as tie
 pub mask-spec : {M : Type 1} → statement M
 mask-spec =
     tie.close
-    (tie.spec (λ c. search needs) (λ c x h. let e : c .before .args .m - c .before .args .w * 64 ≡ 0 = omega arith in and-zero-r x ∙ rw e (omega arith))
+    (tie.spec (λ c x h. let e : c .before .args .m - c .before .args .w * 64 ≡ 0 = omega (arith, c .if1 .taken) in and-zero-r x ∙ rw e (omega arith))
     (λ c. search needs) (λ c. search needs)
     (λ c x h. and-mask x 64 ∙ mod-eq-of-lt h ∙ sym (mod-eq-of-lt (lt-of-lt-of-le h (pow-mono {i = 64} (c .if2 .taken))))) (λ c. search needs)
     (λ c. let n = c .before .before .args .m - c .before .before .args .w * 64 in

@@ -1,6 +1,5 @@
 -- `limbs::limbs::put_limbs` meets its contract.
 use mathlib.Core.Path.{_≡_, refl, _∙_}
-use mathlib.Core.Logic.{⊎-elim}
 use Prim.Native.Nat.{_-_, _*_, _/_, _≤_}
 use native.Mathlib.Omega.{arith}
 use lib.ListN.{length}
@@ -18,15 +17,14 @@ abbrev μ-loop : tie.MeasureT-loop
 
 loop-again : tie.Need-loop-again Inv-loop μ-loop
 loop-again c =
-    let s = c .before .before .loop in
-    ⊎-elim
-    (λ x. rw (x .5) (omega arith, x .2 .ensures .size ∙ s .inv .1, stored-limb (s .w) (s .inv .2) (x .2 .ensures) (x .0 .taken)))
-    (λ x. rw (x .1) (omega arith, s .inv .1, stored-by (s .inv .2) _ _ (λ i p q. (omega (arith, s .inv .1, x .0 .left), q))))
-    (c .if1 .came)
+    let p = c .before .before .put-whole in
+    let l = c .before .before .before .before .before .before .loop in
+    (omega arith, p .ensures .size ∙ l .inv .1, stored-limb (l .w) (l .inv .2) (p .ensures) (omega (arith, c .before .before .before .before .if1 .left)))
 
 pub put-limbs-spec : {M : Type 1} → statement M
 put-limbs-spec =
     tie.close
-    (tie.spec Inv-loop μ-loop (λ c. (omega arith, refl, stored-none _ _ _)) (λ c. search needs) (λ c. search needs) (λ c. search needs) (λ c. search needs)
-    (λ c. search needs) (λ c κs. search needs) (λ c. search needs) (λ c. search needs) loop-again (λ c. c .before .loop .inv .1)
-    (λ c. stored-by (c .before .loop .inv .2) _ _ (λ i p q. (omega arith, q))))
+    (tie.spec Inv-loop μ-loop (λ c. (omega arith, refl, stored-none _ _ _)) (λ c. search needs) (λ c. search needs) (λ c. c .before .before .loop .inv .1)
+    (λ c. let i = c .before .before .loop .inv in (i .1, stored-by (i .2) _ _ (λ j p q. (omega (arith, c .if1 .taken, i .1), q))))
+    (λ c. search needs) (λ c. search needs) (λ c. search needs) (λ c κs. search needs) (λ c. search needs) (λ c. search needs) loop-again
+    (λ c. c .before .loop .inv .1) (λ c. (c .before .loop .inv .1, stored-by (c .before .loop .inv .2) _ _ (λ i p q. (omega arith, q)))))

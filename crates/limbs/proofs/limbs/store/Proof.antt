@@ -18,6 +18,6 @@ store-spec =
     tie.close
     (tie.spec (λ c. search needs) (λ c κs. search needs) (λ c κs. search needs)
     (λ c κs. let w = c .before .before .before .put-limbs in
-    (omega (arith, w .kept .1), stored-by (w .ensures) _ _ (λ i p q. (p, omega (arith, w .kept .1)))))
+    (omega (arith, w .kept .1), stored-by (w .ensures .1) _ _ (λ i p q. (p, omega (arith, w .kept .1)))))
     (λ c κs. search needs) (λ c. search needs) (λ c. part-pack _ (c .before .before .put-part .ensures) (c .before .before .before .before .if1 .taken))
     (λ c. search needs) returns-2)

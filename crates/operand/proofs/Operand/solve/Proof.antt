@@ -1,6 +1,7 @@
 -- `operand::Operand::solve` meets its contract.
 use mathlib.Core.Path.{_≡_, _∙_}
 use mathlib.Core.List.{[], _∷_}
+use native.Mathlib.Omega.{arith}
 use lib.ListN.{length}
 use borrow.Author.Tests.{not-false}
 use Rattle.gf2.specs.Operands.{carriedBytes}
@@ -20,12 +21,12 @@ size c = search needs
 
 returns-2 : tie.Need-returns-2
 returns-2 c =
-    let s = c .before .before .before in
-    let e1 = s .before in
+    let s = c .before .before in
+    let e1 = s .before .before in
     let w = width e1 .greatest in
     c .answered .ensures ∙ answer-same _
-    (follows (badWidth _ ∷ []) (highBit _ _ ∷ traceIsOne _ _ ∷ []) (e1 .before .before .judge-width .ensures) (e1 .before .is-none .ensures) (not-false _ (e1 .if1 .left)) (s .judge-solve .ensures ∙ trace-after _ _ w))
-    (λ e. root-bytes _ (size e1) w (c .before .before .root .ensures) (c .before .cleared .ensures))
+    (follows (badWidth _ ∷ []) (highBit _ _ ∷ traceIsOne _ _ ∷ []) (e1 .before .before .judge-width .ensures) (e1 .before .is-none .ensures) (not-false _ (e1 .if1 .left)) (s .judge-solve .ensures ∙ trace-after _ _ _ (omega (arith, w, size e1))))
+    (λ e. root-bytes _ _ (size e1) (c .before .root .ensures))
 
 pub solve-spec : {M : Type 1} → statement M
 solve-spec =
@@ -33,4 +34,4 @@ solve-spec =
     (tie.spec (λ c. search needs) (λ c κs. search needs) (λ c κs. search needs) (λ c κs. search needs)
     (λ c. let s = c .before .before in
     ends-refused (badWidth _ ∷ []) (s .before .judge-width .ensures) (s .is-none .ensures) (highBit _ _ ∷ traceIsOne _ _ ∷ []) (c .before .if1 .taken) _ _ (c .refused .ensures))
-    (λ c κs. search needs) (λ c κs. search needs) (λ c κs. search needs) (λ c κs e. width (c .before .before .before) .greatest) returns-2)
+    (λ c. search needs) (λ c κs. search needs) (λ c κs. search needs) (λ c κs e. width (c .before .before .before) .greatest) returns-2)

@@ -5,6 +5,7 @@ use Rattle.judging.proofs.CauseLaws.{fine, judged}
 use Rattle.judging.proofs.Passed.{is-width, is-clear}
 use Rattle.operand.specs.Causes.{operandCauses}
 use Rattle.operand.proofs.CallLaws.{trace-refused, trace-made, trace-bytes}
+use native.Mathlib.Omega.{arith}
 use borrow.Author.Needs.{needs}
 use Rattle.operand.proofs.Operand.trace.Statement.{statement}
 use Rattle.operand.proofs.Operand.trace.Tie as tie
@@ -15,7 +16,7 @@ returns c =
     let a = s .before .before .before .args .self in
     let none = judged (operandCauses a) [] (s .before .judge-operand .ensures) (s .is-none .ensures) (c .before .if1 .taken) in
     let p = fine (operandCauses a) none in
-    trace-made (s .before .judge-operand .ensures) none (c .trace .ensures ∙ trace-bytes _ _ (is-width _ (p .0) .greatest) (is-clear _ _ (p .1 .0)))
+    trace-made (s .before .judge-operand .ensures) none (c .trace .ensures ∙ trace-bytes _ _ _ (omega (arith, is-width (a .width) (p .0) .greatest)) (is-clear _ _ (p .1 .0)))
 
 pub trace-spec : {M : Type 1} → statement M
 trace-spec =

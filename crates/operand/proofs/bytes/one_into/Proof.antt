@@ -1,7 +1,4 @@
 -- `operand::bytes::one_into` meets its contract.
-use mathlib.Core.Path.{_∙_, ap}
-use lib.ListN.{length}
-use Rattle.gf2.specs.Coordinates.{coord, pack}
 use Rattle.operand.proofs.CallLaws.{all-kept, all-filled, has-size, one-out}
 use borrow.Author.Needs.{needs}
 use Rattle.operand.proofs.bytes.one_into.Statement.{statement}
@@ -14,7 +11,7 @@ returns c =
     let old = s .before .before .before .args .result .now in
     all-filled _ (s .before .judge-size .ensures) (s .is-none .ensures) _ _ (k .before .if1 .taken) (λ n.
     let z = has-size _ old n in
-    c .before .before .copy-out .ensures ∙ ap (λ x. pack (length old) (coord x)) (k .cleared .ensures) ∙ one-out _ (z .greatest) (z .size))
+    one-out _ (z .greatest) (z .size) (c .before .before .store .ensures) (k .low-limbs .ensures))
 
 pub one-into-spec : {M : Type 1} → statement M
 one-into-spec =

@@ -1,14 +1,13 @@
 -- `operand::bytes::solve_into` meets its contract.
-use mathlib.Core.Path.{_≡_, _∙_, ap}
+use mathlib.Core.Path.{_≡_, _∙_}
 use mathlib.Core.List.{[], _∷_}
+use native.Mathlib.Omega.{arith}
 use borrow.Author.Tests.{not-false}
-use Rattle.gf2.specs.Quadratic.{root}
-use Rattle.gf2.proofs.Carrying.{root-carried, root-is}
 use Rattle.judging.specs.Causes.{faultOf}
 use Rattle.judging.specs.FaultTable.{highBit, traceIsOne}
 use Rattle.judging.proofs.CauseLaws.{judged, follows}
 use Rattle.operand.specs.Causes.{solveBytesCauses}
-use Rattle.operand.proofs.CallLaws.{all-kept, all-filled, ends-kept, written-out, sizeCauses, Sized, sized, high-by, trace-after, trace-carried, root-bytes}
+use Rattle.operand.proofs.CallLaws.{all-kept, all-filled, ends-kept, sizeCauses, Sized, sized, trace-after, root-out}
 use borrow.Author.Needs.{needs}
 use Rattle.operand.proofs.bytes.solve_into.Statement.{statement}
 use Rattle.operand.proofs.bytes.solve_into.Tie as tie
@@ -17,29 +16,26 @@ use Rattle.operand.proofs.bytes.solve_into.Tie as tie
 sizes : (c : tie.Else1) → let a = c .before .before .before .before .before .args in Sized (a .width) (a .c .now) (a .result .now)
 sizes c = sized _ _ _ (judged (sizeCauses _ _ _) [] (c .before .before .judge-sizes .ensures) (c .before .is-none .ensures) (not-false _ (c .if1 .left)))
 
-whole : (c : tie.After-judge-solve) → let s = c .before .before in let a = s .before .before .before .before .before .args in
+whole : (c : tie.After-judge-solve) → let a = c .before .before .before .before .before .before .args in
     c .judge-solve .result ≡ faultOf (solveBytesCauses (a .width) (a .c .now) (a .result .now))
 whole c =
-    let s = c .before .before in
-    let z = sizes s .operand in
-    let e = c .before .carried .ensures in
+    let s = c .before in
     follows (sizeCauses _ _ _) (highBit _ _ ∷ traceIsOne _ _ ∷ []) (s .before .before .judge-sizes .ensures) (s .before .is-none .ensures) (not-false _ (s .if1 .left))
-    (c .judge-solve .ensures ∙ trace-after _ _ (z .greatest)
-    ∙ high-by z e (traceIsOne _ _ ∷ []) (traceIsOne _ _ ∷ []) (λ q. ap (λ y. faultOf (traceIsOne (s .before .before .before .before .before .args .width) y ∷ [])) e ∙ trace-carried z))
+    (c .judge-solve .ensures ∙ trace-after _ _ _ (omega (arith, sizes s .operand .size)))
 
 returns-2 : tie.Need-returns-2
 returns-2 c =
-    let t = c .before .before .before .before in
-    let k = t .before .before .before .before in
-    let z = sizes (k .before .before) in
-    all-filled _ (whole k) (t .before .before .before .is-none2 .ensures) _ _ (t .before .before .if2 .taken) (λ n.
-    written-out (z .operand .greatest) (root-is (z .operand)) (z .room) (c .before .before .copy-out .ensures)
-    (root-bytes (k .before .carried .result) (search needs) (z .operand .greatest) (t .before .root .ensures) (t .cleared .ensures) ∙ ap (root _) (k .before .carried .ensures) ∙ root-carried (z .operand)))
+    let r = c .before .before .before .before in
+    let t = r .before .before in
+    let k = t .before .before in
+    let z = sizes (k .before) in
+    all-filled _ (whole k) (t .before .is-none2 .ensures) _ _ (t .if2 .taken) (λ n.
+    root-out (z .operand) (z .room) (c .before .before .store .ensures) (r .before .slice-limbs .ensures) (r .root-limbs .ensures))
 
 pub solve-into-spec : {M : Type 1} → statement M
 solve-into-spec =
     tie.close
     (tie.spec (λ c κs. search needs) (λ c κs. search needs)
     (λ c. ends-kept (sizeCauses _ _ _) (c .before .before .judge-sizes .ensures) (c .before .is-none .ensures) (highBit _ _ ∷ traceIsOne _ _ ∷ []) (c .if1 .taken) _ _)
-    (λ c κs. search needs) (λ c κs. search needs) (λ c κs. search needs) (λ c κs. search needs) (λ c κs. search needs) (λ c κs. search needs)
-    (λ c. search needs) returns-2 (λ c. all-kept _ (whole (c .before .before)) (c .before .is-none2 .ensures) _ _ (c .if2 .left)))
+    (λ c κs. search needs) (λ c κs. search needs) (λ c κs. search needs) (λ c κs. search needs) (λ c κs. search needs) (λ c. search needs)
+    returns-2 (λ c. all-kept _ (whole (c .before .before)) (c .before .is-none2 .ensures) _ _ (c .if2 .left)))

@@ -1,5 +1,4 @@
 -- `operand::bytes::zero_into` meets its contract.
-use mathlib.Core.Path.{_∙_}
 use Rattle.operand.proofs.CallLaws.{all-kept, all-filled, has-size, zero-out}
 use borrow.Author.Needs.{needs}
 use Rattle.operand.proofs.bytes.zero_into.Statement.{statement}
@@ -9,7 +8,7 @@ returns : tie.Need-returns
 returns c =
     let s = c .before .before .before .before .before in
     all-filled _ (s .before .judge-size .ensures) (s .is-none .ensures) _ _ (c .before .before .before .before .if1 .taken)
-    (λ n. c .before .before .copy-out .ensures ∙ zero-out _ (has-size _ (s .before .before .before .args .result .now) n .size))
+    (λ n. let z = has-size _ (s .before .before .before .args .result .now) n in zero-out _ (z .greatest) (z .size) (c .before .before .store .ensures))
 
 pub zero-into-spec : {M : Type 1} → statement M
 zero-into-spec =

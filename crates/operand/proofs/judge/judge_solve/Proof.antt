@@ -13,11 +13,11 @@ pub judge-solve-spec : {M : Type 1} → statement M
 judge-solve-spec =
     tie.close
     (tie.spec (λ c κs. search needs) (λ c κs. search needs)
-    (λ c. ends (highBit _ _ ∷ []) (traceIsOne _ _ ∷ []) (c .before .before .judge-high .ensures) (c .before .is-none .ensures) (not-true _ (c .if1 .taken)))
+    (λ c. ends (highBit _ _ ∷ []) (traceIsOne _ _ ∷ []) (c .before .before .judge-high-of .ensures) (c .before .is-none .ensures) (not-true _ (c .if1 .taken)))
     (λ c κs. search needs)
     (λ c. let s = c .before .before in
-    follows (highBit _ _ ∷ []) (traceIsOne _ _ ∷ []) (s .before .before .judge-high .ensures) (s .before .is-none .ensures) (not-false _ (s .if1 .left))
-    (unfold trace in sym (head-holds (traceIsOne _ _) [] (eq-eqb _ 1 (sym (c .before .trace .ensures) ∙ c .if2 .taken)))))
+    follows (highBit _ _ ∷ []) (traceIsOne _ _ ∷ []) (s .before .before .judge-high-of .ensures) (s .before .is-none .ensures) (not-false _ (s .if1 .left))
+    (unfold trace in sym (head-holds (traceIsOne _ _) [] (eq-eqb _ 1 (sym (c .before .trace-of .ensures) ∙ c .if2 .taken)))))
     (λ c. let s = c .before .before in
-    follows (highBit _ _ ∷ []) (traceIsOne _ _ ∷ []) (s .before .before .judge-high .ensures) (s .before .is-none .ensures) (not-false _ (s .if1 .left))
-    (unfold trace in sym (none-given (traceIsOne _ _ ∷ []) (ne-eqb _ 1 (λ e. c .if2 .left (c .before .trace .ensures ∙ e)), tt)))))
+    follows (highBit _ _ ∷ []) (traceIsOne _ _ ∷ []) (s .before .before .judge-high-of .ensures) (s .before .is-none .ensures) (not-false _ (s .if1 .left))
+    (unfold trace in sym (none-given (traceIsOne _ _ ∷ []) (ne-eqb _ 1 (λ e. c .if2 .left (c .before .trace-of .ensures ∙ e)), tt)))))

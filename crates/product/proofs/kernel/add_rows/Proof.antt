@@ -17,7 +17,7 @@ abbrev μ-loop : tie.MeasureT-loop
 μ-loop how width table from count x y g₀ xx yy k₀ g k = count - k
 
 loop-holds : tie.Need-loop-holds Inv-loop μ-loop
-loop-holds c = (omega arith, rows-none _ _ _ _ _ _ _, refl)
+loop-holds c = let a = c .before .before .before .before .args in (omega arith, rows-none (a .method) (a .width) (a .table .now) (a .x) (a .y) (a .from) (a .g .now), refl)
 
 loop-again : tie.Need-loop-again Inv-loop μ-loop
 loop-again c =

@@ -2,10 +2,9 @@
 use mathlib.Core.Path.{ap, _∙_}
 use Prim.Native.Nat.{ℕ, _*_}
 use lib.ListN.{length, length-replicate}
-use Rattle.limbs.specs.Limbs.{carriedLimbs}
-use Rattle.scatter.specs.Cells.{slots}
+use Rattle.scatter.specs.Cells.{slots, twiceLimbs}
 use Rattle.product.proofs.SoundOperands.{made-sound}
-use Rattle.product.proofs.KernelLaws.{limbs-clear, rows-within}
+use Rattle.product.proofs.KernelLaws.{limbs-clear}
 use Rattle.product.proofs.TimesLaws.{serves-shaped, rows-inside, rows-by, times-made}
 use borrow.Author.Needs.{needs}
 use Rattle.product.proofs.times.times.Statement.{statement}
@@ -21,7 +20,7 @@ add-rows-requires c κs =
       limbs-clear (s .pre .1) (l .to-limbs .ensures),
       limbs-clear (s .pre .2) (c .before .before .before .to-limbs2 .ensures),
       rw (c .before .before .first-row .ensures, c .before .row-count .ensures) (rows-inside (a .method) (a .width) (shaped .least)),
-      ap length (s .pre .3) ∙ length-replicate {A = ℕ} (slots * carriedLimbs) 0,
+      ap length (s .pre .3) ∙ length-replicate {A = ℕ} (slots * twiceLimbs) 0,
     )
 
 gathered-requires : tie.Need-gathered-requires
@@ -31,11 +30,9 @@ gathered-requires c κs =
     let s = l .before .before .before .before .before in
     let a = s .args in
     let shaped = serves-shaped (a .method) (a .width) (a .table .now) (s .pre .0) in
-    let rows = rows-by (a .method) (a .width) (a .table .now) _ _ (slots * carriedLimbs) (r .before .before .before .first-row .ensures) (r .before .before .row-count .ensures) (s .pre .3) (r .add-rows .ensures) in (
+    let rows = rows-by (a .method) (a .width) (a .table .now) _ _ (slots * twiceLimbs) (r .before .before .before .first-row .ensures) (r .before .before .row-count .ensures) (s .pre .3) (r .add-rows .ensures) in (
       (shaped .least, shaped .greatest),
-      rows .size ∙ length-replicate {A = ℕ} (slots * carriedLimbs) 0,
-      rows-within (a .method) (a .width) (a .table .now) _ _ _ _ (slots * carriedLimbs) rows shaped (limbs-clear (s .pre .1) (l .to-limbs .ensures))
-          (limbs-clear (s .pre .2) (r .before .before .before .before .to-limbs2 .ensures)) (rows-inside (a .method) (a .width) (shaped .least)),
+      rows .size ∙ length-replicate {A = ℕ} (slots * twiceLimbs) 0,
     )
 
 plus-diagonal-requires : tie.Need-plus-diagonal-requires
@@ -50,8 +47,8 @@ returns c =
     let l = r .before .before .before .before .before in
     let s = l .before .before .before .before .before in
     let a = s .args in
-    times-made (a .table .now) (s .pre .1) (s .pre .2) (l .to-limbs .ensures) (r .before .before .before .before .to-limbs2 .ensures) (slots * carriedLimbs) (a .method) (s .pre .0)
-    (rows-by (a .method) (a .width) (a .table .now) _ _ (slots * carriedLimbs) (r .before .before .before .first-row .ensures) (r .before .before .row-count .ensures) (s .pre .3) (r .add-rows .ensures))
+    times-made (a .table .now) (s .pre .1) (s .pre .2) (l .to-limbs .ensures) (r .before .before .before .before .to-limbs2 .ensures) (slots * twiceLimbs) (a .method) (s .pre .0)
+    (rows-by (a .method) (a .width) (a .table .now) _ _ (slots * twiceLimbs) (r .before .before .before .first-row .ensures) (r .before .before .row-count .ensures) (s .pre .3) (r .add-rows .ensures))
     (c .before .gathered .ensures) (c .plus-diagonal .ensures)
 
 pub times-spec : {M : Type 1} → statement M

@@ -21,7 +21,7 @@ loop-holds : tie.Need-loop-holds Inv-loop μ-loop
 loop-holds c = (omega arith, every-none _)
 
 returns : tie.Need-returns Inv-loop μ-loop
-returns c = sym (every-not _ _ _ (c .before .before .loop-test .taken) (sym (c .before .acts-twice .ensures) ∙ not-true _ (c .if1 .taken)))
+returns c = sym (every-not _ _ (c .before .before .before .loop .j) (omega (arith, c .before .before .loop-test .taken)) (sym (c .before .acts-twice .ensures) ∙ not-true _ (c .if1 .taken)))
 
 loop-again : tie.Need-loop-again Inv-loop μ-loop
 loop-again c = (omega (arith, c .before .before .loop-test .taken), every-more _ _ (c .before .before .before .loop .inv .1) (sym (c .before .acts-twice .ensures) ∙ not-false _ (c .if1 .left)))

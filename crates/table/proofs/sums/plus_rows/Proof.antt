@@ -2,30 +2,19 @@
 use mathlib.Core.Path.{_≡_, refl, _∙_}
 use Prim.Native.Nat.{ℕ, _+_, _^_, _<_}
 use native.Mathlib.Omega.{arith}
-use lib.ListN.{length, getD}
 use lib.Count.{trailingZeros, trailing-le}
-use mir.Val.{Fits}
-use mir.Syntax.{w64}
 use Rattle.gf2.proofs.TrailingZeros.{lowest-less}
-use Rattle.limbs.specs.Limbs.{carriedLimbs}
-use Rattle.table.specs.Inner.{plusRows}
-use Rattle.table.proofs.RowsAtOnes.{Packed, packed-limbs, packed-made, Within, ones-none, ones-step, ones-within, ones-clear}
+use Rattle.table.proofs.RowsAtOnes.{Within, withRows, ones-none, ones-step, ones-within, ones-clear}
 use borrow.Author.Needs.{needs}
 use Rattle.table.proofs.sums.plus_rows.Statement.{statement}
 use Rattle.table.proofs.sums.plus_rows.Tie as tie
 
 abbrev Inv-loop : tie.InvT-loop
-Inv-loop width table limb from out₀ rest₀ out rest = (rest < 2 ^ 64) × Within width rest from × Packed out × (plusRows width table out rest from ≡ plusRows width table out₀ limb from)
+Inv-loop width table limb from out₀ rest₀ out rest =
+    (rest < 2 ^ 64) × Within width rest from × ((s : ℕ) → s < width → withRows width table from out rest s ≡ withRows width table from out₀ limb s)
 
 abbrev μ-loop : tie.MeasureT-loop
 μ-loop width table limb from out₀ rest₀ out rest = rest
-
-loop-holds : tie.Need-loop-holds Inv-loop μ-loop
-loop-holds c =
-    let a = c .before .args in
-    let size : length (a .total) ≡ carriedLimbs = search needs in
-    let small : (w : ℕ) → Fits w64 (getD (a .total) w 0) = λ w. search needs in
-    (c .before .fits .limb .fits, c .before .pre .1, packed-limbs size (λ w. small w .fits), refl)
 
 -- the row of the lowest one
 within : (c : tie.In-loop Inv-loop μ-loop) → let a = c .before .before .before .args in a .from + trailingZeros 64 (c .before .loop .rest) < a .width
@@ -44,14 +33,13 @@ loop-again c =
     let some = c .before .loop-test .taken in (
       omega (arith, l .inv .0, lowest-less 64 (l .rest) (l .inv .0) some),
       ones-clear (a .width) (a .table .now) (a .from) (l .rest) (l .inv .0) some (l .inv .1),
-      packed-made _ (c .plus-row .ensures),
-      ones-step (a .width) (a .table .now) (a .from) (l .rest) (l .inv .0) some (l .out) (c .plus-row .ensures) ∙ l .inv .3,
+      λ s h. ones-step (a .width) (a .table .now) (a .from) (l .rest) (l .inv .0) some (l .out) _ (c .plus-row .ensures) s h ∙ l .inv .2 s h,
     )
 
 returns : tie.Need-returns Inv-loop μ-loop
-returns c = let l = c .before .loop in ones-none _ _ _ (l .inv .2) (c .loop-test .left) ∙ l .inv .3
+returns c s h = let l = c .before .loop in ones-none _ _ _ (l .out) (c .loop-test .left) s ∙ l .inv .2 s h
 
 pub plus-rows-spec : {M : Type 1} → statement M
-plus-rows-spec = tie.close (tie.spec Inv-loop μ-loop loop-holds (λ c. omega (arith, trailing-le 64 (c .before .loop .rest)))
-    (λ c. omega (arith, within c, c .before .before .before .pre .0 .greatest)) (λ c κs. (c .before .before .before .pre .0, within c)) (λ c. search needs)
-    loop-less loop-again returns)
+plus-rows-spec = tie.close (tie.spec Inv-loop μ-loop (λ c. (c .before .fits .limb .fits, c .before .pre .1, λ s h. refl))
+    (λ c. omega (arith, trailing-le 64 (c .before .loop .rest))) (λ c. omega (arith, within c, c .before .before .before .pre .0 .greatest))
+    (λ c κs. (c .before .before .before .pre .0, within c)) (λ c. search needs) loop-less loop-again returns)
