@@ -80,7 +80,8 @@ fn main() {
     println!("cargo:rerun-if-changed={}", archive.display());
     assert!(archive.exists(), "no {}: run `rt staticlib nb` first", archive.display());
     println!("cargo:rustc-link-search=native={}", archive.parent().unwrap().display());
-    println!("cargo:rustc-link-lib=static=nb");
+    let name = archive.file_stem().unwrap().to_str().unwrap();
+    println!("cargo:rustc-link-lib=static={}", name.strip_prefix("lib").expect("an archive's name begins with lib"));
     // An earlier library, which compare/before-after links, may have no nb_zero and nb_one: the benchmark then leaves them out.
     println!("cargo:rustc-check-cfg=cfg(constants)");
     if fs::read(&archive).unwrap().windows(7).any(|name| name == b"nb_zero") {

@@ -5,7 +5,7 @@
  * crates/nb/src and cite the definitions of crates/nb/specs. `rt staticlib nb` writes target/staticlib/libnb.a, for x86-64 Linux,
  * where size_t has 64 bits; it needs no other library than the C library, and of that memset alone.
  *
- * Operands. m is the width, 2 to 255; W is m/8 rounded up. An operand is W bytes: coordinate i is bit i % 8 of byte i / 8, and bits at
+ * Operands. m is the width, 2 to 571; W is m/8 rounded up. An operand is W bytes: coordinate i is bit i % 8 of byte i / 8, and bits at
  * m and above are 0. It is the sum of those of β0 to βm-1 whose coordinate is 1; β0 squared is β1, and so on round to β0. Turned k
  * places, coordinate i of the result is coordinate i-k of the old, places counted modulo m.
  *
@@ -57,7 +57,7 @@ extern "C" {
 
 /* The greatest width; W; the bytes of a table; the most that a card of the width can have, as it has from width 128 on where all
  * coordinates of the table are 1. Constants where m is one, so that a buffer can be declared by them. */
-#define NB_MAX_WIDTH 255
+#define NB_MAX_WIDTH 571
 #define NB_OPERAND_BYTES(m) (((size_t)(m) + 7) / 8)
 #define NB_TABLE_BYTES(m) ((size_t)(m) * NB_OPERAND_BYTES(m))
 #define NB_CARD_BYTES(m) (3 + (size_t)(m) * ((size_t)(m) + 2))
@@ -74,7 +74,7 @@ extern "C" {
 /* Document 01's table of faults. */
 enum nb_fault {
     NB_DONE = 0,
-    NB_WIDTH = 1,            /* width not 2..255 */
+    NB_WIDTH = 1,            /* width not 2..571 */
     NB_LENGTH = 2,           /* a length not as laid down */
     NB_HIGH_BIT = 3,         /* bit set at m or above */
     NB_ROW_ZERO = 4,         /* row 0 wrong */
@@ -96,34 +96,34 @@ enum nb_fault {
 
 /* The check. Success exactly when the operands of the width form a field under the table whose square is the turn by one.
  * Faults: 1; 2 table; 3 in a row; 4; 5 with d; 6 with i, j (i is always 0: under rules 4 and 5 a triple differs at i = 0 first); 7 (which
- * never comes: rules 4, 5 and 6 entail rule 7). Takes as many sums of rows as the table has ones. Stack: 1,024. */
+ * never comes: rules 4, 5 and 6 entail rule 7). Takes as many sums of rows as the table has ones. Stack: 1,536. */
 uint64_t nb_check(uint64_t width, const uint8_t *table, size_t table_len);
 
 /* first: C, the number of ones in the table. Faults: 1; 2 table; 3 in a row. Stack: 256. */
 uint64_t nb_ones(uint64_t width, const uint8_t *table, size_t table_len);
 
 /* result: the plain product a·b under the table, which need not be accepted.
- * Faults: 1; 2 table, a, b, result; 3 in a row, a, b. Stack: 10,240. */
+ * Faults: 1; 2 table, a, b, result; 3 in a row, a, b. Stack: 13,312. */
 uint64_t nb_product(uint64_t width, const uint8_t *table, size_t table_len, const uint8_t *a, size_t a_len,
                     const uint8_t *b, size_t b_len, uint8_t *result, size_t result_len);
 
 /* result: the reduced product of a and b, which is the plain one under an accepted table.
- * Faults: 1; 2 table, a, b, result; 3 in a row, a, b; 4; 5 with d. Stack: 10,240. */
+ * Faults: 1; 2 table, a, b, result; 3 in a row, a, b; 4; 5 with d. Stack: 13,312. */
 uint64_t nb_product_reduced(uint64_t width, const uint8_t *table, size_t table_len, const uint8_t *a, size_t a_len,
                             const uint8_t *b, size_t b_len, uint8_t *result, size_t result_len);
 
 /* result: a to the power 2^m - 2 by the chain of Itoh and Tsujii, the inverse of a under an accepted table.
- * first: the number of products made. Faults: 1; 2 table, a, result; 3 in a row, a; 9. Stack: 13,312. */
+ * first: the number of products made. Faults: 1; 2 table, a, result; 3 in a row, a; 9. Stack: 20,480. */
 uint64_t nb_inverse(uint64_t width, const uint8_t *table, size_t table_len, const uint8_t *a, size_t a_len,
                     uint8_t *result, size_t result_len);
 
-/* result: zero. Faults: 1; 2 result. Stack: 256. */
+/* result: zero. Faults: 1; 2 result. Stack: 512. */
 uint64_t nb_zero(uint64_t width, uint8_t *result, size_t result_len);
 
-/* result: one, the operand with all m coordinates 1. Faults: 1; 2 result. Stack: 256. */
+/* result: one, the operand with all m coordinates 1. Faults: 1; 2 result. Stack: 512. */
 uint64_t nb_one(uint64_t width, uint8_t *result, size_t result_len);
 
-/* result: a turned k places; k = 1 is the square. Faults: 1; 2 a, result; 3 in a; 8 where k is m or more. Stack: 512. */
+/* result: a turned k places; k = 1 is the square. Faults: 1; 2 a, result; 3 in a; 8 where k is m or more. Stack: 1,024. */
 uint64_t nb_turn(uint64_t width, const uint8_t *a, size_t a_len, uint64_t k, uint8_t *result, size_t result_len);
 
 /* result: a + b, coordinate by coordinate modulo 2. Faults: 1; 2 a, b, result; 3 in a, b. Stack: 512. */
@@ -133,34 +133,34 @@ uint64_t nb_sum(uint64_t width, const uint8_t *a, size_t a_len, const uint8_t *b
 /* first: the trace of a, 0 or 1. Faults: 1; 2 a; 3 in a. Stack: 256. */
 uint64_t nb_trace(uint64_t width, const uint8_t *a, size_t a_len);
 
-/* result: the z with z² + z = c whose coordinate 0 is 0. Faults: 1; 2 c, result; 3 in c; 10 where c has trace 1. Stack: 256. */
+/* result: the z with z² + z = c whose coordinate 0 is 0. Faults: 1; 2 c, result; 3 in c; 10 where c has trace 1. Stack: 512. */
 uint64_t nb_solve(uint64_t width, const uint8_t *c, size_t c_len, uint8_t *result, size_t result_len);
 
 /* first: the AND gates, second: the XOR gates of the table's plain, reduced or common list.
- * Faults: 1; 2 table; 3 in a row; 4; 5 with d. Stack: 1,024. */
+ * Faults: 1; 2 table; 3 in a row; 4; 5 with d. Stack: 1,536. */
 uint64_t nb_counts_plain(uint64_t width, const uint8_t *table, size_t table_len);
 uint64_t nb_counts_reduced(uint64_t width, const uint8_t *table, size_t table_len);
 uint64_t nb_counts_common(uint64_t width, const uint8_t *table, size_t table_len);
 
 /* out, lent: the table's plain, reduced or common list, NB_LIST_WORDS(m, first, second) words.
  * first: its AND gates, second: its XOR gates. Faults: 1; 2 table; 3 in a row; 4; 5 with d; 11 where out is too short.
- * Stack: 16,384. */
+ * Stack: 69,632. */
 uint64_t nb_list_plain(uint64_t width, const uint8_t *table, size_t table_len, uint32_t *out, size_t out_len);
 uint64_t nb_list_reduced(uint64_t width, const uint8_t *table, size_t table_len, uint32_t *out, size_t out_len);
 uint64_t nb_list_common(uint64_t width, const uint8_t *table, size_t table_len, uint32_t *out, size_t out_len);
 
 /* Runs a list on a and b. wires, of exactly 2m + g bytes: byte n is the value of wire n, 0 or 1. result: coordinate r is the value
  * of the output wire for r. Faults: 1; 2 list (fewer than two words, first word not the width, not 2 + 3g + m words), a, b, result,
- * wires; 3 in a, b; 18. Stack: 512. */
+ * wires; 3 in a, b; 18. Stack: 1,024. */
 uint64_t nb_run(uint64_t width, const uint32_t *list, size_t list_len, const uint8_t *a, size_t a_len, const uint8_t *b,
                 size_t b_len, uint8_t *result, size_t result_len, uint8_t *wires, size_t wires_len);
 
 /* first: the least type T of a Gaussian normal basis of the width. Faults: 1; 17 where 8 divides the width, which has none.
- * Not a call of document 01: nb_draw's answer without the table. Stack: 512. */
+ * Not a call of document 01: nb_draw's answer without the table. Stack: 1,024. */
 uint64_t nb_type(uint64_t width);
 
 /* table, of exactly m·W bytes: the table of the width's Gaussian normal basis. first: its type T.
- * Faults: 1; 2 table; 17 where 8 divides the width. Stack: 14,336. */
+ * Faults: 1; 2 table; 17 where 8 divides the width. Stack: 57,344. */
 uint64_t nb_draw(uint64_t width, uint8_t *table, size_t table_len);
 
 /* out, lent: the card of the table, at most NB_CARD_BYTES(m) bytes. first: its length in bytes.
@@ -168,7 +168,7 @@ uint64_t nb_draw(uint64_t width, uint8_t *table, size_t table_len);
 uint64_t nb_card_write(uint64_t width, const uint8_t *table, size_t table_len, uint8_t *out, size_t out_len);
 
 /* table, lent: the table of a card, m·W bytes, never more than NB_TABLE_BYTES(NB_MAX_WIDTH). first: m. The check is not run.
- * Faults, at the byte where each arises: 12; 13; 14; 1; then 11 where the lent table is shorter than m·W; 15; 16. Stack: 512. */
+ * Faults, at the byte where each arises: 12; 13; 14; 1; then 11 where the lent table is shorter than m·W; 15; 16. Stack: 1,024. */
 uint64_t nb_card_read(const uint8_t *card, size_t card_len, uint8_t *table, size_t table_len);
 
 #ifdef __cplusplus

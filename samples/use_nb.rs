@@ -40,7 +40,7 @@ mod c {
 }
 
 // As include/nb.h has them.
-const MAX_WIDTH: usize = 255;
+const MAX_WIDTH: usize = 571;
 
 const fn operand_bytes(m: usize) -> usize {
     m.div_ceil(8)

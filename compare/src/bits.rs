@@ -2,7 +2,7 @@
 
 use crate::{fault, Answer};
 
-pub const MAX_WIDTH: usize = 255;
+pub const MAX_WIDTH: usize = 571;
 
 pub type Bits = Vec<bool>;
 
@@ -25,6 +25,11 @@ pub fn pack(bits: &[bool]) -> Vec<u8> {
         bytes[i / 8] |= 1 << (i % 8);
     }
     bytes
+}
+
+/// The coordinates that are 1, in order.
+pub fn places(bits: &[bool]) -> Vec<usize> {
+    (0..bits.len()).filter(|&i| bits[i]).collect()
 }
 
 pub fn judge_width(m: usize) -> Answer<()> {
@@ -105,14 +110,14 @@ pub fn sum(m: usize, a: &[u8], b: &[u8], result: &mut [u8]) -> Answer<()> {
 
 pub fn trace(m: usize, a: &[u8]) -> Answer<usize> {
     judge_operands(m, &[a], &[])?;
-    Ok(unpack(m, a).iter().filter(|&&b| b).count() % 2)
+    Ok(places(&unpack(m, a)).len() % 2)
 }
 
 /// z² + z = c, with coordinate 0 of z equal 0.
 pub fn solve(m: usize, c: &[u8], result: &mut [u8]) -> Answer<()> {
     judge_operands(m, &[c], &[result.len()])?;
     let c = unpack(m, c);
-    if c.iter().filter(|&&b| b).count() % 2 == 1 {
+    if places(&c).len() % 2 == 1 {
         return fault(10);
     }
     let mut z = vec![false; m];

@@ -1,6 +1,6 @@
 //! Reading and writing cards, and the report of a card.
 
-use crate::bits::{bytes_for, judge_width, pack};
+use crate::bits::{bytes_for, judge_width, pack, places};
 use crate::field::{judge, Table};
 use crate::gates::{counts_of, list, Method};
 use crate::{fault, Answer};
@@ -18,7 +18,7 @@ pub fn card(t: &Table) -> Vec<u8> {
     put(&mut out, 1);
     put(&mut out, t.m);
     for row in &t.rows {
-        let places: Vec<_> = (0..t.m).filter(|&s| row[s]).collect();
+        let places = places(row);
         put(&mut out, places.len());
         for (n, &place) in places.iter().enumerate() {
             put(&mut out, if n == 0 { place } else { place - places[n - 1] - 1 });
@@ -64,13 +64,23 @@ impl Reader<'_> {
     }
 }
 
-/// The width and the table's bytes, judged in byte order; `room` is the length of the lent table.
-pub fn parse(card: &[u8], room: usize) -> Answer<(usize, Vec<u8>)> {
+/// The number that stands for the width, and what follows it.
+fn head(card: &[u8]) -> Answer<(usize, Reader<'_>)> {
     let mut reader = Reader { rest: card };
     if reader.number()? != 1 {
         return fault(14);
     }
-    let m = reader.number()?;
+    Ok((reader.number()?, reader))
+}
+
+/// The width that a card of form 1 states, of whatever size, where its bytes reach that far.
+pub fn stated_width(card: &[u8]) -> Option<usize> {
+    head(card).ok().map(|(m, _)| m)
+}
+
+/// The width and the table's bytes, judged in byte order; `room` is the length of the lent table.
+pub fn parse(card: &[u8], room: usize) -> Answer<(usize, Vec<u8>)> {
+    let (m, mut reader) = head(card)?;
     judge_width(m)?;
     if room < m * bytes_for(m) {
         return fault(11);

@@ -1,6 +1,6 @@
 //! Tables, the check, the two products, the inverse.
 
-use crate::bits::{self, added, bytes_for, judge_high, judge_lengths, judge_width, pack, turned, unpack, Bits};
+use crate::bits::{self, added, bytes_for, judge_high, judge_lengths, judge_width, pack, places, turned, unpack, Bits};
 use crate::{fault, fault_with, Answer};
 
 /// A table's rows as vectors of bits.
@@ -22,10 +22,7 @@ pub fn judge(m: usize, table: &[u8], operands: &[&[u8]], results: &[usize]) -> A
     judge_lengths(&lengths)?;
     judge_high(m, &row_bytes(m, table))?;
     judge_high(m, operands)?;
-    Ok(Table {
-        m,
-        rows: row_bytes(m, table).iter().map(|r| unpack(m, r)).collect(),
-    })
+    Ok(Table::new(m, table))
 }
 
 fn basis(m: usize, k: usize) -> Bits {
@@ -33,6 +30,14 @@ fn basis(m: usize, k: usize) -> Bits {
 }
 
 impl Table {
+    /// The rows of a table of the right shape.
+    pub fn new(m: usize, table: &[u8]) -> Table {
+        Table {
+            m,
+            rows: row_bytes(m, table).iter().map(|r| unpack(m, r)).collect(),
+        }
+    }
+
     /// βi·βj: row j-i turned i places.
     pub fn pair(&self, i: usize, j: usize) -> Bits {
         turned(&self.rows[(j + self.m - i) % self.m], i)
@@ -43,6 +48,22 @@ impl Table {
         for i in (0..self.m).filter(|&i| a[i]) {
             for j in (0..self.m).filter(|&j| b[j]) {
                 c = added(&c, &self.pair(i, j));
+            }
+        }
+        c
+    }
+
+    /// The product again, through the places of the rows' ones: one step for each coordinate of a pair that is 1, where `product`
+    /// takes m steps for each pair. What makes many products at great widths takes this one.
+    pub fn product_by_places(&self, a: &[bool], b: &[bool]) -> Bits {
+        let m = self.m;
+        let rows: Vec<_> = self.rows.iter().map(|row| places(row)).collect();
+        let mut c = vec![false; m];
+        for i in places(a) {
+            for j in places(b) {
+                for s in &rows[(j + m - i) % m] {
+                    c[(s + i) % m] ^= true;
+                }
             }
         }
         c
@@ -60,7 +81,7 @@ impl Table {
     }
 
     pub fn ones(&self) -> usize {
-        self.rows.iter().flatten().filter(|&&b| b).count()
+        self.rows.iter().map(|row| places(row).len()).sum()
     }
 
     /// 4 and 5.
@@ -127,11 +148,11 @@ pub fn inverse(m: usize, table: &[u8], a: &[u8], result: &mut [u8]) -> Answer<us
     }
     let (mut t, mut k, mut count) = (a.clone(), 1, 0);
     for digit in format!("{:b}", m - 1).chars().skip(1) {
-        t = table.product(&turned(&t, k), &t);
+        t = table.product_by_places(&turned(&t, k), &t);
         k *= 2;
         count += 1;
         if digit == '1' {
-            t = table.product(&turned(&t, 1), &a);
+            t = table.product_by_places(&turned(&t, 1), &a);
             k += 1;
             count += 1;
         }

@@ -11,94 +11,99 @@ pub enum Method {
     Common,
 }
 
-/// A list while it is made: gates as (kind, left, right).
+/// A list while it is made: its words so far, without the number of gates, and the output wires.
 struct List {
     m: usize,
-    gates: Vec<(u32, usize, usize)>,
-    outputs: Vec<usize>,
+    words: Vec<u32>,
+    outputs: Vec<u32>,
 }
 
 impl List {
     fn new(m: usize) -> List {
-        let ands = (0..m).flat_map(|i| (0..m).map(move |j| (0, i, m + j)));
-        List {
-            m,
-            gates: ands.collect(),
-            outputs: vec![],
-        }
+        let mut words = vec![m as u32, 0];
+        words.extend((0..m).flat_map(|i| (0..m).flat_map(move |j| [0, i as u32, (m + j) as u32])));
+        List { m, words, outputs: vec![] }
     }
 
-    fn and(&self, i: usize, j: usize) -> usize {
+    fn gates(&self) -> usize {
+        (self.words.len() - 2) / 3
+    }
+
+    fn and(&self, (i, j): (usize, usize)) -> usize {
         2 * self.m + i * self.m + j
     }
 
     fn xor(&mut self, left: usize, right: usize) -> usize {
-        self.gates.push((1, left, right));
-        2 * self.m + self.gates.len() - 1
+        self.words.extend([1, left as u32, right as u32]);
+        2 * self.m + self.gates() - 1
     }
 
     fn fold(&mut self, terms: &[usize]) -> usize {
         terms[1..].iter().fold(terms[0], |wire, &t| self.xor(wire, t))
     }
 
-    fn words(&self) -> Vec<u32> {
-        let mut words = vec![self.m as u32, self.gates.len() as u32];
-        for &(kind, left, right) in &self.gates {
-            words.extend([kind, left as u32, right as u32]);
-        }
-        words.extend(self.outputs.iter().map(|&w| w as u32));
-        words
+    fn finished(mut self) -> Vec<u32> {
+        self.words[1] = self.gates() as u32;
+        self.words.extend(self.outputs);
+        self.words
     }
 }
 
-fn pairs(t: &Table) -> Vec<(usize, usize, Vec<bool>)> {
+/// For each coordinate the pairs having it, by i, then j: βi·βj has r where row j-i has r-i.
+fn pairs_having(t: &Table) -> impl Fn(usize) -> Vec<(usize, usize)> {
     let m = t.m;
-    (0..m)
-        .flat_map(|i| (0..m).map(move |j| (i, j)))
-        .map(|(i, j)| (i, j, t.pair(i, j)))
-        .collect()
+    let columns: Vec<Vec<usize>> = (0..m).map(|s| (0..m).filter(|&d| t.rows[d][s]).collect()).collect();
+    move |r| {
+        let mut pairs = vec![];
+        for i in 0..m {
+            let rows = &columns[(r + m - i) % m];
+            let (below, wrapped) = rows.split_at(rows.partition_point(|d| d + i < m));
+            pairs.extend(wrapped.iter().map(|d| (i, d + i - m)));
+            pairs.extend(below.iter().map(|d| (i, d + i)));
+        }
+        pairs
+    }
 }
 
 /// The list of a table that has passed 1 to 5.
 pub fn list(t: &Table, method: Method) -> Vec<u32> {
     let m = t.m;
     let mut list = List::new(m);
-    let pairs = pairs(t);
-    let full = |p: &[bool]| p.iter().all(|&b| b);
-    let shared = method == Method::Common && pairs.iter().any(|(_, _, p)| full(p));
+    let having = pairs_having(t);
     if method == Method::Reduced {
         let mut mixed = vec![vec![0; m]; m];
         for i in 0..m {
             for j in i + 1..m {
-                let (left, right) = (list.and(i, j), list.and(j, i));
+                let (left, right) = (list.and((i, j)), list.and((j, i)));
                 mixed[i][j] = list.xor(left, right);
             }
         }
         for r in 0..m {
-            let diagonal = list.and((r + m - 1) % m, (r + m - 1) % m);
-            let having = pairs.iter().filter(|(i, j, p)| i < j && p[r]);
-            let terms: Vec<_> = std::iter::once(diagonal).chain(having.map(|&(i, j, _)| mixed[i][j])).collect();
+            let diagonal = list.and(((r + m - 1) % m, (r + m - 1) % m));
+            let pairs = having(r).into_iter().filter(|(i, j)| i < j);
+            let terms: Vec<_> = std::iter::once(diagonal).chain(pairs.map(|(i, j)| mixed[i][j])).collect();
             let out = list.fold(&terms);
-            list.outputs.push(out);
+            list.outputs.push(out as u32);
         }
     } else {
-        let wires = |list: &List, keep: &dyn Fn(&[bool]) -> bool| -> Vec<usize> {
-            pairs.iter().filter(|(_, _, p)| keep(p)).map(|&(i, j, _)| list.and(i, j)).collect()
-        };
-        let s = shared.then(|| {
-            let terms = wires(&list, &|p| full(p));
+        let full: Vec<bool> = t.rows.iter().map(|row| method == Method::Common && row.iter().all(|&b| b)).collect();
+        let is_full = |&(i, j): &(usize, usize)| full[(j + m - i) % m];
+        let s = full.contains(&true).then(|| {
+            let pairs = (0..m).flat_map(|i| (0..m).map(move |j| (i, j))).filter(is_full);
+            let terms: Vec<_> = pairs.map(|pair| list.and(pair)).collect();
             list.fold(&terms)
         });
         for r in 0..m {
-            let terms = wires(&list, &|p| p[r] && !(shared && full(p)));
+            let others = having(r).into_iter().filter(|pair| !is_full(pair));
+            let terms: Vec<_> = others.map(|pair| list.and(pair)).collect();
             let mut out = list.fold(&terms);
             if let Some(s) = s {
                 out = list.xor(out, s);
             }
-            list.outputs.push(out);
+            list.outputs.push(out as u32);
         }
     }
-    list.words()
+    list.finished()
 }
 
 /// The numbers of AND and of XOR gates of a list.

@@ -49,14 +49,16 @@ pub fn rows(m: usize, t: usize) -> Vec<Bits> {
     let k: Vec<_> = (1..p).filter(|&u| power(u, t, p) == 1).collect();
     let mut class = vec![m; p];
     for s in 0..m {
+        let power = power(2, s, p);
         for &w in &k {
-            class[power(2, s, p) * w % p] = s;
+            class[power * w % p] = s;
         }
     }
     let row = |d: usize| {
+        let power = power(2, d, p);
         let mut row = vec![false; m];
         for &w in &k {
-            let x = (1 + power(2, d, p) * w) % p;
+            let x = (1 + power * w) % p;
             if x != 0 {
                 row[class[x]] = !row[class[x]];
             } else if t % 2 == 1 {

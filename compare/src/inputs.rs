@@ -1,8 +1,8 @@
 //! Inputs for the comparison: widths, operands, tables and cards, good and damaged, from one seed.
 
-use crate::bits::{added, bytes_for, pack, turned, Bits, MAX_WIDTH};
+use crate::bits::{added, bytes_for, judge_width, pack, turned, Bits, MAX_WIDTH};
 use crate::card::card;
-use crate::field::{judge, Table};
+use crate::field::Table;
 use crate::gaussian;
 
 /// xorshift64*, so that a seed gives the same calls on every machine.
@@ -46,73 +46,109 @@ impl Source {
     }
 }
 
-/// Widths where the bytes or words of an operand are just full, and the widths of the published points.
-pub const EDGES: [usize; 22] =
-    [2, 7, 8, 9, 15, 16, 17, 63, 64, 65, 127, 128, 129, 163, 191, 192, 193, 233, 247, 248, 254, 255];
+/// Widths where the bytes or words of an operand are just full, and those beside; the widths of the published points; the ends.
+pub const EDGES: [usize; 40] = [
+    2, 7, 8, 9, 15, 16, 17, 63, 64, 65, 127, 128, 129, 163, 191, 192, 193, 233, 247, 248, 254, 255, 256, 257, 283, 319, 320, 321, 383,
+    384, 385, 409, 447, 448, 449, 511, 512, 513, 570, 571,
+];
 
+/// The widths of the next meters.
+pub const METERS: [usize; 3] = [283, 409, 571];
+
+/// Whether a width has a drawn table.
 pub fn drawable(m: usize) -> bool {
-    m % 8 != 0
+    judge_width(m).is_ok() && m % 8 != 0
 }
 
-/// The drawn table of a width, by the rule; zeros where there is none.
-pub fn drawn_at(m: usize) -> Vec<u8> {
-    let mut table = vec![0; m * bytes_for(m)];
-    if m >= 2 && drawable(m) {
-        gaussian::draw(m, &mut table).unwrap();
+/// The middle exponents of irreducible polynomials x^n + .. + 1 of the degrees n that are powers of 2.
+const POLYNOMIALS: [(usize, [usize; 3]); 7] =
+    [(8, [4, 3, 1]), (16, [5, 3, 1]), (32, [7, 3, 2]), (64, [4, 3, 1]), (128, [7, 2, 1]), (256, [10, 5, 2]), (512, [8, 5, 2])];
+
+/// The product of two polynomials modulo such a one.
+fn polynomial_product(middle: &[usize; 3], a: &Bits, b: &Bits) -> Bits {
+    let (mut sum, mut power) = (vec![false; a.len()], b.clone());
+    for &coefficient in a {
+        if coefficient {
+            sum = added(&sum, &power);
+        }
+        power.rotate_right(1);
+        let carry = power[0];
+        middle.iter().for_each(|&e| power[e] ^= carry);
     }
-    table
+    sum
 }
 
-/// The drawn table of each width, at the index of its width.
-pub fn drawn() -> Vec<Vec<u8>> {
-    (0..=MAX_WIDTH).map(drawn_at).collect()
+/// An accepted table of a width: the drawn one. Where 8 divides the width there is none; then the basis is the products of two, element
+/// by element: one of the power of 2 in the width, found with polynomials, and the drawn one of the odd rest.
+pub fn accepted(m: usize) -> Vec<u8> {
+    if drawable(m) {
+        let mut table = vec![0; m * bytes_for(m)];
+        gaussian::draw(m, &mut table).unwrap();
+        return table;
+    }
+    let n = 1 << m.trailing_zeros();
+    let (_, middle) = POLYNOMIALS.iter().find(|(degree, _)| *degree == n).unwrap();
+    let product = |a: &Bits, b: &Bits| polynomial_product(middle, a, b);
+    let base = table_of_basis(&mut Source::new(1), n, |a| product(a, a), product);
+    if m == n {
+        return base;
+    }
+    let (base, rest) = (Table::new(n, &base), Table::new(m / n, &accepted(m / n)));
+    let row = |d: usize| (0..m).map(|s| base.rows[d % n][s % n] && rest.rows[d % rest.m][s % rest.m]).collect();
+    packed(&(0..m).map(row).collect::<Vec<_>>())
+}
+
+/// An accepted table of each width, at the index of its width.
+pub fn all_accepted() -> Vec<Vec<u8>> {
+    (0..=MAX_WIDTH).map(|m| if judge_width(m).is_ok() { accepted(m) } else { vec![] }).collect()
 }
 
 fn packed(rows: &[Bits]) -> Vec<u8> {
     rows.iter().flat_map(|r| pack(r)).collect()
 }
 
-/// A table that passes 4 and 5, its other rows random: dense, sparse, or all ones here and there.
-pub fn symmetric(source: &mut Source, m: usize) -> Vec<u8> {
+/// A table that passes 4 and 5: `row` gives the free coordinates of rows 1 to m/2, as many as it is asked for. Those are all m, but for
+/// row m/2 of an even m, whose second half repeats the first.
+fn from_half(m: usize, mut row: impl FnMut(usize) -> Bits) -> Vec<u8> {
     let mut rows: Vec<Bits> = vec![vec![false; m]; m];
     rows[0][1 % m] = true;
-    let kind = source.below(3);
     for d in 1..=m / 2 {
-        let mut row = match kind {
-            0 => source.bits(m),
-            1 => source.sparse(m),
-            _ if source.one_in(2) => vec![true; m],
-            _ => source.sparse(m),
-        };
-        if 2 * d == m {
-            for s in 0..d {
-                row[s + d] = row[s];
-            }
-        }
-        rows[m - d] = turned(&row, m - d);
-        rows[d] = row;
+        rows[d] = if 2 * d == m { row(d).repeat(2) } else { row(m) };
+        rows[m - d] = turned(&rows[d], m - d);
     }
     packed(&rows)
 }
 
-/// Every table of a width that passes 4 and 5: row 0 is given, rows 1 to m/2 are free, row m/2 of an even m but for its second half.
+/// A table that passes 4 and 5, its other rows random: dense, sparse, or all ones here and there.
+pub fn symmetric(source: &mut Source, m: usize) -> Vec<u8> {
+    let kind = source.below(3);
+    from_half(m, |free| match kind {
+        0 => source.bits(free),
+        1 => source.sparse(free),
+        _ if source.one_in(2) => vec![true; free],
+        _ => source.sparse(free),
+    })
+}
+
+/// A table that passes 4 and 5, its other rows sparse, but for one all ones in half of the tables: its lists are short.
+pub fn sparse_symmetric(source: &mut Source, m: usize) -> Vec<u8> {
+    let (full, mut d) = (source.below(m), 0);
+    from_half(m, |free| {
+        d += 1;
+        if d == full {
+            vec![true; free]
+        } else {
+            source.sparse(free)
+        }
+    })
+}
+
+/// Every table of a width that passes 4 and 5.
 pub fn all_symmetric(m: usize) -> impl Iterator<Item = Vec<u8>> {
     let free = (m * (m - 1)) / 2;
     (0u64..1 << free).map(move |choice| {
         let mut bit = (0..free).map(|k| choice >> k & 1 == 1);
-        let mut rows: Vec<Bits> = vec![vec![false; m]; m];
-        rows[0][1 % m] = true;
-        for d in 1..=m / 2 {
-            let row: Bits = if 2 * d == m {
-                let half: Bits = bit.by_ref().take(d).collect();
-                half.iter().chain(&half).copied().collect()
-            } else {
-                bit.by_ref().take(m).collect()
-            };
-            rows[m - d] = turned(&row, m - d);
-            rows[d] = row;
-        }
-        packed(&rows)
+        from_half(m, |n| bit.by_ref().take(n).collect())
     })
 }
 
@@ -125,17 +161,21 @@ pub fn changed_pair(m: usize, table: &[u8], d: usize, s: usize) -> Vec<u8> {
     changed
 }
 
-/// A table of the right shape: drawn, one bit away from it, symmetric, or random.
-pub fn table(source: &mut Source, drawn: &[Vec<u8>], m: usize) -> Vec<u8> {
+/// A table of the right shape: accepted, symmetric, or random, or one bit away from that, or two that rule 5 ties together.
+pub fn table(source: &mut Source, accepted: &[Vec<u8>], m: usize) -> Vec<u8> {
     let mut table = match source.below(4) {
         0 => symmetric(source, m),
         1 => packed(&(0..m).map(|_| source.sparse(m)).collect::<Vec<_>>()),
-        _ if drawable(m) => drawn[m].clone(),
+        _ if m < accepted.len() => accepted[m].clone(),
         _ => symmetric(source, m),
     };
-    if source.one_in(6) {
-        let (row, s) = (source.below(m), source.below(m));
-        table[row * bytes_for(m) + s / 8] ^= 1 << (s % 8);
+    match source.below(12) {
+        0 | 1 => {
+            let (row, s) = (source.below(m), source.below(m));
+            table[row * bytes_for(m) + s / 8] ^= 1 << (s % 8);
+        }
+        2 => table = changed_pair(m, &table, 1 + source.below(m - 1), source.below(m)),
+        _ => {}
     }
     table
 }
@@ -150,24 +190,24 @@ pub fn operand(source: &mut Source, m: usize) -> Vec<u8> {
     pack(&bits)
 }
 
-/// Bytes of the right form, and now and then of a wrong length or with a bit at the width or above.
-pub fn perhaps_damaged(source: &mut Source, m: usize, row_bytes: usize, mut bytes: Vec<u8>) -> Vec<u8> {
-    if source.one_in(24) {
-        let n = bytes.len() + source.below(3);
-        bytes.resize(n.saturating_sub(1), 0);
-    } else if source.one_in(24) && row_bytes > 0 && m % 8 != 0 && !bytes.is_empty() {
+/// Bytes of a wrong length, or with a bit at the width or above where there is room for one. `row_bytes` is 0 where any bits may be set.
+pub fn damaged(source: &mut Source, m: usize, row_bytes: usize, mut bytes: Vec<u8>) -> Vec<u8> {
+    if row_bytes > 0 && m % 8 != 0 && source.one_in(2) {
         let rows = bytes.len() / row_bytes;
         let last = (source.below(rows) + 1) * row_bytes - 1;
-        bytes[last] |= 0x80;
+        bytes[last] |= 1 << (m % 8 + source.below(8 - m % 8));
+    } else {
+        let n = bytes.len();
+        bytes.resize([n - 1, n + 1, 0, 2 * n][source.below(4)], 0);
     }
     bytes
 }
 
-/// A card of some table, often damaged: cut off, longer, or with bytes changed.
-pub fn some_card(source: &mut Source, drawn: &[Vec<u8>], m: usize) -> Vec<u8> {
-    let table = table(source, drawn, m);
-    let mut bytes = card(&as_table(m, &table));
-    for _ in 0..source.below(3) {
+/// A card of some table, changed so many times: cut off, longer, or with bytes changed.
+pub fn some_card(source: &mut Source, accepted: &[Vec<u8>], m: usize, changes: usize) -> Vec<u8> {
+    let table = table(source, accepted, m);
+    let mut bytes = card(&Table::new(m, &table));
+    for _ in 0..changes {
         match source.below(5) {
             0 => bytes.truncate(source.below(bytes.len() + 1)),
             1 => {
@@ -193,22 +233,22 @@ pub fn some_card(source: &mut Source, drawn: &[Vec<u8>], m: usize) -> Vec<u8> {
     bytes
 }
 
-fn as_table(m: usize, table: &[u8]) -> Table {
-    judge(m, table, &[], &[]).unwrap()
-}
-
-/// The table of another normal basis of the field that a table gives: its ones are about half of all. The basis is that of
-/// a random operand whose turns are independent.
-pub fn dense(source: &mut Source, m: usize, table: &[u8]) -> Vec<u8> {
-    let t = as_table(m, table);
+/// The table of a normal basis: that of a random element whose squares, and theirs, are independent.
+fn table_of_basis(source: &mut Source, m: usize, square: impl Fn(&Bits) -> Bits, product: impl Fn(&Bits, &Bits) -> Bits) -> Vec<u8> {
     loop {
         let element = source.bits(m);
-        let turns: Vec<Bits> = (0..m).map(|i| turned(&element, i)).collect();
-        if let Some(solve) = Solver::new(&turns) {
-            let rows: Vec<Bits> = (0..m).map(|d| solve.coordinates(&t.product(&turns[0], &turns[d]))).collect();
+        let basis: Vec<Bits> = std::iter::successors(Some(element), |x| Some(square(x))).take(m).collect();
+        if let Some(solve) = Solver::new(&basis) {
+            let rows: Vec<Bits> = basis.iter().map(|x| solve.coordinates(&product(&basis[0], x))).collect();
             return packed(&rows);
         }
     }
+}
+
+/// The table of another normal basis of the field that a table gives: its ones are about half of all.
+pub fn dense(source: &mut Source, m: usize, table: &[u8]) -> Vec<u8> {
+    let t = Table::new(m, table);
+    table_of_basis(source, m, |a| turned(a, 1), |a, b| t.product_by_places(a, b))
 }
 
 /// Coordinates with respect to a basis, by elimination: each pivot row with the basis elements that it is the sum of.

@@ -7,10 +7,12 @@
 //! - `card`: reading and writing cards, and the report of a card
 //! - `inputs`: inputs for the comparison, from one seed
 //! - `proved`: the calls of the proved library, linked from target/staticlib/libnb.a
+//! - `calls`: calls with their arguments, good and damaged, and the independent answer to each
 //! - `stack`: how much stack a call takes
 //! - `same`: the Rattle source without its contracts, compiled as Rust, for the benchmark
 
 pub mod bits;
+pub mod calls;
 pub mod card;
 pub mod field;
 pub mod gates;
@@ -21,7 +23,7 @@ pub mod same;
 pub mod stack;
 
 /// A fault of document 01: its number and the values returned beside it.
-#[derive(Clone, Copy, Debug, PartialEq, Eq)]
+#[derive(Clone, Copy, Debug, PartialEq, Eq, Hash)]
 pub struct Fault {
     pub number: u32,
     pub first: usize,
@@ -29,6 +31,9 @@ pub struct Fault {
 }
 
 pub type Answer<T> = Result<T, Fault>;
+
+/// The two values that come with success, as the C interface has them: 0 where a call returns fewer.
+pub type Pair = (usize, usize);
 
 pub fn fault<T>(number: u32) -> Answer<T> {
     fault_with(number, 0, 0)

@@ -1,6 +1,6 @@
 //! The calls of the proved library, as include/nb.h declares them, with slices for pointers and lengths.
 
-use crate::{Answer, Fault};
+use crate::{Answer, Fault, Pair};
 
 mod raw {
     extern "C" {
@@ -43,7 +43,7 @@ mod raw {
 }
 
 /// number + 2^8 · first + 2^36 · second.
-fn unpacked(answer: u64) -> Answer<(usize, usize)> {
+fn unpacked(answer: u64) -> Answer<Pair> {
     let (number, first, second) = (answer % 256, (answer >> 8) % (1 << 28), answer >> 36);
     match number {
         0 => Ok((first as usize, second as usize)),
@@ -52,10 +52,10 @@ fn unpacked(answer: u64) -> Answer<(usize, usize)> {
 }
 
 /// Each call with a slice for a pointer and a length, and in `packed` with its one number as it comes. A slice's pointer is never
-/// null, and a `&mut` slice overlaps nothing.
+/// null, and a `&mut` slice overlaps nothing. `Call` is a call with its arguments, those that it writes among them.
 macro_rules! calls {
     ($($public:ident = $raw:ident($($p:ident: $kind:tt),*);)*) => {
-        $(pub fn $public($($p: calls!(@type $kind)),*) -> Answer<(usize, usize)> {
+        $(pub fn $public($($p: calls!(@type $kind)),*) -> Answer<Pair> {
             unpacked(packed::$public($($p),*))
         })*
 
@@ -67,12 +67,40 @@ macro_rules! calls {
                 calls!(@call $raw [] $($p $kind)*)
             })*
         }
+
+        #[allow(non_camel_case_types)]
+        #[derive(Clone, Debug, PartialEq, Eq, Hash)]
+        pub enum Call {
+            $($public { $($p: calls!(@owned $kind)),* },)*
+        }
+
+        impl Call {
+            pub fn name(&self) -> &'static str {
+                match self {
+                    $(Call::$public { .. } => stringify!($public),)*
+                }
+            }
+
+            /// The answer of the proved library.
+            pub fn proved(&mut self) -> Answer<Pair> {
+                match self {
+                    $(Call::$public { $($p),* } => $public($(calls!(@lent $kind $p)),*),)*
+                }
+            }
+        }
     };
     (@type num) => { usize };
     (@type bytes) => { &[u8] };
     (@type words) => { &[u32] };
     (@type out) => { &mut [u8] };
     (@type outwords) => { &mut [u32] };
+    (@owned num) => { usize };
+    (@owned bytes) => { Vec<u8> };
+    (@owned words) => { Vec<u32> };
+    (@owned out) => { Vec<u8> };
+    (@owned outwords) => { Vec<u32> };
+    (@lent num $p:ident) => { *$p };
+    (@lent $kind:tt $p:ident) => { $p };
     (@call $raw:ident [$($done:expr,)*]) => { unsafe { raw::$raw($($done,)*) } };
     (@call $raw:ident [$($done:expr,)*] $p:ident num $($rest:tt)*) => { calls!(@call $raw [$($done,)* $p as u64,] $($rest)*) };
     (@call $raw:ident [$($done:expr,)*] $p:ident bytes $($rest:tt)*) => { calls!(@call $raw [$($done,)* $p.as_ptr(), $p.len(),] $($rest)*) };

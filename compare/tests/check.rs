@@ -1,7 +1,7 @@
 //! The check beside the independent version where its quick way and its search meet: every small table that passes 4 and 5, and
 //! tables whose first difference comes late.
 
-use compare::inputs::{all_symmetric, changed_pair, drawn_at, symmetric, Source};
+use compare::inputs::{accepted, all_symmetric, changed_pair, symmetric, Source, METERS};
 use compare::{field, proved, Answer, Fault};
 
 /// The check of both, which must agree; 6 comes with i = 0.
@@ -30,9 +30,9 @@ fn every_small_table() {
 #[test]
 fn changed_tables() {
     let mut source = Source::new(14);
-    for m in [9, 14, 23, 29, 33] {
-        let drawn = drawn_at(m);
-        for d in 1..=m / 2 {
+    for m in [9, 14, 23, 29, 33].into_iter().chain(METERS) {
+        let drawn = accepted(m);
+        for d in (1..=m / 2).step_by(1 + m / 50) {
             let s = source.below(m);
             assert!(checked(m, &changed_pair(m, &drawn, d, s)).is_err(), "width {m}, row {d}");
         }

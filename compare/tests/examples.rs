@@ -4,6 +4,7 @@ use compare::bits::{added, pack, turned, unpack, Bits};
 use compare::field::{check, inverse, judge, ones, product, product_reduced};
 use compare::gates::{counts, run, write, Method};
 use compare::gaussian::{draw, is_type, rows, type_of, Ieee1363};
+use compare::inputs::METERS;
 use compare::{bits, card, Fault};
 
 const CARRIED: [&[u8]; 4] = [
@@ -70,7 +71,7 @@ fn checks() {
 
 #[test]
 fn limits() {
-    for (m, passes) in [(1, false), (2, true), (255, true), (256, false)] {
+    for (m, passes) in [(1, false), (2, true), (571, true), (572, false)] {
         let a = vec![0; bits::bytes_for(m)];
         assert_eq!(bits::trace(m, &a).is_ok(), passes);
     }
@@ -100,7 +101,7 @@ fn drawn_tables() {
         draw(m, &mut table).unwrap();
         assert_eq!(table, carried(m));
     }
-    for m in 2..=40 {
+    for m in (2..=40).chain(METERS) {
         if m % 8 == 0 {
             assert!((1..40).all(|t| !is_type(m, t)));
             continue;
@@ -110,9 +111,11 @@ fn drawn_tables() {
         assert_eq!(draw(m, &mut table), Ok(t));
         let by_rule = judge(m, &table, &[], &[]).unwrap();
         let by_standard = Ieee1363::new(m, t);
-        for seed in 0..20u64 {
+        for seed in 0..if m <= 40 { 20 } else { 2 } {
             let (a, b) = (sample(m, seed), sample(m, seed + 1000));
-            assert_eq!(by_rule.product(&a, &b), by_standard.product(&a, &b), "width {m}");
+            let product = by_rule.product(&a, &b);
+            assert_eq!(product, by_standard.product(&a, &b), "width {m}");
+            assert_eq!(product, by_rule.product_by_places(&a, &b), "width {m}");
         }
     }
 }
@@ -173,9 +176,6 @@ fn published_points() {
     for line in text.lines().filter(|l| !l.starts_with('#')) {
         let fields: Vec<_> = line.split('|').map(str::trim).collect();
         let m: usize = fields[1].parse().unwrap();
-        if m > bits::MAX_WIDTH {
-            continue;
-        }
         let t: usize = fields[2].parse().unwrap();
         let constant = |digits: &str| match digits {
             "0" => vec![false; m],
@@ -193,5 +193,5 @@ fn published_points() {
         assert_eq!(unpack(m, &pack(&x)), x);
         seen += 1;
     }
-    assert_eq!(seen, 3);
+    assert_eq!(seen, 6);
 }

@@ -1,16 +1,17 @@
 //! The most stack that each call takes, over widths, tables and operands of every kind, beside the bounds that include/nb.h states.
 
-use compare::bits::bytes_for;
-use compare::inputs::{changed_pair, dense, drawable, drawn_at, operand, symmetric, table, Source};
+use compare::bits::{bytes_for, MAX_WIDTH};
+use compare::inputs::{accepted, changed_pair, dense, operand, symmetric, table, Source, METERS};
 use compare::proved::packed as nb;
 use compare::stack::taken;
 use std::collections::BTreeMap;
 use std::hint::black_box;
 
-const WIDTHS: [usize; 9] = [2, 3, 8, 64, 65, 128, 163, 233, 255];
+/// 477 has the greatest type, 46.
+const WIDTHS: [usize; 14] = [2, 3, 8, 64, 65, 163, 233, 255, 256, 257, 283, 409, 477, 571];
 
 /// Words of the longest list that is written here; for a longer one the room is too short, which is 11.
-const WORDS: usize = 1 << 23;
+const WORDS: usize = 1 << 24;
 
 /// The bound that the header states for each call: "Stack: BYTES" in the comment above it.
 fn bounds() -> BTreeMap<&'static str, usize> {
@@ -109,16 +110,15 @@ fn on_cards(most: &mut Most, m: usize, t: &[u8]) {
 }
 
 /// Tables that are accepted and such as each rule refuses, one of a wrong length and one with a bit at the width.
-fn tables(source: &mut Source, drawn: &[Vec<u8>], m: usize) -> Vec<Vec<u8>> {
-    let mut all = vec![vec![0; m * bytes_for(m)], vec![255; m * bytes_for(m)], vec![0; m], drawn_at(m)];
+fn tables(source: &mut Source, all_accepted: &[Vec<u8>], m: usize) -> Vec<Vec<u8>> {
+    let accepted = &all_accepted[m];
+    let mut all = vec![vec![0; m * bytes_for(m)], vec![255; m * bytes_for(m)], vec![0; m], accepted.clone()];
     all.extend((0..3).map(|_| symmetric(source, m)));
-    all.extend((0..3).map(|_| table(source, drawn, m)));
-    if drawable(m) {
-        all.push(changed_pair(m, &drawn_at(m), 1, 0));
-        all.push(changed_pair(m, &drawn_at(m), m / 2, 0));
-    }
-    if drawable(m) && m <= 65 {
-        all.push(dense(source, m, &drawn_at(m)));
+    all.extend((0..3).map(|_| table(source, all_accepted, m)));
+    all.push(changed_pair(m, accepted, 1, 0));
+    all.push(changed_pair(m, accepted, m / 2, 0));
+    if m <= 65 || METERS.contains(&m) {
+        all.push(dense(source, m, accepted));
     }
     all
 }
@@ -126,14 +126,14 @@ fn tables(source: &mut Source, drawn: &[Vec<u8>], m: usize) -> Vec<Vec<u8>> {
 #[test]
 fn most_stack() {
     let mut source = Source::new(15);
-    let drawn: Vec<_> = (0..=255).map(|m| if WIDTHS.contains(&m) { drawn_at(m) } else { vec![] }).collect();
+    let all_accepted: Vec<_> = (0..=MAX_WIDTH).map(|m| if WIDTHS.contains(&m) { accepted(m) } else { vec![] }).collect();
     let mut words = vec![0; WORDS];
     let mut most = Most(BTreeMap::new());
     for m in WIDTHS {
-        for t in tables(&mut source, &drawn, m) {
+        for t in tables(&mut source, &all_accepted, m) {
             let (a, b, mut x) = (operand(&mut source, m), operand(&mut source, m), vec![0; bytes_for(m)]);
             let (zeros, ones) = (vec![0; bytes_for(m)], vec![255; bytes_for(m)]);
-            for (width, a) in [(m, &a), (m, &zeros), (m, &ones), (m, &vec![]), (0, &a), (256, &a)] {
+            for (width, a) in [(m, &a), (m, &zeros), (m, &ones), (m, &vec![]), (0, &a), (MAX_WIDTH + 1, &a)] {
                 on_operands(&mut most, width, a, &b, &mut x);
                 on_tables(&mut most, width, &t, a, &b, &mut x);
             }

@@ -3,13 +3,15 @@
 //!     rt staticlib nb && cargo run --release --offline --manifest-path compare/Cargo.toml --bin bench
 //!
 //! Prints the lines of docs/benchmark.csv, in nanoseconds, the ratio proved / Rust last, and on standard error how long the product
-//! takes by definition. With the argument `growth` it prints how each cost grows from width 65 to 255 instead, with `calls` the times at
-//! 233, type 2, and those of the check over more tables, which compare/before-after reads. Every time is of a whole call, with every judgement in it; lent buffers are not cleared before a call.
+//! takes by definition. With the argument `growth` it prints how each cost grows from width 65 to 571 instead, with `calls` the times at
+//! 233, type 2, and at 571, type 10, and those of the check over more tables, which compare/before-after reads; an earlier library that
+//! doesn't take a width is not timed there. Every time is of a whole call, with every judgement in it; lent buffers are not cleared
+//! before a call.
 
 use compare::inputs::{changed_pair, dense, Source};
 use compare::proved::packed as proved;
 use compare::same::nb as same;
-use compare::{bits, card, field, gates, gaussian};
+use compare::{bits, card, field, gaussian};
 use std::hint::black_box;
 use std::time::Instant;
 
@@ -33,6 +35,9 @@ fn time(runs: u64, call: &mut impl FnMut()) -> f64 {
     (0..runs).for_each(|_| call());
     start.elapsed().as_nanos() as f64 / runs as f64
 }
+
+/// The widths whose drawn tables stand for all: what is timed by definition, and what compare/before-after shows of every call.
+const TYPED: [usize; 2] = [233, 571];
 
 /// How often each of two calls is timed in a pass, and how many passes there are over all of them; the least time counts.
 const TRIES: usize = 5;
@@ -86,6 +91,10 @@ impl Case {
         let t = gaussian::draw(m, &mut table).unwrap();
         Case::new(&format!("{m}, type {t}"), m, table)
     }
+
+    fn dense(m: usize) -> Case {
+        Case::new(&format!("{m}, dense"), m, dense(&mut Source::new(5), m, &Case::drawn(m).table))
+    }
 }
 
 /// Each call's name and its times, proved and Rust.
@@ -93,11 +102,14 @@ fn measure(case: &Case) -> Vec<(&'static str, f64, f64)> {
     let Case { m, table, a, b, c, .. } = case;
     let (m, width) = (*m, *m as u64);
     let mut result = vec![0; bits::bytes_for(m)];
-    let t = field::judge(m, table, &[], &[]).unwrap();
-    let list = gates::list(&t, gates::Method::Plain);
-    let mut words = vec![0u32; list.len() + 3 * m * m];
-    let mut wires = vec![0u8; 2 * m + list[1] as usize];
-    let written = card::card(&t);
+    use compare::proved::{counts_common, counts_plain, counts_reduced};
+    let [plain, reduced, common] = [counts_plain, counts_reduced, counts_common].map(|counts| {
+        let (ands, xors) = counts(m, table).unwrap();
+        ands + xors
+    });
+    let mut words = vec![0u32; 2 + 3 * plain.max(reduced).max(common) + m];
+    let mut wires = vec![0u8; 2 * m + plain];
+    let written = card::card(&field::Table::new(m, table));
     let mut room = vec![0u8; written.len()];
     let mut drawn = table.clone();
     let (mut result2, mut words2, mut wires2, mut room2, mut drawn2) =
@@ -125,7 +137,9 @@ fn measure(case: &Case) -> Vec<(&'static str, f64, f64)> {
     row!("reduced list", proved::list_reduced(m, table, &mut words), same::netlists::nb_list_reduced(width, table, &mut words2));
     row!("common list", proved::list_common(m, table, &mut words), same::netlists::nb_list_common(width, table, &mut words2));
     row!("counts", proved::counts_plain(m, table), same::netlists::nb_counts_plain(width, table));
-    row!("run of the plain list", proved::run(m, &list, a, b, &mut result, &mut wires), same::netlists::nb_run(width, &list, a, b, &mut result2, &mut wires2));
+    proved::list_plain(m, table, &mut words);
+    let list = &words[..2 + 3 * plain + m];
+    row!("run of the plain list", proved::run(m, list, a, b, &mut result, &mut wires), same::netlists::nb_run(width, list, a, b, &mut result2, &mut wires2));
     row!("draw", proved::draw(m, &mut drawn), same::drawing::nb_draw(width, &mut drawn2));
     row!("card write", proved::card_write(m, table, &mut room), same::cards::nb_card_write(width, table, &mut room2));
     row!("card read", proved::card_read(&written, &mut drawn), same::cards::nb_card_read(&written, &mut drawn2));
@@ -153,11 +167,18 @@ fn compared(cases: &[Case]) {
             println!("{name},{},{ours:.1},{theirs:.1},{:.2}", case.label.replace(", ", ","), ours / theirs);
         }
     }
-    let (case, ours) = (&cases[1], all[1][0].1);
-    let mut result = vec![0; bits::bytes_for(case.m)];
-    let mut by_definition = || { field::product(case.m, &case.table, &case.a, &case.b, &mut result).ok(); };
-    let theirs = (0..TRIES * PASSES).map(|_| time(1, &mut by_definition)).fold(f64::INFINITY, f64::min);
-    eprintln!("By definition (compare/src/field.rs), product at {}: {}; the proved call is {:.0} times as quick.", case.label, shown(theirs), theirs / ours);
+    for (case, rows) in cases.iter().zip(&all).filter(|(case, _)| TYPED.contains(&case.m) && case.label.contains("type")) {
+        let ours = rows[0].1;
+        let mut result = vec![0; bits::bytes_for(case.m)];
+        let mut by_definition = || { field::product(case.m, &case.table, &case.a, &case.b, &mut result).ok(); };
+        let theirs = (0..TRIES * PASSES).map(|_| time(1, &mut by_definition)).fold(f64::INFINITY, f64::min);
+        eprintln!("By definition (compare/src/field.rs), product at {}: {}; the proved call is {:.0} times as quick.", case.label, shown(theirs), theirs / ours);
+    }
+}
+
+/// Whether the linked library takes a width.
+fn takes(m: &usize) -> bool {
+    compare::proved::trace(*m, &vec![0; bits::bytes_for(*m)]).is_ok()
 }
 
 /// Of the tables that differ from an accepted one in coordinate 0 of one row, and in the row that rule 5 ties to it, the one whose
@@ -168,18 +189,24 @@ fn latest(m: usize, table: &[u8]) -> (Vec<u8>, usize) {
 }
 
 fn calls() {
-    for (name, ours, theirs) in measure(&Case::drawn(233)) {
-        println!("{name},{ours:.1},{theirs:.1}");
+    let [first, ..] = TYPED;
+    for m in TYPED.into_iter().filter(takes) {
+        let case = Case::drawn(m);
+        let at = if m == first { String::new() } else { format!(" at {}", case.label.replace(',', ";")) };
+        for (name, ours, theirs) in measure(&case) {
+            println!("{name}{at},{ours:.1},{theirs:.1}");
+        }
     }
     let mut checks = vec![];
-    for m in [65, 97, 130, 163, 194, 233, 255] {
+    for m in [65, 97, 130, 163, 194, 233, 255, 283, 409, 571].into_iter().filter(takes) {
         let Case { label, table, .. } = Case::drawn(m);
         let (late, j) = latest(m, &table);
         checks.push((label.clone(), m, table));
         checks.push((format!("{label}, refused with 6 at j = {j}"), m, late));
     }
-    for m in [163, 233, 255] {
-        checks.push((format!("{m}, dense"), m, dense(&mut Source::new(5), m, &Case::drawn(m).table)));
+    for m in [163, 233, 255, 571].into_iter().filter(takes) {
+        let Case { label, table, .. } = Case::dense(m);
+        checks.push((label, m, table));
     }
     for (label, m, table) in checks {
         let (ours, theirs) = times(|| { black_box(proved::check(m, &table)); }, || { black_box(same::tables::nb_check(m as u64, &table)); });
@@ -189,7 +216,7 @@ fn calls() {
 
 fn growth() {
     println!("width,call,nanoseconds");
-    let cases = [65, 81, 97, 113, 130, 146, 163, 178, 194, 210, 226, 233, 243, 255].map(Case::drawn);
+    let cases = [65, 81, 97, 113, 130, 146, 163, 178, 194, 210, 226, 233, 243, 255, 283, 309, 338, 371, 409, 443, 473, 509, 540, 571].map(Case::drawn);
     for (case, rows) in cases.iter().zip(least(&cases)) {
         for (name, ours, _) in rows {
             println!("{},{name},{ours:.1}", case.m);
@@ -203,8 +230,6 @@ fn main() {
         Some("calls") => return calls(),
         _ => (),
     }
-    let of = |m: usize, table: &[u8]| Case::new(&format!("{m}, dense"), m, dense(&mut Source::new(5), m, table));
-    let (at_233, at_255) = (Case::drawn(233), Case::drawn(255));
-    let (dense_233, dense_255) = (of(233, &at_233.table), of(255, &at_255.table));
-    compared(&[Case::drawn(163), at_233, at_255, dense_233, dense_255]);
+    let drawn = [163, 233, 255, 283, 409, 571].map(Case::drawn);
+    compared(&drawn.into_iter().chain([233, 571].map(Case::dense)).collect::<Vec<_>>());
 }

@@ -26,7 +26,7 @@ fn main() {
         let fields: Vec<_> = line.split(',').collect();
         calls.entry(fields[1]).or_default().push((fields[0].parse().unwrap(), fields[2].parse().unwrap()));
     }
-    let (low, high) = (60.0, 270.0);
+    let (low, high) = (60.0, 600.0);
     let (least, most) = (1e0, 1e9);
     let x = |m: f64| LEFT + part(m, low, high) * WIDTH;
     let y = |ns: f64| TOP + (1.0 - part(ns, least, most)) * HEIGHT;
@@ -35,7 +35,7 @@ fn main() {
     for (ns, name) in [(1e0, "1 ns"), (1e3, "1 µs"), (1e6, "1 ms"), (1e9, "1 s")] {
         println!("<path d=\"M{LEFT} {0:.1}H{1}\" stroke=\"#ccc\"/><text x=\"{2}\" y=\"{3:.1}\" text-anchor=\"end\">{name}</text>", y(ns), LEFT + WIDTH, LEFT - 6.0, y(ns) + 4.0);
     }
-    for m in [64.0, 96.0, 128.0, 163.0, 192.0, 233.0, 255.0] {
+    for m in [64.0, 96.0, 128.0, 163.0, 192.0, 233.0, 283.0, 340.0, 409.0, 480.0, 571.0] {
         println!("<path d=\"M{0:.1} {TOP}V{1}\" stroke=\"#eee\"/><text x=\"{0:.1}\" y=\"{2}\" text-anchor=\"middle\">{m}</text>", x(m), TOP + HEIGHT, TOP + HEIGHT + 18.0);
     }
     println!("<text x=\"{}\" y=\"{}\" text-anchor=\"middle\">width</text>", LEFT + WIDTH / 2.0, TOP + HEIGHT + 38.0);
