@@ -17,11 +17,11 @@ use Rattle.limbs.specs.Limbs.{carriedLimbs, reach, limbCoord, packLimbs, raised
 use Rattle.limbs.proofs.LimbCoords.{limb-pack, length-limbs}
 use Rattle.limbs.proofs.RaisedLimbs.{raised-in, raised-out}
 use Rattle.limbs.proofs.Reach.{reach-most, reach-room}
-use Rattle.scatter.specs.Cells.{twiceLimbs, twiceReach, slots, HasSlots, hasSlots, cell, spreadSum, seenFrom}
+use Rattle.scatter.specs.Cells.{twiceLimbs, twiceReach, slots, HasSlots, hasSlots, cell, slotSum, totalAt, spreadSum, seenFrom}
 use Rattle.scatter.proofs.CellLaws.{seen-at, slots-there}
 use Rattle.scatter.proofs.MoveLaws.{raised-sum}
 use Rattle.scatter.proofs.SpreadLaws.{twice-least, spread-row}
-use Rattle.product.specs.Inner.{IsWidth, operandOf, made, slotSum, totalAt, gatheredAt}
+use Rattle.product.specs.Inner.{IsWidth, operandOf, made, gatheredAt}
 use Rattle.product.proofs.SoundOperands.{sum-parts}
 
 -- the sum of all slots, below the width and from there on, as an operand
@@ -59,19 +59,19 @@ raised-turned m s i f clear h l =
 
 -- n rows that add e d at the slots of their ones
 module _ (m n : ℕ) (line : ℕ → List ℕ) (e : ℕ → ℕ → ℕ) (g : List ℕ)
-    (h : (r i : ℕ) → r < slots → i < 64 * twiceLimbs → cell g r i ≡ sum n (λ d. slotSum m (line d) (e d) r i) % 2) where
+    (h : (r i : ℕ) → r < slots → i < 64 * twiceLimbs → cell g r i ≡ sum n (λ d. slotSum (reach m) (line d) (e d) r i) % 2) where
   -- slot by slot, row by row
-  slot-raised : (r c : ℕ) → r < slots → c < 64 * twiceLimbs → raised r (cell g r) c ≡ sum n (λ d. raised r (slotSum m (line d) (e d) r) c) % 2
+  slot-raised : (r c : ℕ) → r < slots → c < 64 * twiceLimbs → raised r (cell g r) c ≡ sum n (λ d. raised r (slotSum (reach m) (line d) (e d) r) c) % 2
   slot-raised r c k l = elim (decLt c r) [
-    | yes q ↦ raised-out r (cell g r) c q ∙ sym (ap (λ z. z % 2) (sym (raised-sum r n (λ d. slotSum m (line d) (e d) r) c) ∙ raised-out r (λ j. sum n (λ d. slotSum m (line d) (e d) r j)) c q))
+    | yes q ↦ raised-out r (cell g r) c q ∙ sym (ap (λ z. z % 2) (sym (raised-sum r n (λ d. slotSum (reach m) (line d) (e d) r) c) ∙ raised-out r (λ j. sum n (λ d. slotSum (reach m) (line d) (e d) r j)) c q))
     | no q ↦ raised-in r (cell g r) c (omega arith) ∙ h r (c - r) k (omega arith)
-        ∙ ap (λ z. z % 2) (sym (raised-in r (λ j. sum n (λ d. slotSum m (line d) (e d) r j)) c (omega arith)) ∙ raised-sum r n (λ d. slotSum m (line d) (e d) r) c)
+        ∙ ap (λ z. z % 2) (sym (raised-in r (λ j. sum n (λ d. slotSum (reach m) (line d) (e d) r j)) c (omega arith)) ∙ raised-sum r n (λ d. slotSum (reach m) (line d) (e d) r) c)
   ]
 
   total-rows : (c : ℕ) → c < 64 * twiceLimbs → totalAt g c % 2 ≡ sum n (λ d. sum (64 * reach m) (λ s. coord (line d) s * raised s (e d) c)) % 2
   total-rows c l =
       ap (λ z. z % 2) (sum-ext slots _ _ (λ r k. slot-raised r c k l)) ∙ sum-mod slots _
-      ∙ ap (λ z. z % 2) (sum-swap slots n (λ r d. raised r (slotSum m (line d) (e d) r) c) ∙ sum-ext n _ _ (λ d k. spread-row (reach m) (line d) (e d) c))
+      ∙ ap (λ z. z % 2) (sum-swap slots n (λ r d. raised r (slotSum (reach m) (line d) (e d) r) c) ∙ sum-ext n _ _ (λ d k. spread-row (reach m) (line d) (e d) c))
 
   -- gathered, they are n rows that spread e d
   pub gathered-rows : m < 64 * carriedLimbs → ((d s : ℕ) → d < n → m ≤ s → coord (line d) s ≡ 0) → ((d j : ℕ) → m ≤ j → e d j ≡ 0)

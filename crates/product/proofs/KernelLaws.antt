@@ -21,9 +21,9 @@ use Rattle.limbs.proofs.LimbCoords.{limb-lt, limb-pack, length-limbs, limb-zero
 use Rattle.limbs.proofs.RaisedLimbs.{raised-in, raised-out}
 use Rattle.limbs.proofs.Reach.{reach-most, reach-room}
 use Rattle.table.specs.Rows.{Shaped}
-use Rattle.product.specs.Inner.{Clear, metLimbs, slotSum, rowsTo, gatheredAt, Sound, isOneWay}
+use Rattle.product.specs.Inner.{Clear, metLimbs, rowsTo, gatheredAt, Sound, isOneWay}
 use Rattle.scatter.specs.declared.methods.Method.{Method}
-use Rattle.scatter.specs.Cells.{twiceLimbs, slots, cell, Added, limbsAdd, metAt}
+use Rattle.scatter.specs.Cells.{twiceLimbs, slots, cell, Added, slotSum, limbsAdd, metAt}
 use Rattle.scatter.proofs.CellLaws.{added-none, added-more, long-enough}
 use Rattle.product.proofs.GatherLaws.{gathered-rows}
 
@@ -91,7 +91,7 @@ module _ (how : Method) (m : ℕ) (t x y : List ℕ) (from : ℕ) where
 
     pub rows-more : (k : ℕ) {once : Bool} {xx yy e u v w : List ℕ} → from + k < m → Twice m x xx → Twice m y yy → once ≡ isOneWay how m (from + k) → e ≡ packLimbs carriedLimbs (metAt once m (from + k) x y xx yy)
         → Added (rowsTo how m t x y from k) u v → Added (limbsAdd m e (row m t (from + k)) (reach m)) v w → Added (rowsTo how m t x y from (k + 1)) u w
-    rows-more k {e = e} h ex ey o q p r = added-more (rowsTo how m t x y from k) _ _ p r (λ s i b l. parts (rowsTo how m t x y from k s i) (limbsAdd m e line (reach m) s i) (slotSum m line f s i) (same s i) ∙ ap (λ z. z % 2) (more s i))
+    rows-more k {e = e} h ex ey o q p r = added-more (rowsTo how m t x y from k) _ _ p r (λ s i b l. parts (rowsTo how m t x y from k s i) (limbsAdd m e line (reach m) s i) (slotSum (reach m) line f s i) (same s i) ∙ ap (λ z. z % 2) (more s i))
       where
         f : ℕ → ℕ
         f = metLimbs how m (from + k) x y
@@ -105,14 +105,14 @@ module _ (how : Method) (m : ℕ) (t x y : List ℕ) (from : ℕ) where
           | no c ↦ raised-in n (below (64 * reach m) (limbCoord e)) i (omega arith) ∙ met-kept (from + k) (i - n) h ex ey o q ∙ sym (ap (λ z. z % 2) (raised-in n f i (omega arith)))
         ]
 
-        same : (s i : ℕ) → limbsAdd m e line (reach m) s i % 2 ≡ slotSum m line f s i % 2
+        same : (s i : ℕ) → limbsAdd m e line (reach m) s i % 2 ≡ slotSum (reach m) line f s i % 2
         same s i = sym (sum-mod (reach m) _) ∙ ap (λ z. z % 2) (sum-ext (reach m) _ _ (λ n c. ap (λ z. coord line (n * 64 + s) * z % 2) (moved (n * 64) i)
             ∙ bit-times (coord line (n * 64 + s)) (raised (n * 64) f i) (coord-lt line (n * 64 + s)))) ∙ sum-mod (reach m) _
 
         parts : (a b c : ℕ) → b % 2 ≡ c % 2 → (a + b) % 2 ≡ (a + c) % 2
         parts a b c z = omega arith
 
-        more : (s i : ℕ) → rowsTo how m t x y from k s i + slotSum m line f s i ≡ rowsTo how m t x y from (k + 1) s i
+        more : (s i : ℕ) → rowsTo how m t x y from k s i + slotSum (reach m) line f s i ≡ rowsTo how m t x y from (k + 1) s i
         more s i = unfold sum in rw add-one
 
   -- from empty slots on

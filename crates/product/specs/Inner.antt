@@ -6,13 +6,12 @@ use mathlib.Core.List.{List, [], _∷_, _++_}
 use Prim.Native.Nat.{ℕ, _+_, _-_, _*_, _/_, _%_, _^_, _<_, _≤_}
 use lib.Dec.{eqb}
 use Rattle.gf2.specs.Sums.{sum}
-use Rattle.gf2.specs.Coordinates.{coord}
 use Rattle.gf2.specs.Operands.{maxWidth, carriedBytes, IsOperand, minus, choose, fromCoords, turned}
 use Rattle.gf2.specs.Tables.{row}
 use Rattle.gf2.specs.Products.{product, reduced}
 use Rattle.gf2.specs.Check.{Symmetric}
 use Rattle.gf2.specs.Inverse.{Chain, adding, digits, inverse, productsMade}
-use Rattle.limbs.specs.Limbs.{reach, limbCoord, raised}
+use Rattle.limbs.specs.Limbs.{reach, limbCoord}
 use Rattle.operand.specs.declared.Operand.{Operand}
 use Rattle.operand.specs.declared.OperandAnswer.{OperandAnswer}
 use Rattle.judging.specs.declared.fault.Fault.the-variants.{None}
@@ -20,7 +19,7 @@ use Rattle.judging.specs.Causes.{Cause, faultOf}
 use Rattle.judging.specs.FaultTable.{notTable, highBit, highBitInRow, isZero, ruleCauses}
 use Rattle.operand.specs.Calls.{answer, written}
 use Rattle.table.specs.Rows.{Shaped}
-use Rattle.scatter.specs.Cells.{slots, HasSlots, cell}
+use Rattle.scatter.specs.Cells.{HasSlots, slotSum, totalAt}
 use Rattle.product.specs.declared.InverseAnswer.{InverseAnswer}
 use Rattle.scatter.specs.declared.methods.Method.{Method}
 use Rattle.scatter.specs.declared.methods.Method.the-variants.{Plain, Reduced}
@@ -100,22 +99,15 @@ isOneWay Reduced m d = eqb (2 * d) m
 unfoldable pub metLimbs : Method → ℕ → ℕ → List ℕ → List ℕ → ℕ → ℕ
 metLimbs k m d x y i = limbCoord x i * limbCoord y ((i + d) % m) + choose (isOneWay k m d) 0 (limbCoord y i * limbCoord x ((i + d) % m))
 
--- what a row of bytes adds to coordinate i at slot r, limb after limb: f from limb q on, where the row has coordinate q * 64 + r
-abbrev pub slotSum : ℕ → List ℕ → (ℕ → ℕ) → ℕ → ℕ → ℕ
-slotSum m line f r i = sum (reach m) (λ q. coord line (q * 64 + r) * raised (q * 64) f i)
-
 -- what n rows from row `from` on add to coordinate i at slot r
 abbrev pub rowsTo : Method → ℕ → List ℕ → List ℕ → List ℕ → ℕ → ℕ → ℕ → ℕ → ℕ
-rowsTo k m table x y from n r i = sum n (λ d. slotSum m (row m table (from + d)) (metLimbs k m (from + d) x y) r i)
+rowsTo k m table x y from n r i = sum n (λ d. slotSum (reach m) (row m table (from + d)) (metLimbs k m (from + d) x y) r i)
 
 -- "bits at m and above are 0"
 abbrev pub Clear : ℕ → List ℕ → Type 0
 Clear m x = (i : ℕ) → m ≤ i → limbCoord x i ≡ 0
 
 -- coordinate i of the sum of all slots, slot r moved up r, and of what comes round at m
-abbrev pub totalAt : List ℕ → ℕ → ℕ
-totalAt g i = sum slots (λ r. raised r (cell g r) i)
-
 abbrev pub gatheredAt : ℕ → List ℕ → ℕ → ℕ
 gatheredAt m g i = totalAt g i + totalAt g (m + i)
 

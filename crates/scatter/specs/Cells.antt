@@ -43,9 +43,13 @@ pub record Added (f : ℕ → ℕ → ℕ) (g h : List ℕ) : Type 0 where
 abbrev pub keptFrom : ℕ → ℕ → List ℕ → ℕ → ℕ
 keptFrom m q e = raised (q * 64) (below (64 * reach m) (limbCoord e))
 
--- what the first n limbs of a row add to coordinate i at slot r: e from limb q on, where the row has coordinate q * 64 + r
+-- what the first n limbs of a row add to coordinate i at slot r: f from limb q on, where the row has coordinate q * 64 + r
+abbrev pub slotSum : ℕ → List ℕ → (ℕ → ℕ) → ℕ → ℕ → ℕ
+slotSum n row f r i = sum n (λ q. coord row (q * 64 + r) * raised (q * 64) f i)
+
+-- the same of limbs
 abbrev pub limbsAdd : ℕ → List ℕ → List ℕ → ℕ → ℕ → ℕ → ℕ
-limbsAdd m e row n r i = sum n (λ q. coord row (q * 64 + r) * keptFrom m q e i)
+limbsAdd m e row n = slotSum n row (below (64 * reach m) (limbCoord e))
 
 -- whether a list of limbs has all slots
 abbrev pub hasSlots : List ℕ → Bool
@@ -59,9 +63,13 @@ rowAdds m g e row r i = choose (hasSlots g) (limbsAdd m e row (reach m) r i) 0
 unfoldable pub plusRow : ℕ → List ℕ → List ℕ → List ℕ → List ℕ
 plusRow m g e row = packLimbs (length g) (λ c. limbCoord g c + rowAdds m g e row (c / (64 * twiceLimbs)) (c % (64 * twiceLimbs)))
 
--- coordinate i of the sum of all slots, slot r moved up r, in the limbs that the width is worked on in
+-- coordinate i of the sum of all slots, slot r moved up r
+abbrev pub totalAt : List ℕ → ℕ → ℕ
+totalAt g i = sum slots (λ r. raised r (cell g r) i)
+
+-- the same in the limbs that the width is worked on in, where g has all slots
 abbrev pub spreadSum : ℕ → List ℕ → ℕ → ℕ
-spreadSum m g = below (64 * twiceReach m) (λ i. choose (hasSlots g) (sum slots (λ r. raised r (cell g r) i)) 0)
+spreadSum m g = below (64 * twiceReach m) (λ i. choose (hasSlots g) (totalAt g i) 0)
 
 -- whether limbs go on for an operand's from a coordinate on, and one more
 abbrev pub isLong : ℕ → List ℕ → Bool

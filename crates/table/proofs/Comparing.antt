@@ -30,7 +30,7 @@ use Rattle.limbs.proofs.LimbLoops.{ored, ored-at, ored-of}
 use Rattle.turns.specs.Moves.{rolled}
 use Rattle.turns.proofs.Turns.{rolled-limbs}
 use Rattle.table.specs.Rows.{Shaped}
-use Rattle.table.specs.Inner.{carriedRow, Clear, mirrors}
+use Rattle.table.specs.Inner.{carriedRow, ClearLimbs, mirrors}
 
 -- where limbs w of two lists differ
 abbrev pub apart : List ℕ → List ℕ → ℕ → ℕ
@@ -141,7 +141,7 @@ module _ {m : ℕ} {t : List ℕ} (s : Shaped m t) (d : ℕ) (l : 1 ≤ d) (h : 
   coords : limbCoord x ≡ coord (turned m d (carriedRow m t (m - d)))
   coords = limbs-same _ e (other .size)
 
-  pub mirror-clear : Clear m x
+  pub mirror-clear : ClearLimbs m x
   mirror-clear = record { fits = λ w. rw e (limbs-lt carriedLimbs _ w); bits = λ i q. ap (λ f. f i) coords ∙ other .clear i q }
 
   pub agrees-mirrors : every m (λ i. eqb (limbCoord x i) (coord (row m t d) i)) ≡ mirrors m t d

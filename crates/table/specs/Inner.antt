@@ -28,7 +28,7 @@ abbrev pub Below : ℕ → (ℕ → ℕ) → List ℕ → Type 0
 Below m f x = (s : ℕ) → s < m → limbCoord x s ≡ f s % 2
 
 -- "bits at m and above are 0", of limbs of 64 bits
-pub record Clear (m : ℕ) (x : List ℕ) : Type 0 where
+pub record ClearLimbs (m : ℕ) (x : List ℕ) : Type 0 where
   pub fits : (w : ℕ) → getD x w 0 < 2 ^ 64
   pub bits : (i : ℕ) → m ≤ i → limbCoord x i ≡ 0
 

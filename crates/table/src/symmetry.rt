@@ -11,7 +11,7 @@ ghost use Rattle.limbs.specs.Limbs.{limbCoord};
 ghost use Rattle.judging.specs.Causes.{faultOf};
 ghost use Rattle.judging.specs.FaultTable.{rowZeroWrong, rowPairCauses};
 ghost use Rattle.table.specs.Rows.{Shaped};
-ghost use Rattle.table.specs.Inner.{Clear, mirrors};
+ghost use Rattle.table.specs.Inner.{ClearLimbs, mirrors};
 ghost use Rattle.table.specs.Judgements.{symmetryFault};
 use crate::rows;
 use judging::Fault;
@@ -54,7 +54,7 @@ fn judge_row_zero(width: usize, table: &[u8]) -> Fault
 
 // Whether limbs have the coordinates of an operand of W bytes. Each limb is read by itself, as it was stored.
 fn agrees(x: &[u64; limbs::LIMBS], s: &[u8], m: usize) -> bool
-    requires { ⌜ (m ≤ maxWidth) × (IsOperand (bytesFor m) m (now s)) × Clear m (now x) ⌝ }
+    requires { ⌜ (m ≤ maxWidth) × (IsOperand (bytesFor m) m (now s)) × ClearLimbs m (now x) ⌝ }
     ensures { λ r. ⌜ r ≡ every m (λ i. eqb (limbCoord (now (x .entry)) i) (coord (now (s .entry)) i)) ⌝ }
 {
     let mut w = 0;
