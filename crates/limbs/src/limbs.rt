@@ -201,16 +201,16 @@ pub fn xored_limbs(x: [u64; LIMBS], y: [u64; LIMBS]) -> [u64; LIMBS]
     out
 }
 
-// Limb w, 0 past the last.
-pub fn limb_at(x: [u64; LIMBS], w: usize) -> u64
-    ensures { λ r. ⌜ r ≡ getD x w 0 ⌝ }
+// Limb w, 0 past the last. Of a slice: an array handed by value would be copied at each call.
+pub fn limb_at(x: &[u64], w: usize) -> u64
+    ensures { λ r. ⌜ r ≡ getD (now (x .entry)) w 0 ⌝ }
 {
-    if w < LIMBS { x[w] } else { 0 }
+    if w < x.len() { x[w] } else { 0 }
 }
 
 // Limb w of the limbs moved n up, 0 before the first.
-pub fn limb_below(x: [u64; LIMBS], w: usize, n: usize) -> u64
-    ensures { λ r. ⌜ r ≡ raised n (λ v. getD x v 0) w ⌝ }
+pub fn limb_below(x: &[u64], w: usize, n: usize) -> u64
+    ensures { λ r. ⌜ r ≡ raised n (λ v. getD (now (x .entry)) v 0) w ⌝ }
 {
     if n <= w { limb_at(x, w - n) } else { 0 }
 }

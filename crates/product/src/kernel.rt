@@ -33,8 +33,8 @@ pub(crate) fn add_rows(
     requires { ⌜ Shaped width (now table) × Clear width x × Clear width y × (from + count ≤ width) × HasSlots (now g) ⌝ }
     ensures { λ _. ⌜ Added (rowsTo method width (now (table .entry)) x y from count) (now (g .entry)) (now (g .exit)) ⌝ }
 {
-    let xx = scatter::twice(x, width);
-    let yy = scatter::twice(y, width);
+    let xx = scatter::twice(&x, width);
+    let yy = scatter::twice(&y, width);
     let mut k = 0;
     while k < count {
         let d = from + k;

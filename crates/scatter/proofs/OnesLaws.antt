@@ -57,6 +57,9 @@ module _ (m : ℕ) (e row : List ℕ) where
       (ap (λ y. limbsAdd m e row q r i + y * keptFrom m q e i) (ap (λ y. y / 2 ^ r % 2) z ∙ limb-bit q r h b)
       ∙ sym (ap (λ n. limbsAdd m e row n r i) (add-one q) ∙ sum-next _ q)))
 
+  pub row-all : {p q : ℕ} {a b : List ℕ} → p ≡ q → Added (limbsAdd m e row p) a b → Added (limbsAdd m e row q) a b
+  row-all z p = rw (← z) p
+
   -- a row's sum, by an equation and back
   pub row-equal : {q : ℕ} {a b : List ℕ} → q ≡ reach m → Limbs b → HasSlots a → Added (limbsAdd m e row q) a b → b ≡ plusRow m a e row
   unfolding plusRow

@@ -39,6 +39,10 @@ pub record Added (f : ℕ → ℕ → ℕ) (g h : List ℕ) : Type 0 where
   pub size : length h ≡ length g
   pub coords : (r i : ℕ) → r < slots → i < 64 * twiceLimbs → cell h r i ≡ (cell g r i + f r i) % 2
 
+-- where f was added to get g, h is the same with more added, f' in all
+abbrev pub AddedAfter : (ℕ → ℕ → ℕ) → (ℕ → ℕ → ℕ) → List ℕ → List ℕ → Type 0
+AddedAfter f f' g h = (a : List ℕ) → Added f a g → Added f' a h
+
 -- coordinates in the limbs that a width is worked on in, from limb q on
 abbrev pub keptFrom : ℕ → ℕ → List ℕ → ℕ → ℕ
 keptFrom m q e = raised (q * 64) (below (64 * reach m) (limbCoord e))

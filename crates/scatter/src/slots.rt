@@ -5,8 +5,8 @@ ghost use Prim.Native.Nat.{_+_, _*_, _/_, _%_, _^_, _<_};
 ghost use lib.Dec.{eqb};
 ghost use lib.ListN.{length, replicate};
 ghost use Rattle.gf2.specs.Operands.{choose, below};
-ghost use Rattle.limbs.specs.Limbs.{carriedLimbs, limbCoord, packLimbs, raised};
-ghost use Rattle.scatter.specs.Cells.{slots, twiceLimbs, twiceReach, twiceEndsAt, HasSlots, cell, Added, keptFrom, plusRow, spreadSum};
+ghost use Rattle.limbs.specs.Limbs.{carriedLimbs, few, limbCoord, packLimbs, raised};
+ghost use Rattle.scatter.specs.Cells.{slots, twiceLimbs, twiceReach, twiceEndsAt, HasSlots, cell, Added, AddedAfter, keptFrom, limbsAdd, plusRow, spreadSum};
 use crate::ROOM;
 use crate::SLOTS;
 use crate::TWICE;
@@ -52,6 +52,33 @@ fn add_limb(g: &mut [u64], m: usize, e: [u64; limbs::LIMBS], limb: u64, q: usize
     }
 }
 
+// e is added at the slot of each one of the first few limbs of a row of bytes.
+// A loop for the few and one for the others: each is short enough to be unrolled when it is compiled, which one loop for all is not.
+fn add_few(g: &mut [u64], m: usize, e: [u64; limbs::LIMBS], row: &[u8])
+    requires { ⌜ HasSlots (now g) ⌝ }
+    ensures { λ _. ⌜ Added (limbsAdd m e (now (row .entry)) few) (now (g .entry)) (now (g .exit)) ⌝ }
+{
+    let mut q = 0;
+    while q < limbs::FEW {
+        let limb = limbs::carried_limb(row, q);
+        add_limb(g, m, e, limb, q);
+        q += 1;
+    }
+}
+
+// The same of the other limbs: with the first few, where these are added already, all.
+fn add_others(g: &mut [u64], m: usize, e: [u64; limbs::LIMBS], row: &[u8])
+    requires { ⌜ HasSlots (now g) ⌝ }
+    ensures { λ _. ⌜ AddedAfter (limbsAdd m e (now (row .entry)) few) (limbsAdd m e (now (row .entry)) carriedLimbs) (now (g .entry)) (now (g .exit)) ⌝ }
+{
+    let mut q = limbs::FEW;
+    while q < limbs::LIMBS {
+        let limb = limbs::carried_limb(row, q);
+        add_limb(g, m, e, limb, q);
+        q += 1;
+    }
+}
+
 // e is added at the slot of each one of a row of bytes, where all slots are there.
 pub fn add_row(g: &mut [u64], m: usize, e: [u64; limbs::LIMBS], row: &[u8])
     ensures { λ _. ⌜ now (g .exit) ≡ plusRow m (now (g .entry)) e (now (row .entry)) ⌝ }
@@ -59,15 +86,11 @@ pub fn add_row(g: &mut [u64], m: usize, e: [u64; limbs::LIMBS], row: &[u8])
     if g.len() != ROOM {
         return;
     }
-    let mut q = 0;
-    while q < limbs::LIMBS {
-        if limbs::ends_at(q, m) {
-            return;
-        }
-        let limb = limbs::carried_limb(row, q);
-        add_limb(g, m, e, limb, q);
-        q += 1;
+    add_few(g, m, e, row);
+    if m < 64 * limbs::FEW {
+        return;
     }
+    add_others(g, m, e, row);
 }
 
 // Whether a loop over the limbs of a product ends before limb w: where w is twice the number of the few, and the width needs no more.

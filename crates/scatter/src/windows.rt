@@ -22,8 +22,8 @@ pub fn masked(x: [u64; limbs::LIMBS], y: [u64; limbs::LIMBS]) -> [u64; limbs::LI
 }
 
 // The operand and the same again m places up: below 2m, coordinate i is that of i modulo m.
-pub fn twice(x: [u64; limbs::LIMBS], m: usize) -> [u64; TWICE]
-    ensures { λ r. ⌜ r ≡ packLimbs twiceLimbs (λ i. limbCoord x i + raised m (limbCoord x) i) ⌝ }
+pub fn twice(x: &[u64], m: usize) -> [u64; TWICE]
+    ensures { λ r. ⌜ r ≡ packLimbs twiceLimbs (λ i. limbCoord (now (x .entry)) i + raised m (limbCoord (now (x .entry))) i) ⌝ }
 {
     let mut out = [0u64; TWICE];
     let mut w = 0;

@@ -21,7 +21,7 @@ fn limb_within(x: [u64; limbs::LIMBS], w: usize, m: usize) -> u64
     if limbs::is_past(w, m) {
         0
     } else {
-        limbs::limb_at(x, w)
+        limbs::limb_at(&x, w)
     }
 }
 
@@ -54,7 +54,7 @@ fn raise_if(c: bool, x: [u64; limbs::LIMBS], n: usize, m: usize) -> [u64; limbs:
             return out;
         }
         let limb = x[w];
-        out[w] = pick(c, limbs::limb_below(x, w, n), limb);
+        out[w] = pick(c, limbs::limb_below(&x, w, n), limb);
         w += 1;
     }
     out
@@ -109,7 +109,7 @@ pub(crate) fn lower(x: [u64; limbs::LIMBS], k: usize, m: usize) -> [u64; limbs::
             return out;
         }
         let limb = moved[w];
-        out[w] = limbs::lower_pair(limb, limbs::limb_at(moved, w + 1), k);
+        out[w] = limbs::lower_pair(limb, limbs::limb_at(&moved, w + 1), k);
         w += 1;
     }
     out
@@ -128,7 +128,7 @@ pub(crate) fn raise(x: [u64; limbs::LIMBS], k: usize, m: usize) -> [u64; limbs::
             return out;
         }
         let limb = moved[w];
-        out[w] = limbs::raise_pair(limbs::limb_below(moved, w, 1), limb, k);
+        out[w] = limbs::raise_pair(limbs::limb_below(&moved, w, 1), limb, k);
         w += 1;
     }
     out

@@ -10,4 +10,4 @@ pub limb-at-spec : {M : Type 1} → statement M
 limb-at-spec =
     tie.close
     (tie.spec (λ c. search needs) (λ c. search needs) (λ c. search needs)
-    (λ c. sym (List·getD-eq-default (c .before .args .t1) 0 {n = c .before .args .w} (omega arith))))
+    (λ c. sym (List·getD-eq-default (c .before .args .x .now) 0 {n = c .before .args .w} (omega arith))))

@@ -11,5 +11,5 @@ pub limb-below-spec : {M : Type 1} → statement M
 limb-below-spec =
     tie.close
     (tie.spec (λ c κs. search needs)
-    (λ c. let a = c .before .before .args in c .limb-at .ensures ∙ sym (raised-in (a .n) (λ v. getD (a .x) v 0) (a .w) (c .before .if1 .taken)))
-    (λ c. let a = c .before .args in sym (raised-out (a .n) (λ v. getD (a .x) v 0) (a .w) (omega arith))))
+    (λ c. let a = c .before .before .before .args in c .limb-at .ensures ∙ sym (raised-in (a .n) (λ v. getD (a .x .now) v 0) (a .w) (c .before .if1 .taken)))
+    (λ c. let a = c .before .before .args in sym (raised-out (a .n) (λ v. getD (a .x .now) v 0) (a .w) (omega arith))))

@@ -22,5 +22,5 @@ twice-spec =
     (λ c κs. search needs) (λ c κs. search needs) (λ c κs. search needs) (λ c. search needs) (λ c. search needs) (λ c. search needs) (λ c. search needs)
     (λ c. let s = c .before .before .before in
     filled-more (s .before .before .loop .inv) (omega arith) (omega arith) (ap₂ bitXor (c .before .limb-at .ensures)
-    (c .raise-pair .ensures ∙ ap₂ (pairFrom (64 - s .before .before .before .args .m % 64)) (s .limb-below .ensures) (c .before .before .limb-below2 .ensures))))
-    (λ c. filled-all (c .before .loop .inv) (omega arith) (omega arith) ∙ twice-limbs twiceLimbs _ _ (limbs-fit (c .before .before .args .x) (λ k. search needs))))
+    (c .raise-pair .ensures ∙ ap₂ (pairFrom (64 - s .before .before .before .before .args .m % 64)) (s .limb-below .ensures) (c .before .before .limb-below2 .ensures))))
+    (λ c. filled-all (c .before .loop .inv) (omega arith) (omega arith) ∙ twice-limbs twiceLimbs _ _ (λ k. c .before .before .shared-slice-known .given k .fits)))

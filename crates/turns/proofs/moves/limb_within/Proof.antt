@@ -9,6 +9,6 @@ use Rattle.turns.proofs.moves.limb_within.Tie as tie
 pub limb-within-spec : {M : Type 1} → statement M
 limb-within-spec =
     tie.close
-    (tie.spec (λ c κs. search needs) (λ c κs. search needs)
+    (tie.spec (λ c κs. search needs) (λ c. search needs) (λ c κs. search needs)
     (λ c. sym (below-out _ _ _ (leb-true _ _ (sym (c .before .is-past .ensures) ∙ c .if1 .taken))))
-    (λ c. c .limb-at .ensures ∙ sym (below-in _ _ _ (leb-false _ _ (sym (c .before .before .is-past .ensures) ∙ c .before .if1 .left)))))
+    (λ c. c .limb-at .ensures ∙ sym (below-in _ _ _ (leb-false _ _ (sym (c .before .before .before .is-past .ensures) ∙ c .before .before .if1 .left)))))

@@ -32,6 +32,6 @@ pub lower-spec : {M : Type 1} → statement M
 lower-spec =
     tie.close
     (tie.spec Inv-loop μ-loop (λ c κs. search needs) (λ c. filled-none _ _ _) (λ c κs. search needs) returns (λ c. search needs) (λ c. search needs)
-    (λ c. search needs) (λ c κs. search needs) (λ c κs. search needs) (λ c. search needs) (λ c. search needs) (λ c. search needs) (λ c. search needs)
-    (λ c. let t = c .before .before in limbs-more _ (t .before .before .before .loop .inv) (omega arith) (t .before .ends-at .ensures) (t .if1 .left) (c .lower-pair .ensures ∙ rw (c .before .limb-at .ensures)))
+    (λ c. search needs) (λ c. search needs) (λ c κs. search needs) (λ c κs. search needs) (λ c. search needs) (λ c. search needs) (λ c. search needs) (λ c. search needs)
+    (λ c. let t = c .before .before .before in limbs-more _ (t .before .before .before .loop .inv) (omega arith) (t .before .ends-at .ensures) (t .if1 .left) (c .lower-pair .ensures ∙ rw (c .before .limb-at .ensures)))
     returns-2)

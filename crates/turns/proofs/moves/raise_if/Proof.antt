@@ -19,6 +19,6 @@ raise-if-spec =
     tie.close
     (tie.spec Inv-loop (λ c n m x out₀ w₀ out w. carriedLimbs - w) (λ c. filled-none _ _ _) (λ c κs. search needs)
     (λ c. limbs-ended _ (c .before .before .before .loop .inv) (c .before .ends-at .ensures) (c .if1 .taken)) (λ c. search needs) (λ c. search needs)
-    (λ c κs. search needs) (λ c κs. search needs) (λ c. search needs) (λ c. search needs) (λ c. search needs) (λ c. search needs)
-    (λ c. let t = c .before .before in limbs-more _ (t .before .before .before .loop .inv) (omega arith) (t .before .ends-at .ensures) (t .if1 .left) (c .pick .ensures ∙ rw (c .before .limb-below .ensures)))
+    (λ c. search needs) (λ c κs. search needs) (λ c κs. search needs) (λ c. search needs) (λ c. search needs) (λ c. search needs) (λ c. search needs)
+    (λ c. let t = c .before .before .before in limbs-more _ (t .before .before .before .loop .inv) (omega arith) (t .before .ends-at .ensures) (t .if1 .left) (c .pick .ensures ∙ rw (c .before .limb-below .ensures)))
     (λ c. limbs-all (c .before .before .args .m) (c .before .loop .inv) (omega arith)))
