@@ -39,5 +39,8 @@ pub const BYTES: usize = 72;
 // Its limbs.
 pub const LIMBS: usize = BYTES / 8;
 
+// A limb of ones.
+pub const FULL: u64 = 18446744073709551615;
+
 // The limbs of the narrower operands: where a width needs no more, the kernels end after these.
 pub const FEW: usize = 4;

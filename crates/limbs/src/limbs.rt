@@ -12,6 +12,7 @@ ghost use Rattle.gf2.specs.Operands.{carriedBytes, below};
 ghost use Rattle.limbs.specs.Limbs.{carriedLimbs, reach, endsAt, limbCoord, packLimbs, limbsOf, raised, LimbPut, Cleared, Stored};
 use crate::BYTES;
 use crate::FEW;
+use crate::FULL;
 use crate::LIMBS;
 use crate::slices::eight;
 
@@ -159,7 +160,7 @@ fn mask(w: usize, m: usize) -> u64
     }
     let n = m - w * 64;
     if 64 <= n {
-        return 18446744073709551615;
+        return FULL;
     }
     (1u64 << n) - 1
 }
@@ -215,8 +216,8 @@ pub fn limb_below(x: &[u64], w: usize, n: usize) -> u64
     if n <= w { limb_at(x, w - n) } else { 0 }
 }
 
-// Two limbs in a row, from bit s modulo 64 of the first on. A shift by 64 is made of two; `|` and the shifts are compiled to
-// one shift of two limbs.
+// Two limbs in a row, from bit s modulo 64 of the first on. A shift by 64 is made of two. By `^`: with `|` all would be compiled to one
+// shift of two limbs, which is slow and can't be made for several at once.
 pub fn lower_pair(low: u64, high: u64, s: usize) -> u64
     ensures { λ r. ⌜ r ≡ value 64 (λ j. limbCoord (low ∷ high ∷ []) (s % 64 + j)) ⌝ }
 {

@@ -7,7 +7,7 @@ ghost use lib.Dec.{eqb, leb};
 ghost use lib.ListN.{length, getD};
 ghost use Rattle.gf2.specs.Coordinates.{coord, value};
 ghost use Rattle.gf2.specs.Operands.{carriedBytes, choose, below};
-ghost use Rattle.limbs.specs.Limbs.{carriedLimbs, few as fewLimbs, reach, limbCoord, packLimbs, limbsOf};
+ghost use Rattle.limbs.specs.Limbs.{carriedLimbs, few, reach, limbCoord, packLimbs, limbsOf};
 use crate::BYTES;
 use crate::FEW;
 use crate::LIMBS;
@@ -51,7 +51,7 @@ pub(crate) fn eight(s: &[u8], b: usize) -> u64
 }
 
 // The first eight bytes of a slice as one limb, 0 past its end: for slices of less than eight.
-fn few(s: &[u8]) -> u64
+fn few_bytes(s: &[u8]) -> u64
     ensures { λ r. ⌜ r ≡ value 64 (λ j. coord (now (s .entry)) (0 * 8 + j)) ⌝ }
 {
     let mut limb: u64 = 0;
@@ -77,7 +77,7 @@ fn slice_limb(s: &[u8], w: usize) -> u64
         return 0;
     }
     if n < 8 {
-        return few(s);
+        return few_bytes(s);
     }
     eight(s, n - 8) >> (8 * (b + 8 - n))
 }
@@ -104,7 +104,7 @@ pub fn carried_limb(s: &[u8], w: usize) -> u64
 
 // Whether a loop over the limbs of n bytes ends before limb w: where w is the number of the few, and the bytes have room in them.
 fn is_after(w: usize, n: usize) -> bool
-    ensures { λ r. ⌜ r ≡ (eqb w fewLimbs && leb n (8 * fewLimbs)) ⌝ }
+    ensures { λ r. ⌜ r ≡ (eqb w few && leb n (8 * few)) ⌝ }
 {
     if w != FEW {
         return false;

@@ -179,13 +179,17 @@ zero-out m h room p = limbs-out (λ i. 0) h room p (limbs-zero carriedLimbs (bel
   | no q ↦ ap (λ x. x % 2) (below-out m (λ j. 0) i (omega arith))
 ]))
 
-full-ones : (i : ℕ) → i < 64 * carriedLimbs → limbCoord (replicate carriedLimbs 18446744073709551615) i ≡ 1
+-- a limb of ones
+abbrev full : ℕ
+full = 18446744073709551615
+
+full-ones : (i : ℕ) → i < 64 * carriedLimbs → limbCoord (replicate carriedLimbs full) i ≡ 1
 unfolding limbCoord
-full-ones i h = rw (getD-replicate {A = ℕ} carriedLimbs (i / 64) 18446744073709551615 0 (omega arith))
-    (eqb-true _ _ (every-at 64 (λ j. eqb (18446744073709551615 / 2 ^ j % 2) 1) (unfold every in refl) (i % 64) (omega arith)))
+full-ones i h = rw (getD-replicate {A = ℕ} carriedLimbs (i / 64) full 0 (omega arith))
+    (eqb-true _ _ (every-at 64 (λ j. eqb (full / 2 ^ j % 2) 1) (unfold every in refl) (i % 64) (omega arith)))
 
 pub one-out : (m : ℕ) {n : ℕ} {l new : List ℕ} → m ≤ maxWidth → n ≡ bytesFor m → new ≡ pack n (limbCoord l)
-    → l ≡ packLimbs carriedLimbs (below m (limbCoord (replicate carriedLimbs 18446744073709551615))) → new ≡ ones (bytesFor m) m
+    → l ≡ packLimbs carriedLimbs (below m (limbCoord (replicate carriedLimbs full))) → new ≡ ones (bytesFor m) m
 unfolding ones
 one-out m h room p q = limbs-out (λ i. 1) h room p (q ∙ limbs-below carriedLimbs m _ (λ i. 1) (λ i k. ap (λ x. x % 2) (full-ones i (omega arith))))
 

@@ -24,7 +24,7 @@ pub fn one_into(width: usize, result: &mut [u8]) -> Fault
 {
     let fault = judging::judge_size(width, result.len());
     if is_none(fault) {
-        let full = [18446744073709551615u64; limbs::LIMBS];
+        let full = [limbs::FULL; limbs::LIMBS];
         limbs::store(limbs::low_limbs(full, width), result);
     }
     fault

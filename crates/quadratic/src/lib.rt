@@ -46,7 +46,7 @@ fn prefix_sums(x: u64, carry: u64) -> u64
     let d = c ^ (c << 8);
     let e = d ^ (d << 16);
     let f = e ^ (e << 32);
-    f ^ (carry * 18446744073709551615)
+    f ^ (carry * limbs::FULL)
 }
 
 // The sum of the coordinates of a slice, modulo 2.

@@ -14,7 +14,7 @@ slice-limb-spec =
     (tie.spec (λ c. search needs) (λ c κs. search needs)
     (λ c. c .eight .ensures ∙ limb-from _ (c .before .before .before .args .w) _ refl)
     (λ c. limb-none (c .before .before .before .args .s .now) _ (omega arith)) (λ c κs. search needs)
-    (λ c. c .few .ensures ∙ limb-from _ (c .before .before .before .before .before .args .w) 0 (omega arith)) (λ c κs. search needs) (λ c. search needs)
+    (λ c. c .few-bytes .ensures ∙ limb-from _ (c .before .before .before .before .before .args .w) 0 (omega arith)) (λ c κs. search needs) (λ c. search needs)
     (λ c. search needs) (λ c. search needs) (λ c. search needs)
     (λ c. let s = c .before .before .before .before .before in
     ap (λ v. v / 2 ^ (8 * (s .args .w * 8 + 8 - length (s .args .s .now)))) (c .eight2 .ensures)
