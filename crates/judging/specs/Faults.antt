@@ -2,11 +2,13 @@
 use mathlib.Core.Bool.{Bool}
 use lib.Dec.{eqb}
 use Rattle.judging.specs.declared.fault.Fault.{Fault}
-use Rattle.judging.specs.declared.fault.Fault.the-variants.{None, Width, Length, HighBit, RowZero, RowPair, Triple, RowSum, Call, Card}
+use Rattle.judging.specs.declared.fault.Fault.the-variants.{None, Width, Length, HighBit, RowZero, RowPair, Triple, RowSum, Call, Card, List}
 use Rattle.judging.specs.declared.fault.CallFault.{CallFault}
 use Rattle.judging.specs.declared.fault.CallFault.the-variants.{TurnCount, InverseOfZero, TraceOne, OutputShort, NoType, BadGate}
 use Rattle.judging.specs.declared.fault.CardFault.{CardFault}
 use Rattle.judging.specs.declared.fault.CardFault.the-variants.{Ends, Number, Form, Place, Tail}
+use Rattle.judging.specs.declared.fault.ListFault.{ListFault}
+use Rattle.judging.specs.declared.fault.ListFault.the-variants.{Size, Form as ListForm, Output}
 use Rattle.judging.specs.declared.fault.FaultNumber.{FaultNumber}
 
 -- the columns Number and Returned of document 01's table of faults, of what a call finds wrong beside widths, lengths, bits and rules
@@ -26,6 +28,12 @@ cardNumberOf Form = (14, 0, 0)
 cardNumberOf Place = (15, 0, 0)
 cardNumberOf Tail = (16, 0, 0)
 
+-- document 02's numbers for a gate list that is handed in to be accepted, and what is returned beside them
+abbrev pub listNumberOf : ListFault → FaultNumber
+listNumberOf Size = (19, 0, 0)
+listNumberOf ListForm = (20, 0, 0)
+listNumberOf (Output r) = (21, r, 0)
+
 -- the columns Number and Returned of document 01's table of faults: the number, 0 where there is no fault, and what is returned beside it
 abbrev pub numberOf : Fault → FaultNumber
 numberOf None = (0, 0, 0)
@@ -38,6 +46,7 @@ numberOf (Triple i j) = (6, i, j)
 numberOf RowSum = (7, 0, 0)
 numberOf (Call c) = callNumberOf c
 numberOf (Card c) = cardNumberOf c
+numberOf (List c) = listNumberOf c
 
 -- no number is given
 unfoldable pub isNone : Fault → Bool

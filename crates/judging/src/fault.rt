@@ -1,6 +1,6 @@
 // The faults of document 01: the enum, and each one's number and values.
 ghost use mathlib.Core.Path.{_≡_};
-ghost use Rattle.judging.specs.Faults.{callNumberOf, cardNumberOf, numberOf, isNone};
+ghost use Rattle.judging.specs.Faults.{callNumberOf, cardNumberOf, listNumberOf, numberOf, isNone};
 
 // What a call finds wrong beside widths, lengths, bits and the rules of a table.
 pub enum CallFault {
@@ -21,8 +21,15 @@ pub enum CardFault {
     Tail,
 }
 
-// A variant for each number of document 01's table and one for none. Those of a call and of a card are enums of their own: a match needs
-// no proof of its own as long as an enum has at most a dozen variants.
+// What is found in a gate list that is handed in to be accepted, the coordinate of a wrong output with it.
+pub enum ListFault {
+    Size,
+    Form,
+    Output(usize),
+}
+
+// A variant for each number of document 01's table and one for none. Those of a call, of a card and of a list to be accepted are enums of
+// their own: a match needs no proof of its own as long as an enum has at most a dozen variants.
 pub enum Fault {
     None,
     Width,
@@ -34,6 +41,7 @@ pub enum Fault {
     RowSum,
     Call(CallFault),
     Card(CardFault),
+    List(ListFault),
 }
 
 // A fault's number, 0 for none, and the two values returned beside it.
@@ -64,6 +72,16 @@ fn card_number(c: CardFault) -> FaultNumber
     }
 }
 
+fn list_number(c: ListFault) -> FaultNumber
+    ensures { λ r. ⌜ (r .0 ≡ listNumberOf c .0) × (r .1 ≡ listNumberOf c .1) × (r .2 ≡ listNumberOf c .2) ⌝ }
+{
+    match c {
+        ListFault::Size => FaultNumber(19, 0, 0),
+        ListFault::Form => FaultNumber(20, 0, 0),
+        ListFault::Output(r) => FaultNumber(21, r, 0),
+    }
+}
+
 pub fn number(f: Fault) -> FaultNumber
     ensures { λ r. ⌜ (r .0 ≡ numberOf f .0) × (r .1 ≡ numberOf f .1) × (r .2 ≡ numberOf f .2) ⌝ }
 {
@@ -78,6 +96,7 @@ pub fn number(f: Fault) -> FaultNumber
         Fault::RowSum => FaultNumber(7, 0, 0),
         Fault::Call(c) => call_number(c),
         Fault::Card(c) => card_number(c),
+        Fault::List(c) => list_number(c),
     }
 }
 

@@ -6,6 +6,7 @@ pub use fault::CallFault;
 pub use fault::CardFault;
 pub use fault::Fault;
 pub use fault::FaultNumber;
+pub use fault::ListFault;
 pub use fault::is_none;
 pub use fault::number;
 pub use parts::judge_both_high;

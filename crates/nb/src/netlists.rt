@@ -1,9 +1,10 @@
-// The calls on gate lists: counting, writing, running.
+// The calls on gate lists: counting, writing, running, accepting.
 ghost use mathlib.Core.Path.{_≡_};
 ghost use Rattle.netlist.specs.Lists.{plain, reduced, common};
 ghost use Rattle.netlist.specs.Calls.{countsPlainCall, countsReducedCall, countsCommonCall, listCall, listBuffer};
 ghost use Rattle.nb.specs.Packing.{Packs};
 ghost use Rattle.runner.specs.Causes.{runBytesCauses};
+ghost use Rattle.equivalence.specs.Calls.{acceptCall};
 ghost use Rattle.nb.specs.Calls.{faultAnswer, countsAnswer, ranResult, ranWires};
 use crate::packing;
 use netlist::CountsAnswer;
@@ -82,4 +83,12 @@ pub extern "C" fn nb_run(
         0,
         0,
     )
+}
+
+// Not a call of document 01 but of document 02, (b): whether a list from elsewhere forms the table's product.
+#[no_mangle]
+pub extern "C" fn nb_accept(width: u64, table: &[u8], list: &[u32]) -> u64
+    ensures { λ r. ⌜ r ≡ countsAnswer (acceptCall width (now (table .entry)) (now (list .entry))) ⌝ }
+{
+    both(equivalence::accept(width as usize, table, list))
 }

@@ -1,5 +1,5 @@
 -- Laws of gates whose wires are earlier: a run gives each wire its gate's value, and a fold gives the sum of its terms modulo 2.
--- Pieces: lengths and elements of lists made piece by piece. Wires: bounds. Runs: what a run keeps and sets.
+-- Pieces: lengths and elements of lists made piece by piece, and what holds of each element. Wires: bounds. Runs: what a run keeps and sets.
 -- Folds: the sum on the last running wire. Counts: gates by kind.
 use mathlib.Core.Path.{_≡_, refl, sym, ap, ap₂, _∙_}
 use mathlib.Core.Bool.{Bool, true, false, true≢false}
@@ -62,10 +62,48 @@ module _ {A : Type 0} (m : ℕ) (test : ℕ → ℕ → Bool) (f : ℕ → ℕ �
   unfolding before
   length-before i j = ap₂ _+_ (length-rows i) (length-cells i j)
 
+-- what holds of each element
+unfoldable pub All : {A : Type 0} → (A → Type 0) → List A → Type 0
+All P [] = Unit {0}
+All P (x ∷ xs) = P x × All P xs
+
+module _ {A : Type 0} (P : A → Type 0) where
+  pub all-append : (l k : List A) → All P l → All P k → All P (l ++ k)
+  unfolding All
+  all-append [] k b c = c
+  all-append (x ∷ xs) k b c = (b .0, all-append xs k (b .1) c)
+
+  pub all-one : (x : A) → P x → All P (x ∷ [])
+  unfolding All
+  all-one x h = (h, tt)
+
+  pub all-cons : (x : A) (xs : List A) → P x → All P xs → All P (x ∷ xs)
+  unfolding All
+  all-cons x xs h b = (h, b)
+
+  pub all-each : (k : ℕ) (f : ℕ → List A) → ((i : ℕ) → i < k → All P (f i)) → All P (each k f)
+  unfolding each
+  all-each zero f h = unfold All in tt
+  all-each (suc k) f h = all-append (each k f) (f k) (all-each k f (λ i l. h i (omega arith))) (h k (omega arith))
+
+  all-only : (b : Bool) (x : A) → (b ≡ true → P x) → All P (only b x)
+  unfolding All only
+  all-only true x h = (h refl, tt)
+  all-only false x h = tt
+
+  pub all-pairs : (m : ℕ) (test : ℕ → ℕ → Bool) (f : ℕ → ℕ → A) → ((i j : ℕ) → i < m → j < m → test i j ≡ true → P (f i j)) → All P (pairs m test f)
+  unfolding pairs
+  all-pairs m test f h = all-each m _ (λ i li. all-each m _ (λ j lj. all-only (test i j) (f i j) (h i j li lj)))
+
+  pub all-at : (d : A) (l : List A) (r : ℕ) → All P l → r < length l → P (getD l r d)
+  unfolding All
+  all-at d [] r b h = absurd (omega arith)
+  all-at d (x ∷ xs) zero b h = b .0
+  all-at d (x ∷ xs) (suc r) b h = all-at d xs r (b .1) (omega arith)
+
 -- Wires
-unfoldable pub Below : ℕ → List ℕ → Type 0
-Below n [] = Unit {0}
-Below n (x ∷ xs) = (x < n) × Below n xs
+abbrev pub Below : ℕ → List ℕ → Type 0
+Below n = All (λ x. x < n)
 
 abbrev pub GateBelow : ℕ → Gate → Type 0
 GateBelow n (AND l r) = (l < n) × (r < n)
@@ -82,42 +120,12 @@ OnWires v n [] = Unit {0}
 OnWires v n (g ∷ gs) = (v n ≡ gateValue v g) × OnWires v (suc n) gs
 
 pub below-mono : (n k : ℕ) (l : List ℕ) → n ≤ k → Below n l → Below k l
-unfolding Below
+unfolding All
 below-mono n k [] h b = tt
 below-mono n k (x ∷ xs) h b = (omega arith, below-mono n k xs h (b .1))
 
-pub below-append : (n : ℕ) (l k : List ℕ) → Below n l → Below n k → Below n (l ++ k)
-unfolding Below
-below-append n [] k b c = c
-below-append n (x ∷ xs) k b c = (b .0, below-append n xs k (b .1) c)
-
-pub below-one : (n x : ℕ) → x < n → Below n (x ∷ [])
-unfolding Below
-below-one n x h = (h, tt)
-
-pub below-cons : (n x : ℕ) (xs : List ℕ) → x < n → Below n xs → Below n (x ∷ xs)
-unfolding Below
-below-cons n x xs h b = (h, b)
-
-pub below-each : (n k : ℕ) (f : ℕ → List ℕ) → ((i : ℕ) → i < k → Below n (f i)) → Below n (each k f)
-unfolding each
-below-each n zero f h = unfold Below in tt
-below-each n (suc k) f h = below-append n (each k f) (f k) (below-each n k f (λ i l. h i (omega arith))) (h k (omega arith))
-
-below-only : (n : ℕ) (b : Bool) (x : ℕ) → (b ≡ true → x < n) → Below n (only b x)
-unfolding Below only
-below-only n true x h = (h refl, tt)
-below-only n false x h = tt
-
-pub below-pairs : (n m : ℕ) (test : ℕ → ℕ → Bool) (f : ℕ → ℕ → ℕ) → ((i j : ℕ) → i < m → j < m → test i j ≡ true → f i j < n) → Below n (pairs m test f)
-unfolding pairs
-below-pairs n m test f h = below-each n m _ (λ i li. below-each n m _ (λ j lj. below-only n (test i j) (f i j) (h i j li lj)))
-
 pub below-at : (n : ℕ) (l : List ℕ) (r : ℕ) → Below n l → r < length l → getD l r 0 < n
-unfolding Below
-below-at n [] r b h = absurd (omega arith)
-below-at n (x ∷ xs) zero b h = b .0
-below-at n (x ∷ xs) (suc r) b h = below-at n xs r (b .1) (omega arith)
+below-at n = all-at (λ x. x < n) 0
 
 gate-mono : (n k : ℕ) (g : Gate) → n ≤ k → GateBelow n g → GateBelow k g
 gate-mono n k (AND l r) h b = (omega arith, omega arith)
@@ -144,12 +152,12 @@ unfolding pairs
 earlier-pairs n m test f h = earlier-each n m _ (λ i li. earlier-each _ m _ (λ j lj. earlier-only n _ (test i j) (f i j) (omega arith) (h i j li lj)))
 
 earlier-onto : (n w : ℕ) (ts : List ℕ) → w < n → Below n ts → Earlier n (onto n w ts)
-unfolding Earlier Below onto
+unfolding Earlier All onto
 earlier-onto n w [] h b = tt
 earlier-onto n w (t ∷ ts) h b = ((h, b .0), earlier-onto (suc n) n ts (omega arith) (below-mono n (suc n) ts (omega arith) (b .1)))
 
 pub earlier-fold : (n : ℕ) (l : List ℕ) → Below n l → Earlier n (fold n l)
-unfolding Below
+unfolding All
 earlier-fold n [] b = unfold Earlier in tt
 earlier-fold n (w ∷ ts) b = earlier-onto n w ts (b .0) (b .1)
 
@@ -159,7 +167,7 @@ last-below n w [] h = omega arith
 last-below n w (t ∷ ts) h = omega (arith, last-below (suc n) n ts (omega arith))
 
 pub end-below : (n : ℕ) (l : List ℕ) → 0 < n → Below n l → end n l < n + (length l - 1)
-unfolding Below
+unfolding All
 end-below n [] h b = omega arith
 end-below n (w ∷ ts) h b = omega (arith, last-below n w ts (b .0))
 

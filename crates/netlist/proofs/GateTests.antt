@@ -15,6 +15,13 @@ use Rattle.netlist.specs.Running.{kindAt, leftAt, rightAt, gateCount, ou
 use Rattle.netlist.specs.Judgements.{IsBadGate, HasBadGate, isGate, isOutput}
 
 module _ (m : ℕ) (list : List ℕ) where
+  -- the wires of a gate that has passed
+  pub gate-wires : (k : ℕ) → isGate m list k ≡ true → (leftAt list k < 2 * m + k) × (rightAt list k < 2 * m + k)
+  unfolding isGate
+  gate-wires k e =
+      let x = and-both (ltb (leftAt list k) (2 * m + k)) _ (and-both (leb (kindAt list k) 1) _ e .1) in
+      (ltb-true _ _ (x .0), ltb-true _ _ (x .1))
+
   good-gate : (k : ℕ) → isGate m list k ≡ true → ¬ IsBadGate m list k
   unfolding isGate
   good-gate k e w =

@@ -7,6 +7,9 @@
 -- Theorems: the proofs of the statements in specs/Statements.antt.
 -- StoreLaws: stores of several elements in a row.
 -- GateTests: the test of a list's gates and output wires decides.
+-- SetTests: those of a list that is to be accepted decide.
+-- SetLaws: the products that are summed in each wire.
+-- FormLaws: the gates of the three lists are of the form that a list to be accepted has.
 -- TableLaws: the bits of a table in its bytes, and bounds.
 -- CallLaws: the numbers of all gates, and the answers of the calls.
 pub mod FoldLaws
@@ -17,5 +20,8 @@ pub mod SizeLaws
 pub mod Theorems
 pub mod StoreLaws
 pub mod GateTests
+pub mod SetTests
+pub mod SetLaws
+pub mod FormLaws
 pub mod TableLaws
 pub mod CallLaws

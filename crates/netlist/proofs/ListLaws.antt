@@ -29,7 +29,7 @@ use Rattle.netlist.specs.Lists.{pairs, before, andWire, ands, fold, fold
 use Rattle.netlist.specs.Running.{valueOn, wires}
 use Rattle.netlist.specs.Counts.{plainXors, reducedXors, commonXors}
 use Rattle.gf2.proofs.Counts.{num, num-and, num-bit, sum-const, sum-triangle, sum-below, sum-mono}
-use Rattle.netlist.proofs.FoldLaws.{Below, Earlier, OnWires, AllAnd, AllXor, total, total-append, total-cons, total-one, total-pairs, length-pairs, length-fold, below-append, below-cons, below-one, below-pairs, below-mono, end-below, earlier-append, earlier-fold, earlier-pairs, holds-append, holds-pairs, fold-value, and-append, xor-append, and-pairs, xor-pairs, xor-fold}
+use Rattle.netlist.proofs.FoldLaws.{Below, Earlier, OnWires, AllAnd, AllXor, total, total-append, total-cons, total-one, total-pairs, length-pairs, length-fold, all-append, all-cons, all-one, all-pairs, below-mono, end-below, earlier-append, earlier-fold, earlier-pairs, holds-append, holds-pairs, fold-value, and-append, xor-append, and-pairs, xor-pairs, xor-fold}
 use Rattle.netlist.proofs.NetlistLaws.{folded-value, folded-start, folded-length, folded-ands, folded-xors, folded-earlier, outputs-below, length-outputs, length-ands, and-below, earlier-ands, wires-hold, and-value, picked-value}
 
 -- a list of which every gate's wires are earlier, and every output wire is there
@@ -120,13 +120,15 @@ module _ (m : ℕ) (table : List ℕ) where
   ands-gates = and-pairs m (λ i j. true) (λ i j. i) (λ i j. m + j)
 
   below-ands : (test : ℕ → ℕ → Bool) → Below (2 * m + m * m) (pairs m test (andWire m))
-  below-ands test = below-pairs _ m test (andWire m) (λ i j li lj e. omega (arith, and-below m i j li lj))
+  below-ands test = all-pairs _ m test (andWire m) (λ i j li lj e. omega (arith, and-below m i j li lj))
 
   -- the sum over the pairs having r
-  has-products : (a b : List ℕ) (r : ℕ) → sum m (λ i. sum m (λ j. num (has m table r i j) * (coord a i * coord b j))) ≡ products a b r
+  pub wanted-products : (a b : List ℕ) (r : ℕ) → sum m (λ i. sum m (λ j. coord (pairProduct m table i j) r * (coord a i * coord b j))) ≡ products a b r
   unfolding products
-  has-products a b r = sum-ext m _ _ (λ i li. sum-ext m _ _ (λ j lj.
-      ap (λ x. x * (coord a i * coord b j)) (has-num r i j) ∙ mul-comm (coord (pairProduct m table i j) r) (coord a i * coord b j)))
+  wanted-products a b r = sum-ext m _ _ (λ i li. sum-ext m _ _ (λ j lj. mul-comm (coord (pairProduct m table i j) r) (coord a i * coord b j)))
+
+  has-products : (a b : List ℕ) (r : ℕ) → sum m (λ i. sum m (λ j. num (has m table r i j) * (coord a i * coord b j))) ≡ products a b r
+  has-products a b r = sum-ext m _ _ (λ i li. sum-ext m _ _ (λ j lj. ap (λ x. x * (coord a i * coord b j)) (has-num r i j))) ∙ wanted-products a b r
 
   module _ (two : 2 ≤ m) (is : IsTable m table) (s : Symmetric m table) where
     counted : CountsPairs m table
@@ -217,9 +219,9 @@ module _ (m : ℕ) (table : List ℕ) where
 
     reduced-below : (r : ℕ) → r < m → Below (2 * m + length mixed) (reducedTerms m table r)
     unfolding reducedTerms
-    reduced-below r l = rw length-mixed (below-cons _ _ _
+    reduced-below r l = rw length-mixed (all-cons _ _ _
         (omega (arith, and-below m (minus m r 1) (minus m r 1) (minus-lt m r 1 (omega arith)) (minus-lt m r 1 (omega arith))))
-        (below-pairs _ m _ (mixWire m) (λ i j li lj e. omega (arith, mix-below i j li lj (and-both (ltb i j) _ e .0)))))
+        (all-pairs _ m _ (mixWire m) (λ i j li lj e. omega (arith, mix-below i j li lj (and-both (ltb i j) _ e .0)))))
 
     pub reduced-sound : Sound m (reduced m table)
     unfolding reduced
@@ -322,9 +324,9 @@ module _ (m : ℕ) (table : List ℕ) where
 
     other-below : (r : ℕ) → r < m → Below (2 * m + length begun) (otherTerms m table r)
     unfolding otherTerms
-    other-below r l = rw length-begun (below-append _ _ _
+    other-below r l = rw length-begun (all-append _ _ _
         (below-mono (2 * m + m * m) _ _ (omega arith) (below-ands (λ i j. has m table r i j && not (isShared m table i j))))
-        (below-one _ _ (omega (arith, end-below (2 * m + m * m) (sharedTerms m table) (omega arith) shared-below))))
+        (all-one _ _ (omega (arith, end-below (2 * m + m * m) (sharedTerms m table) (omega arith) shared-below))))
 
     pub sharing-sound : Sound m (sharing m table)
     unfolding sharing
@@ -403,7 +405,7 @@ module _ (m : ℕ) (table : List ℕ) where
     sharing-gives some a b fits r l = sharing-value some a b r l
 
     -- Common
-    by-rows : (P : Netlist → Type 0) → P (plain m table) → (0 < fullRows m table → P (sharing m table)) → P (common m table)
+    pub by-rows : (P : Netlist → Type 0) → P (plain m table) → (0 < fullRows m table → P (sharing m table)) → P (common m table)
     unfolding common
     by-rows P x y = go (fullRows m table) y
       where

@@ -18,7 +18,7 @@ use Rattle.netlist.specs.Gates.{Gate, AND, Netlist, andGates, xorGates}
 use Rattle.netlist.specs.Lists.{each, pairs, before, andWire, ands, fold, end, start, folds, ends, folded}
 use Rattle.netlist.specs.Running.{valueOn, inputs, wires}
 use Rattle.gf2.proofs.Counts.{num, sum-ones, sum-const, sum-mono}
-use Rattle.netlist.proofs.FoldLaws.{Below, Earlier, OnWires, Bits, AllXor, total, length-each, length-single, getD-single, length-pairs, length-fold, below-mono, below-each, below-one, earlier-append, earlier-each, earlier-fold, earlier-pairs, end-below, run-keeps, run-holds, run-bits, bits-append, holds-append, holds-each, holds-pairs, total-pairs, fold-value, and-append, xor-append, all-xor-each, xor-fold}
+use Rattle.netlist.proofs.FoldLaws.{Below, Earlier, OnWires, Bits, AllXor, total, length-each, length-single, getD-single, length-pairs, length-fold, all-each, all-one, below-mono, earlier-append, earlier-each, earlier-fold, earlier-pairs, end-below, run-keeps, run-holds, run-bits, bits-append, holds-append, holds-each, holds-pairs, total-pairs, fold-value, and-append, xor-append, all-xor-each, xor-fold}
 
 -- the folds for each r, from wire n on
 module _ (n : ℕ) (terms : ℕ → List ℕ) where
@@ -63,7 +63,7 @@ module _ (n : ℕ) (terms : ℕ → List ℕ) where
 
     ends-below : 0 < n → Below (start n terms m) (ends m n terms)
     unfolding ends
-    ends-below p = below-each _ m _ (λ r l. below-one _ _ (omega (
+    ends-below p = all-each _ m _ (λ r l. all-one _ _ (omega (
       arith,
       start-next r,
       start-mono (suc r) m l,

@@ -34,15 +34,18 @@ pub ones-most : (m : ℕ) (table : List ℕ) → onesIn m table ≤ m * m
 unfolding onesIn
 ones-most m table = sum-most m m _ (λ d. row-ones m (row m table d))
 
--- a basis operand has no more than one
-basis-ones : (m k : ℕ) → sum m (coord (basis m k)) ≤ 1
+-- a basis operand has one coordinate, and so no more than one
+pub coord-basis : (m k i : ℕ) → i < m → coord (basis m k) i ≡ num (eqb i k)
 unfolding basis
-basis-ones m k = rw (sum-ext m _ (λ i. num (eqb i k)) (λ i l. coord-from (bytesFor m) m _ (bytes-fit m) i l ∙ bit (eqb i k)))
-    (count-one m (λ i. eqb i k) (λ d e ld le p q. eqb-true d k p ∙ sym (eqb-true e k q)))
+coord-basis m k i l = coord-from (bytesFor m) m _ (bytes-fit m) i l ∙ bit (eqb i k)
   where
     bit : (b : Bool) → num b % 2 ≡ num b
     bit true = refl
     bit false = refl
+
+basis-ones : (m k : ℕ) → sum m (coord (basis m k)) ≤ 1
+basis-ones m k = rw (sum-ext m _ (λ i. num (eqb i k)) (λ i l. coord-basis m k i l))
+    (count-one m (λ i. eqb i k) (λ d e ld le p q. eqb-true d k p ∙ sym (eqb-true e k q)))
 
 -- under rule 4 row 0 has a single one, and no other row more than m
 pub rule4-ones : (m : ℕ) (table : List ℕ) → 0 < m → Rule4 m table → onesIn m table ≤ 1 + (m - 1) * m

@@ -39,7 +39,7 @@ module _ (m : ℕ) (table : List ℕ) where
     unfolding result
     resized n a b fits = from-ext n m _ _ (λ r l. ap (λ x. x % 2) (output a b fits r l))
 
-    computes : Computes m table list
+    pub computes : Computes m table list
     computes = record {
       outputs = output;
       bytes = λ a b fits. resized (length a) a b fits ∙ sym (from-coord {n = length a} {m = m} (unfold product in from-operand (length a) m _));

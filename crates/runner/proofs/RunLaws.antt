@@ -10,7 +10,7 @@ use native.Mathlib.Decide.{decLt}
 use native.Mathlib.Omega.{arith}
 use lib.ListN.{length, getD, take, drop, set, List·getD-append, List·getD-eq-default, take-append-drop}
 use lib.Seq.{sets, drop-cons, set-at, take-at, length-take-le, getD-take}
-use lib.Dec.{leb, ltb}
+use lib.Dec.{ltb}
 use lib.Bits.{bitAnd, bitXor}
 use borrow.Author.Tests.{ltb-true, lt-ltb, le-ltb, le-leb, lt-leb}
 use Rattle.gf2.specs.Sums.{every}
@@ -20,7 +20,6 @@ use Rattle.gf2.specs.Operands.{bytesFor, choose, carriedBy, fromCoords}
 use Rattle.gf2.proofs.Coordinates.{length-tabulate, getD-tabulate}
 use Rattle.gf2.proofs.Operands.{from-ext}
 use Rattle.gf2.proofs.Carrying.{HasBytes, same-coord}
-use Rattle.gf2.proofs.Parity.{and-both}
 use Rattle.judging.specs.declared.fault.Fault.{Fault}
 use Rattle.judging.specs.Faults.{isNone}
 use Rattle.netlist.specs.Gates.{Gate}
@@ -32,6 +31,7 @@ use Rattle.runner.specs.Inner.{AreBits, gateAt, onOutput}
 use Rattle.netlist.proofs.FoldLaws.{Bits, run-length, run-bits, length-single}
 use Rattle.netlist.proofs.NetlistLaws.{length-inputs, inputs-bits}
 use Rattle.netlist.proofs.StoreLaws.{sets-append, sets-whole}
+use Rattle.netlist.proofs.GateTests.{gate-wires}
 
 module _ (m : ℕ) (list : List ℕ) where
   pub gate-kind : (k x : ℕ) → x ≡ kindAt list k → 1 < x → false ≡ isGate m list k
@@ -57,13 +57,6 @@ module _ (m : ℕ) (list : List ℕ) where
   pub output-there : every m (isOutput m list) ≡ true → (r : ℕ) → r < m → outputAt list r < 2 * m + gateCount list
   unfolding isOutput
   output-there e r l = ltb-true _ _ (every-at m (isOutput m list) e r l)
-
-  -- the wires of a gate that has passed
-  pub gate-wires : (k : ℕ) → isGate m list k ≡ true → (leftAt list k < 2 * m + k) × (rightAt list k < 2 * m + k)
-  unfolding isGate
-  gate-wires k e =
-      let x = and-both (ltb (leftAt list k) (2 * m + k)) _ (and-both (leb (kindAt list k) 1) _ e .1) in
-      (ltb-true _ _ (x .0), ltb-true _ _ (x .1))
 
 -- the value of a gate on bits
 pub and-bits : (kind x y : ℕ) → kind ≡ 0 → x < 2 → y < 2 → bitAnd x y ≡ applied kind x y

@@ -30,6 +30,10 @@ otherWidth m list = badLength (getD list 0 0) m
 abbrev pub badWords : ℕ → List ℕ → Cause
 badWords m list = badLength (length list) (2 + 3 * gateCount list + m)
 
+-- 2, of the words of a list
+abbrev pub listWordCauses : ℕ → List ℕ → List Cause
+listWordCauses m list = fewWords list ∷ otherWidth m list ∷ badWords m list ∷ []
+
 -- 2: "a byte per wire (2m+g)"
 abbrev pub badWires : ℕ → List ℕ → ℕ → Cause
 badWires m list wires = badLength wires (2 * m + gateCount list)

@@ -1,6 +1,6 @@
 // What running judges before it writes: widths, lengths, the list's words, high bits, every gate and every output wire.
 // Each part is judged only where those before it give no fault. Sizes are worked out only for a width that has passed: of any
-// other they may be more than a usize holds.
+// other they may be more than a usize holds. What is judged of the list alone is for whoever is handed a list.
 ghost use mathlib.Core.Path.{_≡_};
 ghost use mathlib.Core.List.{[], _∷_};
 ghost use Prim.Native.Nat.{_<_, _≤_};
@@ -10,7 +10,8 @@ ghost use Rattle.judging.specs.Causes.{faultOf};
 ghost use Rattle.netlist.specs.Gates.{wordLimit};
 ghost use Rattle.netlist.specs.Running.{gateCount};
 ghost use Rattle.netlist.specs.Judgements.{isGate, isOutput};
-ghost use Rattle.runner.specs.Causes.{badGates};
+ghost use Rattle.judging.specs.FaultTable.{badWidth};
+ghost use Rattle.runner.specs.Causes.{listWordCauses, badGates};
 ghost use Rattle.runner.specs.Inner.{widthCauses, lengthCauses, carriedCauses, wordCauses, listCauses};
 use crate::words;
 use judging::CallFault;
@@ -62,23 +63,30 @@ pub(crate) fn judge_carried(width: usize, a: Operand, b: Operand, result: usize)
     judge_lengths(m, width, n, width, result, limbs::bytes_for(width))
 }
 
-fn judge_words(width: usize, list: &[u32], wires: usize) -> Fault
-    requires { ⌜ width ≤ maxWidth ⌝ }
-    ensures { λ r. ⌜ r ≡ faultOf (wordCauses width (now (list .entry)) wires) ⌝ }
+// The words of a list. Its length is worked out where the first word is the width: that is a word, and no sum too great.
+pub fn judge_words(width: usize, list: &[u32]) -> Fault
+    ensures { λ r. ⌜ r ≡ faultOf (listWordCauses width (now (list .entry))) ⌝ }
 {
     if list.len() < 2 {
         return Fault::Length;
     }
-    let g = words::word(list, 1);
-    let all = 2 + 3 * g + width;
-    judge_lengths(
-        words::word(list, 0),
-        width,
-        list.len(),
-        all,
-        wires,
-        2 * width + g,
-    )
+    let first = judge_length(words::word(list, 0), width);
+    if !is_none(first) {
+        return first;
+    }
+    judge_length(list.len(), 2 + 3 * words::word(list, 1) + width)
+}
+
+// The same, and the length of the buffer for its wires.
+fn judge_wires(width: usize, list: &[u32], wires: usize) -> Fault
+    requires { ⌜ width ≤ maxWidth ⌝ }
+    ensures { λ r. ⌜ r ≡ faultOf (wordCauses width (now (list .entry)) wires) ⌝ }
+{
+    let words = judge_words(width, list);
+    if !is_none(words) {
+        return words;
+    }
+    judge_length(wires, 2 * width + words::word(list, 1))
 }
 
 fn is_gate(width: usize, list: &[u32], k: usize) -> bool
@@ -124,10 +132,14 @@ fn are_outputs(width: usize, list: &[u32], g: usize) -> bool
     true
 }
 
-fn judge_gates(width: usize, list: &[u32]) -> Fault
-    requires { ⌜ width ≤ maxWidth ⌝ }
-    ensures { λ r. ⌜ r ≡ faultOf (badGates width (now (list .entry)) ∷ []) ⌝ }
+// Every gate and every output wire, where the width is one.
+pub fn judge_gates(width: usize, list: &[u32]) -> Fault
+    ensures { λ r. ⌜ r ≡ faultOf (badWidth width ∷ badGates width (now (list .entry)) ∷ []) ⌝ }
 {
+    let first = judge_width(width);
+    if !is_none(first) {
+        return first;
+    }
     let g = words::word(list, 1);
     if !are_gates(width, list, g) {
         return Fault::Call(CallFault::BadGate);
@@ -147,10 +159,10 @@ pub(crate) fn judge_list(
     y: [u8; limbs::BYTES],
     wires: usize,
 ) -> Fault
-    requires { ⌜ width ≤ maxWidth ⌝ }
+    requires { ⌜ (2 ≤ width) × (width ≤ maxWidth) ⌝ }
     ensures { λ r. ⌜ r ≡ faultOf (listCauses width (now (list .entry)) x y wires) ⌝ }
 {
-    let words = judge_words(width, list, wires);
+    let words = judge_wires(width, list, wires);
     if !is_none(words) {
         return words;
     }

@@ -17,6 +17,10 @@ mod output;
 mod wires;
 mod words;
 
+pub use judge::judge_gates;
+pub use judge::judge_words;
+pub use words::word;
+
 // The sizes of operands and result have passed: what is left to judge, and the work.
 fn run_sized(
     width: usize,
@@ -26,7 +30,7 @@ fn run_sized(
     result: &mut [u8],
     wires: &mut [u8],
 ) -> Fault
-    requires { ⌜ (1 ≤ width) × (width ≤ maxWidth) × (length (now result) ≡ bytesFor width) ⌝ }
+    requires { ⌜ (2 ≤ width) × (width ≤ maxWidth) × (length (now result) ≡ bytesFor width) ⌝ }
     ensures { λ f. ⌜ (f ≡ faultOf (listCauses width (now (list .entry)) x y (length (now (wires .entry)))))
         × (now (result .exit) ≡ runBytesResult f width (now (list .entry)) x y (now (result .entry)))
         × (now (wires .exit) ≡ runBytesWires f width (now (list .entry)) x y (now (wires .entry))) ⌝ }

@@ -4,7 +4,7 @@ ghost use Prim.Native.Nat.{_<_};
 ghost use lib.ListN.{getD};
 ghost use Rattle.netlist.specs.Gates.{wordLimit};
 
-pub(crate) fn word(list: &[u32], at: usize) -> usize
+pub fn word(list: &[u32], at: usize) -> usize
     ensures { λ r. ⌜ (r ≡ getD (now (list .entry)) at 0) × (r < wordLimit) ⌝ }
 {
     if at < list.len() {

@@ -29,7 +29,7 @@ run-sized-requires c κs =
     let cs = carriedCauses (a .width) (a .a) (a .b) (length (a .result .now)) in
     let p = fine cs (judged cs [] (e .before .before .judge-carried .ensures) (e .before .is-none .ensures) (not-false _ (e .if1 .left))) in
     let w = is-width (a .width) (p .0) in
-    (omega (arith, w .least), w .greatest, as-laid-down _ _ (p .1 .1 .1 .1 .1 .0))
+    (w .least, w .greatest, as-laid-down _ _ (p .1 .1 .1 .1 .1 .0))
 
 returns-2 : tie.Need-returns-2
 returns-2 c =

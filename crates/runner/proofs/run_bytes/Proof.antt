@@ -34,7 +34,7 @@ sizes e =
     (judged (badWidth (a .width) ∷ notW (a .width) (a .a .now) ∷ notW (a .width) (a .b .now) ∷ notW (a .width) (a .result .now) ∷ []) [] (s .judge-pair-sizes .ensures) (e .before .is-none .ensures) (not-false _ (e .if1 .left)))
 
 run-sized-requires : tie.Need-run-sized-requires
-run-sized-requires c κs = let z = sizes (c .before .before .before .before) in (omega (arith, z .width .least), z .width .greatest, z .room)
+run-sized-requires c κs = let z = sizes (c .before .before .before .before) in (z .width .least, z .width .greatest, z .room)
 
 returns-2 : tie.Need-returns-2
 returns-2 c =

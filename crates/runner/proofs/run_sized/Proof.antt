@@ -1,6 +1,7 @@
 -- `runner::run_sized` meets its contract.
 use mathlib.Core.Path.{sym, _∙_}
 use mathlib.Core.List.{[]}
+use native.Mathlib.Omega.{arith}
 use lib.ListN.{length}
 use Rattle.judging.proofs.CauseLaws.{judged}
 use Rattle.runner.specs.Inner.{listCauses}
@@ -21,7 +22,7 @@ fill-wires-requires c κs =
     let t = c .before .before .before in
     let f = found t in
     let p = t .before .before .before .before .before .before .pre in
-    record { least = p .0; greatest = p .1; bytePerWire = f .bytePerWire; good = f .gates }
+    record { least = omega (arith, p .0); greatest = p .1; bytePerWire = f .bytePerWire; good = f .gates }
 
 fill-result-requires : tie.Need-fill-result-requires
 fill-result-requires c κs =
@@ -51,5 +52,5 @@ returns-2 c =
 pub run-sized-spec : {M : Type 1} → statement M
 run-sized-spec =
     tie.close
-    (tie.spec (λ c κs. search needs) (λ c κs. search needs) (λ c. search needs) (λ c. search needs) fill-wires-requires fill-result-requires
+    (tie.spec (λ c κs. let p = c .before .before .before .pre in (p .0, p .1)) (λ c κs. search needs) (λ c. search needs) (λ c. search needs) fill-wires-requires fill-result-requires
     (λ c. search needs) (λ c. search needs) returns returns-2)

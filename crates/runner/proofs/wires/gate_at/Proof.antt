@@ -6,7 +6,7 @@ use native.Mathlib.Omega.{arith}
 use lib.ListN.{getD}
 use Rattle.netlist.specs.Running.{applied, kindAt, leftAt, rightAt}
 use Rattle.runner.specs.Inner.{AreBits, gateAt}
-use Rattle.runner.proofs.RunLaws.{gate-wires}
+use Rattle.netlist.proofs.GateTests.{gate-wires}
 use borrow.Author.Needs.{needs}
 use Rattle.runner.proofs.wires.gate_at.Statement.{statement}
 use Rattle.runner.proofs.wires.gate_at.Tie as tie
