@@ -29,26 +29,28 @@ use Rattle.judging.specs.declared.fault.Fault.{Fault}
 use Rattle.judging.specs.Faults.{isNone}
 use Rattle.judging.specs.Causes.{Cause}
 use Rattle.judging.specs.FaultTable.{symmetryCauses}
-use Rattle.judging.proofs.CauseLaws.{Fine, none-fine, none-given, exact}
+use Rattle.judging.proofs.CauseLaws.{Fine, fine, none-fine, none-given, exact}
 use Rattle.judging.proofs.Searches.{fine-append, fine-parts, fine-from, fine-at}
 use Rattle.judging.proofs.Passed.{not-not, length-passes}
 use Rattle.table.specs.Rows.{Shaped}
 use Rattle.table.proofs.Theorems.{symmetry}
 use Rattle.table.proofs.BasisOperands.{basis-operand}
-use Rattle.netlist.specs.Gates.{Netlist}
+use Rattle.netlist.specs.Gates.{Netlist, andGates, xorGates}
 use Rattle.netlist.specs.Calls.{answer, refusedWith}
-use Rattle.netlist.specs.Running.{valueOn, wires, result, gateCount, outputAt, readList}
+use Rattle.netlist.specs.Running.{valueOn, wires, result, gateOf, kindAt, leftAt, rightAt, gateCount, outputAt, gatesTo, readList}
 use Rattle.netlist.specs.Judgements.{IsA, IsB, IsInput, isGate, isOutput, isFormed}
 use Rattle.netlist.specs.Sets.{Products, setOn, wanted, SameProducts, IsWrongOutput, isRightOutput}
+use Rattle.netlist.proofs.FoldLaws.{length-single}
 use Rattle.netlist.proofs.NetlistLaws.{wires-a, wires-b, wires-bits}
 use Rattle.netlist.proofs.ListLaws.{Gives, coord-product, wanted-products}
-use Rattle.netlist.proofs.SizeLaws.{coord-basis}
+use Rattle.netlist.proofs.SizeLaws.{gate-kinds, coord-basis}
 use Rattle.netlist.proofs.SetTests.{right-output}
 use Rattle.netlist.proofs.SetLaws.{pair-point, sumOf, sum-same, set-bit, wire-value}
 use Rattle.netlist.proofs.Theorems.{computes}
 use Rattle.runner.specs.Causes.{badGates}
 use Rattle.runner.proofs.RunLaws.{output-there}
 use Rattle.equivalence.specs.Causes.{greatestWidth, mostGates, otherGates, wrongOutput, sizeCauses, tableCauses, limitCauses, gateCauses, outputCauses, acceptCauses}
+use Rattle.equivalence.specs.Calls.{acceptFault}
 use Rattle.equivalence.specs.Inner.{Ready}
 use Rattle.equivalence.specs.Statements.{Comparable, GivesProduct}
 
@@ -90,6 +92,19 @@ pub outputs-right : (m : ℕ) (table list : List ℕ) → Fine (acceptCauses m t
 outputs-right m table list p r l =
     let q = fine-parts (tableCauses m table) (afterTable m table list) (p .1 .1 .1 .1 .1) .1 in
     not-not _ (fine-at (λ r. wrongOutput m table list r ∷ []) 0 m (q .1 .1 .1 .1) r (omega arith) (omega arith) .0)
+
+-- the counts of a list that is accepted
+pub counts-few : (m : ℕ) (table list : List ℕ) → isNone (acceptFault m table list) ≡ true → andGates (readList list m .gates) + xorGates (readList list m .gates) ≤ mostGates
+unfolding readList gatesTo
+counts-few m table list n =
+    let p = fine (acceptCauses m table list) n in
+    let q = fine-parts (tableCauses m table) (afterTable m table list) (p .1 .1 .1 .1 .1) .1 in
+    omega (
+      arith,
+      ltb-false mostGates (gateCount list) (q .1 .0),
+      gate-kinds (gatesTo list (gateCount list)),
+      length-single (gateCount list) (λ k. gateOf (kindAt list k) (leftAt list k) (rightAt list k)),
+    )
 
 module _ (m : ℕ) (list : List ℕ) (c : Comparable m list) where
   limits : Fine (limitCauses m list)

@@ -34,6 +34,8 @@ use Rattle.netlist.proofs.SizeLaws.{ones-most, counts-most}
 use Rattle.netlist.proofs.Theorems.{theoremLists}
 use Rattle.netlist.proofs.CallLaws.{table-fine}
 use Rattle.netlist.proofs.TableLaws.{width-times}
+use Rattle.equivalence.specs.Calls.{acceptFault, acceptCall}
+use Rattle.equivalence.proofs.AcceptLaws.{counts-few}
 use Rattle.gaussian.specs.declared.TypeAnswer.{TypeAnswer}
 use Rattle.gaussian.specs.Causes.{typeZero, typeCauses, drawCauses}
 use Rattle.gaussian.specs.Calls.{answer as typed, typeCall, drawCall}
@@ -45,7 +47,7 @@ use Rattle.card.proofs.Theorems.{card-laws, read-none}
 use Rattle.card_writer.specs.Calls.{writeCauses, writeCall}
 use Rattle.card_writer.proofs.Lengths.{card-most}
 use Rattle.nb.specs.Packing.{valueLimit, isSmall, Packs}
-use Rattle.nb.proofs.PackLaws.{small-causes, small-both, small-shape, small-symmetry, small-read}
+use Rattle.nb.proofs.PackLaws.{small-causes, small-both, small-shape, small-symmetry, small-accept, small-read}
 
 made-small : (m : ℕ) (t a : List ℕ) → 2 ≤ m → m ≤ maxWidth → productsMade m t a < valueLimit
 unfolding binaryOnes
@@ -124,6 +126,10 @@ module _ (m : ℕ) (t : List ℕ) where
 
       pub common-list-packs : r ≡ listCall m t (common m t) old → PacksCounts r
       common-list-packs = list-packs (common m t) (λ h. h .ofCommon .sized) old
+
+-- a list that is accepted
+pub accept-packs : (m : ℕ) (t list : List ℕ) {r : CountsAnswer} → r ≡ acceptCall m t list → PacksCounts r
+accept-packs m t list e = packs (acceptFault m t list) _ _ e (small-accept m t list) (λ n. let few = counts-few m t list n in (omega (arith, few), omega (arith, few)))
 
 -- types, where the first cause is the width
 type-packs : (cs : List Cause) (m : ℕ) → isSmall (faultOf (badWidth m ∷ cs)) ≡ true → {r : TypeAnswer} → r ≡ typed (faultOf (badWidth m ∷ cs)) m →

@@ -1,5 +1,5 @@
 -- Laws of packed answers: equal answers, what comes back out of one, and that what is returned beside a fault has room in its bits.
--- Lists: over any list of causes. Tables: 5 and 6 return what is below the width. Cards: a card that is read.
+-- Lists: over any list of causes. Tables and gate lists: 5, 6 and 21 return what is below the width. Cards: a card that is read.
 use mathlib.Core.Path.{_≡_, refl, sym, ap, _∙_}
 use mathlib.Core.Bool.{Bool, true, false, not, _&&_}
 use mathlib.Core.List.{List, [], _∷_, _++_}
@@ -11,15 +11,18 @@ use borrow.Author.Tests.{lt-ltb, ltb-true, not-false}
 use Rattle.gf2.specs.Operands.{maxWidth}
 use Rattle.gf2.proofs.Parity.{and-both}
 use Rattle.judging.specs.declared.fault.Fault.{Fault}
-use Rattle.judging.specs.declared.fault.Fault.the-variants.{None, RowPair, Triple}
+use Rattle.judging.specs.declared.fault.Fault.the-variants.{None, RowPair, Triple, List as Listed}
+use Rattle.judging.specs.declared.fault.ListFault.the-variants.{Output}
 use Rattle.judging.specs.Faults.{numberOf, isNone}
 use Rattle.judging.specs.Causes.{Cause, faultOf}
-use Rattle.judging.specs.FaultTable.{rowSumWrong, shapeCauses, ruleCauses, symmetryCauses, tripleCauses, checkCauses}
+use Rattle.judging.specs.FaultTable.{highBitInRow, rowSumWrong, shapeCauses, ruleCauses, symmetryCauses, tripleCauses, checkCauses}
 use Rattle.judging.proofs.CauseLaws.{Fine, Each, keeps, keeps-both}
 use Rattle.judging.proofs.Searches.{each-from}
 use Rattle.judging.proofs.Passed.{is-width}
 use Rattle.table.proofs.Rules.{mirrorCauses, pairCauses, rowCauses}
 use Rattle.product.specs.Causes.{productBytesCauses, reducedBytesCauses}
+use Rattle.equivalence.specs.Causes.{wrongOutput, sizeCauses, tableCauses, limitCauses, gateCauses, outputCauses}
+use Rattle.equivalence.specs.Calls.{acceptFault}
 use Rattle.card.specs.Numbers.{Read, refused, got}
 use Rattle.card.specs.Cards.{lentCauses, Table, readCard}
 use Rattle.card.specs.Calls.{readAnswer, readCall}
@@ -132,6 +135,24 @@ module _ (m : ℕ) (t : List ℕ) where
   pub small-reduced : (a b old : List ℕ) → isSmall (faultOf (reducedBytesCauses m t a b old)) ≡ true
   unfolding isSmall
   small-reduced a b old = small-both (productBytesCauses m t a b old) (ruleCauses m t) (small-causes (productBytesCauses m t a b old) refl) (λ p. small-rules (is-width m (p .0) .greatest))
+
+  -- a list to be accepted
+  module _ (list : List ℕ) where
+    small-outputs : m ≤ maxWidth → isSmall (faultOf (outputCauses m t list)) ≡ true
+    small-outputs h = keeps IsSmall none-small (outputCauses m t list) (each-from IsSmall none-small (λ r. wrongOutput m t list r ∷ []) 0 m (λ r l k. (output-small r (omega arith), λ q. tt)))
+      where
+        output-small : (r : ℕ) → r < m → isSmall (Listed (Output r)) ≡ true
+        output-small r l = unfold isSmall in rw (lt-ltb r valueLimit (omega arith))
+
+    pub small-accept : isSmall (acceptFault m t list) ≡ true
+    unfolding isSmall
+    small-accept =
+        small-both (sizeCauses m t list) (tableCauses m t ++ (limitCauses m list ++ (gateCauses m list ++ outputCauses m t list))) (small-causes (sizeCauses m t list) refl) (λ p.
+        let h = is-width m (p .0) .greatest in
+        small-both (tableCauses m t) (limitCauses m list ++ (gateCauses m list ++ outputCauses m t list))
+        (small-both (highBitInRow m t ∷ []) (ruleCauses m t) (small-causes (highBitInRow m t ∷ []) refl) (λ q. small-rules h)) (λ q.
+        small-both (limitCauses m list) (gateCauses m list ++ outputCauses m t list) (small-causes (limitCauses m list) refl) (λ r.
+        small-both (gateCauses m list) (outputCauses m t list) (small-causes (gateCauses m list) refl) (λ s. small-outputs h))))
 
 -- whatever part of a card its fault is found in
 pub small-read : (s old : List ℕ) → isSmall (readCall s old .fault) ≡ true

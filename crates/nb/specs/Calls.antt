@@ -32,7 +32,7 @@ traceAnswer m a = packedAnswer (faultOf (bytesCauses m a)) (trace m a) 0
 abbrev pub inverseAnswer : ℕ → List ℕ → List ℕ → List ℕ → ℕ
 inverseAnswer m table a old = packedAnswer (faultOf (inverseBytesCauses m table a old)) (productsMade m table a) 0
 
--- nb_counts_.. and nb_list_..: "AND gates and XOR gates are counted apart and both counts returned"
+-- nb_counts_.. and nb_list_..: "AND gates and XOR gates are counted apart and both counts returned"; nb_accept, those of the list handed in
 abbrev pub countsAnswer : CountsAnswer → ℕ
 countsAnswer r = packedAnswer (r .fault) (r .ands .0) (r .xors .0)
 

@@ -15,10 +15,13 @@ use Rattle.operand.specs.Causes.{bytesCauses, constantCauses, turnBytesCauses, 
 use Rattle.table.specs.Judgements.{symmetryFault, shapeFault}
 use Rattle.table.specs.Calls.{onesCall}
 use Rattle.product.specs.Causes.{productBytesCauses, reducedBytesCauses, inverseBytesCauses}
-use Rattle.netlist.specs.Gates.{Netlist}
+use Rattle.netlist.specs.Gates.{Netlist, andGates, xorGates}
 use Rattle.netlist.specs.Lists.{plain, reduced, common}
+use Rattle.netlist.specs.Running.{readList}
 use Rattle.netlist.specs.Calls.{answer, listCauses, listFault, listCall}
 use Rattle.runner.specs.Causes.{runBytesCauses}
+use Rattle.equivalence.specs.Causes.{acceptCauses}
+use Rattle.equivalence.specs.Calls.{acceptFault, acceptCall}
 use Rattle.gaussian.specs.Causes.{typeCauses, drawCauses}
 use Rattle.gaussian.specs.Calls.{answer as typeAnswerOf}
 use Rattle.card.specs.declared.CardAnswer.{CardAnswer}
@@ -31,7 +34,7 @@ use Rattle.card_writer.specs.Calls.{writeCauses}
 use Rattle.nb.specs.Packing.{isSmall, Unpacks}
 use Rattle.nb.specs.Calls.{faultAnswer, countsAnswer, cardAnswer}
 use Rattle.nb.proofs.PackLaws.{areSmall, packs, small-causes, small-check, small-reduced, unpack-refused, unpack-answered}
-use Rattle.nb.proofs.Bounds.{PacksCounts, inverse-packs, trace-packs, ones-packs, plain-packs, reduced-packs, common-packs, plain-list-packs, reduced-list-packs, common-list-packs, type-answer-packs, draw-packs, write-packs, read-packs}
+use Rattle.nb.proofs.Bounds.{PacksCounts, inverse-packs, trace-packs, ones-packs, plain-packs, reduced-packs, common-packs, plain-list-packs, reduced-list-packs, common-list-packs, accept-packs, type-answer-packs, draw-packs, write-packs, read-packs}
 use Rattle.promises.specs.CardCauses.{GoodCard}
 use Rattle.promises.specs.Answers.{Asks, Fills}
 use Rattle.promises.specs.Demand1.{Lists, Reads, Demand1}
@@ -55,6 +58,14 @@ lists m table list old room = record {
   exact = exact (listCauses m table list old);
   number = numbered (listCauses m table list old) room (chosen (listFault m table list old) _) (chosen (listFault m table list old) _);
   buffer = lent (listCauses m table list old) old _;
+}
+
+accepts : (m : ℕ) (table list : List ℕ) → PacksCounts (acceptCall m table list) →
+    Asks (acceptCauses m table list) (countsAnswer (acceptCall m table list)) (andGates (readList list m .gates)) (xorGates (readList list m .gates))
+unfolding answer
+accepts m table list room = record {
+  exact = exact (acceptCauses m table list);
+  number = numbered (acceptCauses m table list) room (chosen (acceptFault m table list) _) (chosen (acceptFault m table list) _);
 }
 
 -- what a card's reading leaves, by what it finds
@@ -107,6 +118,7 @@ demand1 = record {
   listCommon = λ m t old. lists m t (common m t) old (common-list-packs m t old refl);
   run = λ m list a b result wires. bare (runBytesCauses m list a b result wires) refl result _;
   runsWires = λ m list a b result wires. lent (runBytesCauses m list a b result wires) wires _;
+  accept = λ m t list. accepts m t list (accept-packs m t list refl);
   typed = λ m. record { exact = exact (typeCauses m); number = numbered (typeCauses m) (type-answer-packs m refl) (chosen _ _) (λ e. refl) };
   draw = λ m old.
       let cs = drawCauses m (length old) in

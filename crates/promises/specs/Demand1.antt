@@ -23,6 +23,8 @@ use Rattle.netlist.specs.Running.{readList, wires as wiresOf, result as resultO
 use Rattle.netlist.specs.Calls.{countsPlainCall, countsReducedCall, countsCommonCall, listCauses, listCall, listBuffer}
 use Rattle.netlist.specs.declared.CountsAnswer.{CountsAnswer}
 use Rattle.runner.specs.Causes.{runBytesCauses}
+use Rattle.equivalence.specs.Causes.{acceptCauses}
+use Rattle.equivalence.specs.Calls.{acceptCall}
 use Rattle.gaussian.specs.Types.{typeOf}
 use Rattle.gaussian.specs.Table.{drawn}
 use Rattle.gaussian.specs.Causes.{typeCauses, drawCauses}
@@ -102,6 +104,10 @@ pub record Demand1 : Type 0 where
       (ranResult m list a b result wires) result (resultOf (bytesFor m) m (readList list m) a b)
   pub runsWires : (m : ℕ) (list a b result wires : List ℕ) →
       Lent (faultOf (runBytesCauses m list a b result wires)) (ranWires m list a b result wires) wires (wiresOf m (readList list m) a b)
+  -- a gate list from elsewhere
+  pub accept : (m : ℕ) (table list : List ℕ) →
+      Asks (acceptCauses m table list) (countsAnswer (acceptCall m table list))
+      (andGates (readList list m .gates)) (xorGates (readList list m .gates))
   -- Gaussian tables
   pub typed : (m : ℕ) → Asks (typeCauses m) (typeAnswer (typeCall m)) (typeOf m) 0
   pub draw : (m : ℕ) (old : List ℕ) →
