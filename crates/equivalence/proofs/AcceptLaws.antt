@@ -49,7 +49,7 @@ use Rattle.netlist.proofs.SetLaws.{pair-point, sumOf, sum-same, set-bit, wire-v
 use Rattle.netlist.proofs.Theorems.{computes}
 use Rattle.runner.specs.Causes.{badGates}
 use Rattle.runner.proofs.RunLaws.{output-there}
-use Rattle.equivalence.specs.Causes.{greatestWidth, mostGates, otherGates, wrongOutput, sizeCauses, tableCauses, limitCauses, gateCauses, outputCauses, acceptCauses}
+use Rattle.equivalence.specs.Causes.{mostWidth, mostGates, otherGates, wrongOutput, sizeCauses, tableCauses, limitCauses, gateCauses, outputCauses, acceptCauses}
 use Rattle.equivalence.specs.Calls.{acceptFault}
 use Rattle.equivalence.specs.Inner.{Ready}
 use Rattle.equivalence.specs.Statements.{Comparable, GivesProduct}
@@ -77,7 +77,7 @@ pub list-ready : (m : ℕ) (list : List ℕ) → Fine (limitCauses m list) → F
 list-ready m list p q =
     let g = and-both (every (gateCount list) (isGate m list)) (every m (isOutput m list)) (not-not _ (q .0)) in
     record {
-      narrow = ltb-false greatestWidth m (p .0);
+      narrow = ltb-false mostWidth m (p .0);
       few = ltb-false mostGates (gateCount list) (p .1 .0);
       gates = g .0;
       outputs = g .1;
@@ -108,7 +108,7 @@ counts-few m table list n =
 
 module _ (m : ℕ) (list : List ℕ) (c : Comparable m list) where
   limits : Fine (limitCauses m list)
-  limits = (le-ltb greatestWidth m (c .narrow), (le-ltb mostGates (gateCount list) (c .few), tt))
+  limits = (le-ltb mostWidth m (c .narrow), (le-ltb mostGates (gateCount list) (c .few), tt))
 
   gates : Fine (gateCauses m list)
   gates = (unheld (badGates m list) (c .wired), (unheld (otherGates m list) (c .formed), tt))

@@ -1,14 +1,13 @@
 -- Laws of a list's gates: the tests of their form as code makes them, and the ANDs among the first.
-use mathlib.Core.Path.{_≡_, refl, sym, ap, _∙_}
+use mathlib.Core.Path.{_≡_, refl, ap, _∙_}
 use mathlib.Core.Bool.{true, false}
 use mathlib.Core.List.{List, [], _∷_}
 use Prim.Native.Nat.{ℕ, zero, suc, _+_, _-_, _*_, _<_, _≤_}
 use native.Mathlib.Numerals.{add-one}
 use native.Mathlib.Omega.{arith}
-use lib.Dec.{leb, ltb}
-use lib.ListN.{length}
+use lib.Dec.{leb}
 use borrow.Author.Tests.{lt-leb, le-leb}
-use Rattle.netlist.specs.Gates.{Gate, AND, XOR, andGates, xorGates}
+use Rattle.netlist.specs.Gates.{andGates, xorGates}
 use Rattle.netlist.specs.Lists.{each}
 use Rattle.netlist.specs.Running.{gateOf, kindAt, leftAt, rightAt, gateCount, gatesTo, readList}
 use Rattle.netlist.specs.Judgements.{isPair, isInForm}

@@ -1,6 +1,6 @@
 -- Laws of a list that has passed all but its outputs: the wires of its gates, and an output by the square of its gate.
 use mathlib.Core.Path.{_≡_, refl, sym, _∙_}
-use mathlib.Core.Bool.{true, false}
+use mathlib.Core.Bool.{false}
 use mathlib.Core.List.{List}
 use Prim.Native.Nat.{ℕ, zero, suc, _+_, _-_, _*_, _<_, _≤_}
 use native.Mathlib.Omega.{arith}
@@ -13,7 +13,6 @@ use Rattle.netlist.specs.Sets.{Products, setOn, wanted, SameProducts, sameProdu
 use Rattle.netlist.proofs.GateTests.{gate-wires}
 use Rattle.netlist.proofs.SetTests.{in-form, same-at, same-of}
 use Rattle.runner.proofs.RunLaws.{output-there}
-use Rattle.equivalence.specs.Causes.{greatestWidth, mostGates}
 use Rattle.equivalence.specs.Inner.{bitAt, Ready, Gathered}
 
 -- the wires of a gate by its kind

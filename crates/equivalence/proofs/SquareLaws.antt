@@ -1,13 +1,12 @@
 -- Laws of the squares: their bits in limbs, one product, a sum of two, and one gate's square more.
 use mathlib.Core.Path.{_≡_, refl, sym, ap, ap₂, _∙_}
 use mathlib.Core.Logic.{inl, inr}
-use mathlib.Core.Bool.{Bool, true, false, _&&_, _||_, and-false}
 use mathlib.Core.List.{List}
 use Prim.Native.Nat.{ℕ, zero, suc, _+_, _-_, _*_, _/_, _%_, _^_, _<_, _≤_}
 use native.Mathlib.Nat.{div-eq-of-lt, lt-of-lt-of-le, zero-div}
 use native.Mathlib.Decide.{decLt, ℕ-discrete}
 use native.Mathlib.Omega.{arith}
-use lib.Dec.{eqb, ltb}
+use lib.Dec.{eqb}
 use lib.Bits.{bitXor}
 use lib.Pow.{pow-mono}
 use lib.ListN.{length, getD, set, replicate, length-set, length-replicate, getD-replicate, List·getD-eq-default}
@@ -20,15 +19,15 @@ use Rattle.netlist.specs.Running.{kindAt, leftAt, rightAt, gateCount, readList}
 use Rattle.netlist.specs.Judgements.{IsA, IsB, InForm}
 use Rattle.netlist.specs.Sets.{Products, oneProduct, setOn}
 use Rattle.netlist.proofs.SetLaws.{one-comm, gate-set-and, gate-set-xor}
-use Rattle.equivalence.specs.Causes.{greatestWidth, mostGates}
+use Rattle.equivalence.specs.Causes.{mostWidth, mostGates}
 use Rattle.equivalence.specs.Inner.{setBits, setLimbs, HasSets, placeOf, bitAt, Ready, Gathered, SumPut}
 
 -- the bit of ai·bj is one of its limb's
-pub bit-limb : (s : List ℕ) (k i j : ℕ) → bitAt s k i j ≡ getD s (setLimbs * k + (greatestWidth * i + j) / 64) 0 / 2 ^ ((greatestWidth * i + j) % 64) % 2
+pub bit-limb : (s : List ℕ) (k i j : ℕ) → bitAt s k i j ≡ getD s (setLimbs * k + (mostWidth * i + j) / 64) 0 / 2 ^ ((mostWidth * i + j) % 64) % 2
 unfolding limbCoord
 bit-limb s k i j =
-    let q : (setBits * k + (greatestWidth * i + j)) / 64 ≡ setLimbs * k + (greatestWidth * i + j) / 64 = omega arith in
-    let r : (setBits * k + (greatestWidth * i + j)) % 64 ≡ (greatestWidth * i + j) % 64 = omega arith in
+    let q : (setBits * k + (mostWidth * i + j)) / 64 ≡ setLimbs * k + (mostWidth * i + j) / 64 = omega arith in
+    let r : (setBits * k + (mostWidth * i + j)) % 64 ≡ (mostWidth * i + j) % 64 = omega arith in
     rw (q, r)
 
 -- the bits of 1, moved up
@@ -95,19 +94,19 @@ gathered-none m list = record {
     ]
 
 -- where the product of an AND of these wires has its bit
-pair-place : (m a b i j : ℕ) → m ≤ greatestWidth → IsA m a → IsB m b → i < greatestWidth → j < greatestWidth →
-    choose (eqb (greatestWidth * i + j) (greatestWidth * a + (b - m))) 1 0 ≡ oneProduct m a b i j
+pair-place : (m a b i j : ℕ) → m ≤ mostWidth → IsA m a → IsB m b → i < mostWidth → j < mostWidth →
+    choose (eqb (mostWidth * i + j) (mostWidth * a + (b - m))) 1 0 ≡ oneProduct m a b i j
 unfolding oneProduct
 pair-place m a b i j narrow la lb li lj = rw (ne-eqb a (m + j) (omega arith)) (elim (ℕ-discrete i a) [
   | yes e ↦ rw (e, eq-eqb a a refl) (elim (ℕ-discrete (m + j) b) [
-    | yes f ↦ rw (eq-eqb (greatestWidth * a + j) (greatestWidth * a + (b - m)) (omega arith), eq-eqb b (m + j) (sym f))
-    | no nf ↦ rw (ne-eqb (greatestWidth * a + j) (greatestWidth * a + (b - m)) (omega arith), ne-eqb b (m + j) (omega arith))
+    | yes f ↦ rw (eq-eqb (mostWidth * a + j) (mostWidth * a + (b - m)) (omega arith), eq-eqb b (m + j) (sym f))
+    | no nf ↦ rw (ne-eqb (mostWidth * a + j) (mostWidth * a + (b - m)) (omega arith), ne-eqb b (m + j) (omega arith))
   ])
-  | no ne ↦ rw (ne-eqb (greatestWidth * i + j) (greatestWidth * a + (b - m)) (omega arith), ne-eqb a i (omega arith))
+  | no ne ↦ rw (ne-eqb (mostWidth * i + j) (mostWidth * a + (b - m)) (omega arith), ne-eqb a i (omega arith))
 ])
 
-pub place-one : (m l r i j : ℕ) → m ≤ greatestWidth → InForm m 0 l r → i < greatestWidth → j < greatestWidth →
-    choose (eqb (greatestWidth * i + j) (placeOf m l r)) 1 0 ≡ oneProduct m l r i j
+pub place-one : (m l r i j : ℕ) → m ≤ mostWidth → InForm m 0 l r → i < mostWidth → j < mostWidth →
+    choose (eqb (mostWidth * i + j) (placeOf m l r)) 1 0 ≡ oneProduct m l r i j
 place-one m l r i j narrow (inl f) li lj = rw (lt-ltb l m (f .0)) (pair-place m l r i j narrow (f .0) (f .1) li lj)
 place-one m l r i j narrow (inr f) li lj = rw (le-ltb l m (f .0 .0)) (pair-place m r l i j narrow (f .1) (f .0) li lj ∙ one-comm m r l i j)
 
@@ -120,17 +119,17 @@ pub pair-right : {m l r : ℕ} → InForm m 0 l r → m ≤ l → (r < m) × (l 
 pair-right (inl f) h = absurd (omega (arith, f .0, h))
 pair-right (inr f) h = (f .1, f .0 .1)
 
-pub place-small : (m l r : ℕ) → m ≤ greatestWidth → InForm m 0 l r → placeOf m l r < setBits
+pub place-small : (m l r : ℕ) → m ≤ mostWidth → InForm m 0 l r → placeOf m l r < setBits
 place-small m l r narrow (inl f) = rw (lt-ltb l m (f .0)) (omega (arith, f .0, f .1))
 place-small m l r narrow (inr f) = rw (le-ltb l m (f .0 .0)) (omega (arith, f .0, f .1))
 
 -- one gate's square more
 module _ (m : ℕ) (list : List ℕ) (ready : Ready m list) (k : ℕ) (lk : k < gateCount list) {s : List ℕ} (g : Gathered m list k s) where
   -- the squares before it are kept, where their limbs are
-  kept : (t : List ℕ) → ((p : ℕ) → p < setLimbs * k → getD t p 0 ≡ getD s p 0) → (l i j : ℕ) → l < k → i < greatestWidth → j < greatestWidth →
+  kept : (t : List ℕ) → ((p : ℕ) → p < setLimbs * k → getD t p 0 ≡ getD s p 0) → (l i j : ℕ) → l < k → i < mostWidth → j < mostWidth →
       bitAt t l i j ≡ setOn m (readList list m) (2 * m + l) i j
   kept t h l i j ll li lj =
-      bit-limb t l i j ∙ ap (λ x. x / 2 ^ ((greatestWidth * i + j) % 64) % 2) (h (setLimbs * l + (greatestWidth * i + j) / 64) (omega arith))
+      bit-limb t l i j ∙ ap (λ x. x / 2 ^ ((mostWidth * i + j) % 64) % 2) (h (setLimbs * l + (mostWidth * i + j) / 64) (omega arith))
       ∙ sym (bit-limb s l i j) ∙ g .bits l i j ll li lj
 
   pub product-gathered : kindAt list k ≡ 0 → InForm m 0 (leftAt list k) (rightAt list k) → (at : ℕ) → at ≡ placeOf m (leftAt list k) (rightAt list k) → at < setBits →
@@ -144,12 +143,12 @@ module _ (m : ℕ) (list : List ℕ) (ready : Ready m list) (k : ℕ) (lk : k < 
     rest = λ p h. getD-set-other s (setLimbs * k + at / 64) p _ 0 (omega arith) ∙ g .rest p (omega arith);
   }
     where
-      here : (i j : ℕ) → i < greatestWidth → j < greatestWidth →
+      here : (i j : ℕ) → i < mostWidth → j < mostWidth →
           bitAt (set s (setLimbs * k + at / 64) (1 * 2 ^ (at % 64) % 2 ^ 64)) k i j ≡ setOn m (readList list m) (2 * m + k) i j
       here i j li lj =
           bit-limb (set s (setLimbs * k + at / 64) (1 * 2 ^ (at % 64) % 2 ^ 64)) k i j
-          ∙ one-bit s k at (greatestWidth * i + j) (omega (arith, g .size, ready .few)) (g .rest (setLimbs * k + (greatestWidth * i + j) / 64) (omega arith))
-          ∙ ap (λ a. choose (eqb (greatestWidth * i + j) a) 1 0) q ∙ place-one m (leftAt list k) (rightAt list k) i j (ready .narrow) f li lj
+          ∙ one-bit s k at (mostWidth * i + j) (omega (arith, g .size, ready .few)) (g .rest (setLimbs * k + (mostWidth * i + j) / 64) (omega arith))
+          ∙ ap (λ a. choose (eqb (mostWidth * i + j) a) 1 0) q ∙ place-one m (leftAt list k) (rightAt list k) i j (ready .narrow) f li lj
           ∙ sym (ap (λ (t : Products). t i j) (gate-set-and m list k lk e))
 
   pub sum-gathered : (kindAt list k ≡ 0 → ⊥) → 2 * m ≤ leftAt list k → 2 * m ≤ rightAt list k →
@@ -170,15 +169,15 @@ module _ (m : ℕ) (list : List ℕ) (ready : Ready m list) (k : ℕ) (lk : k < 
       y = rightAt list k - 2 * m
 
       -- the bit of an earlier gate
-      earlier : (w i j : ℕ) → 2 * m ≤ w → w - 2 * m < k → i < greatestWidth → j < greatestWidth →
-          getD s (setLimbs * (w - 2 * m) + (greatestWidth * i + j) / 64) 0 / 2 ^ ((greatestWidth * i + j) % 64) % 2 ≡ setOn m (readList list m) w i j
+      earlier : (w i j : ℕ) → 2 * m ≤ w → w - 2 * m < k → i < mostWidth → j < mostWidth →
+          getD s (setLimbs * (w - 2 * m) + (mostWidth * i + j) / 64) 0 / 2 ^ ((mostWidth * i + j) % 64) % 2 ≡ setOn m (readList list m) w i j
       earlier w i j hw lw li lj =
           let e : 2 * m + (w - 2 * m) ≡ w = omega arith in
           sym (bit-limb s (w - 2 * m) i j) ∙ g .bits (w - 2 * m) i j lw li lj ∙ ap (λ v. setOn m (readList list m) v i j) e
 
-      here : (i j : ℕ) → i < greatestWidth → j < greatestWidth → bitAt t k i j ≡ setOn m (readList list m) (2 * m + k) i j
+      here : (i j : ℕ) → i < mostWidth → j < mostWidth → bitAt t k i j ≡ setOn m (readList list m) (2 * m + k) i j
       here i j li lj =
-          let c = greatestWidth * i + j in
+          let c = mostWidth * i + j in
           bit-limb t k i j ∙ ap (λ z. z / 2 ^ (c % 64) % 2) (put .sums (c / 64) (omega arith))
           ∙ xor-bit (getD s (setLimbs * x + c / 64) 0) (getD s (setLimbs * y + c / 64) 0) (c % 64)
           ∙ ap₂ (λ a b. (a + b) % 2) (earlier (leftAt list k) i j hl ll li lj) (earlier (rightAt list k) i j hr lr li lj)

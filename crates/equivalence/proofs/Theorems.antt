@@ -27,7 +27,7 @@ use Rattle.netlist.proofs.Theorems.{theoremLists}
 use Rattle.runner.specs.Causes.{badGates}
 use Rattle.runner.proofs.ReadLaws.{read-back, words-count, gate-good, output-good}
 use Rattle.runner.proofs.JudgeLaws.{gates-pass}
-use Rattle.equivalence.specs.Causes.{greatestWidth, mostGates, acceptCauses}
+use Rattle.equivalence.specs.Causes.{mostWidth, mostGates, acceptCauses}
 use Rattle.equivalence.specs.Statements.{Comparable, GivesProduct, TheoremAccepts, IsAccepted, TheoremOwnLists}
 use Rattle.equivalence.proofs.AcceptLaws.{comparable-ready, accepted-fine, outputs-right, right-product, no-wrong}
 
@@ -46,7 +46,7 @@ module _ (m : ℕ) (table : List ℕ) (list : Netlist) (sound : Sound m list) (f
   abbrev g : ℕ
   g = length (list .gates)
 
-  words-comparable : m ≤ greatestWidth → g ≤ mostGates → Comparable m W
+  words-comparable : m ≤ mostWidth → g ≤ mostGates → Comparable m W
   words-comparable narrow few = record {
     narrow = narrow;
     few = rw (words-count m list) few;
@@ -63,7 +63,7 @@ module _ (m : ℕ) (table : List ℕ) (list : Netlist) (sound : Sound m list) (f
   words-product h a b oa ob =
       ap (λ l. result (bytesFor m) m l a b) (read-back m list sound) ∙ ap (λ n. result n m list a b) (sym (oa .size)) ∙ h .bytes a b (rw (oa .size) (bytes-fit m))
 
-  words-accepted : symmetryFault m table ≡ None → m ≤ greatestWidth → Computes m table list → IsAccepted m table list
+  words-accepted : symmetryFault m table ≡ None → m ≤ mostWidth → Computes m table list → IsAccepted m table list
   words-accepted none narrow h few =
       answer-counted (acceptCauses m table W) _ _ (none-fine (acceptCauses m table W) .0 (theoremAccepts m table W none (words-comparable narrow few) .1 (words-product h)))
       ∙ ap (λ (l : Netlist). countedAs (andGates (l .gates)) (xorGates (l .gates))) (read-back m list sound)

@@ -18,8 +18,8 @@ use Rattle.netlist.proofs.SetTests.{form-decides, output-decides}
 use Rattle.runner.specs.Causes.{fewWords, otherWidth, badWords, badGates}
 
 -- "Up to width 16"
-abbrev pub greatestWidth : ℕ
-greatestWidth = 16
+abbrev pub mostWidth : ℕ
+mostWidth = 16
 
 -- "lists of at most 2,000 gates"
 abbrev pub mostGates : ℕ
@@ -28,7 +28,7 @@ mostGates = 2000
 -- 19: "width above 16"
 abbrev pub tooWide : ℕ → Cause
 tooWide m =
-    record { Holds = greatestWidth < m; test = ltb greatestWidth m; exact = less-decides greatestWidth m; fault = Listed Size; numbered = refl }
+    record { Holds = mostWidth < m; test = ltb mostWidth m; exact = less-decides mostWidth m; fault = Listed Size; numbered = refl }
 
 -- 19: "or more than 2,000 gates"
 abbrev pub tooManyGates : List ℕ → Cause

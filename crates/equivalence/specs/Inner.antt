@@ -12,11 +12,11 @@ use Rattle.limbs.specs.Limbs.{limbCoord}
 use Rattle.netlist.specs.Running.{gateCount, readList}
 use Rattle.netlist.specs.Judgements.{isGate, isOutput, isFormed}
 use Rattle.netlist.specs.Sets.{Products, setOn}
-use Rattle.equivalence.specs.Causes.{greatestWidth, mostGates}
+use Rattle.equivalence.specs.Causes.{mostWidth, mostGates}
 
 -- a bit for each product: the bits, and the limbs, of a gate's square
 abbrev pub setBits : ℕ
-setBits = greatestWidth * greatestWidth
+setBits = mostWidth * mostWidth
 
 abbrev pub setLimbs : ℕ
 setLimbs = setBits / 64
@@ -27,15 +27,15 @@ HasSets sets = length sets ≡ mostGates * setLimbs
 
 -- where the product of a wire of a and one of b has its bit
 abbrev pub placeOf : ℕ → ℕ → ℕ → ℕ
-placeOf m left right = choose (ltb left m) (greatestWidth * left + (right - m)) (greatestWidth * right + (left - m))
+placeOf m left right = choose (ltb left m) (mostWidth * left + (right - m)) (mostWidth * right + (left - m))
 
 -- the bit of ai·bj in the square of gate k
 abbrev pub bitAt : List ℕ → ℕ → Products
-bitAt sets k i j = limbCoord sets (setBits * k + (greatestWidth * i + j))
+bitAt sets k i j = limbCoord sets (setBits * k + (mostWidth * i + j))
 
 -- a list of which 18, 19 and 20 were not given
 pub record Ready (m : ℕ) (list : List ℕ) : Type 0 where
-  pub narrow : m ≤ greatestWidth
+  pub narrow : m ≤ mostWidth
   pub few : gateCount list ≤ mostGates
   pub gates : every (gateCount list) (isGate m list) ≡ true
   pub outputs : every m (isOutput m list) ≡ true
@@ -44,7 +44,7 @@ pub record Ready (m : ℕ) (list : List ℕ) : Type 0 where
 -- the squares of the first k gates have the products that are summed in them; those of the others are clear
 pub record Gathered (m : ℕ) (list : List ℕ) (k : ℕ) (sets : List ℕ) : Type 0 where
   pub size : HasSets sets
-  pub bits : (l i j : ℕ) → l < k → i < greatestWidth → j < greatestWidth → bitAt sets l i j ≡ setOn m (readList list m) (2 * m + l) i j
+  pub bits : (l i j : ℕ) → l < k → i < mostWidth → j < mostWidth → bitAt sets l i j ≡ setOn m (readList list m) (2 * m + l) i j
   pub rest : (p : ℕ) → setLimbs * k ≤ p → getD sets p 0 ≡ 0
 
 -- the first n limbs of gate k's square are those of gates x and y added; the other limbs are as they were

@@ -16,13 +16,13 @@ use Rattle.netlist.specs.Lists.{plain, reduced, common}
 use Rattle.netlist.specs.Running.{gateCount, readList, result}
 use Rattle.netlist.specs.Judgements.{HasBadGate, HasOtherGate}
 use Rattle.netlist.specs.Calls.{countedAs}
-use Rattle.equivalence.specs.Causes.{greatestWidth, mostGates}
+use Rattle.equivalence.specs.Causes.{mostWidth, mostGates}
 use Rattle.equivalence.specs.Calls.{acceptFault, acceptCall}
 
 -- a list that can be run, "among lists of at most 2,000 gates where each AND takes one a wire and one b wire and each XOR takes earlier
 -- gates", "up to width 16"
 pub record Comparable (m : ℕ) (list : List ℕ) : Type 0 where
-  pub narrow : m ≤ greatestWidth
+  pub narrow : m ≤ mostWidth
   pub few : gateCount list ≤ mostGates
   -- "Words of 32 bits: m; the number g of gates; g times (kind, left wire, right wire) ..; m output wires"
   pub width : getD list 0 0 ≡ m
@@ -50,4 +50,4 @@ pub record OwnLists (m : ℕ) (table : List ℕ) : Type 0 where
   pub ofCommon : IsAccepted m table (common m table)
 
 abbrev pub TheoremOwnLists : Type 0
-TheoremOwnLists = (m : ℕ) (table : List ℕ) → symmetryFault m table ≡ None → m ≤ greatestWidth → OwnLists m table
+TheoremOwnLists = (m : ℕ) (table : List ℕ) → symmetryFault m table ≡ None → m ≤ mostWidth → OwnLists m table

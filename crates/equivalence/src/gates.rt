@@ -5,11 +5,11 @@ ghost use Rattle.gf2.specs.Sums.{every};
 ghost use Rattle.netlist.specs.Gates.{wordLimit, andGates};
 ghost use Rattle.netlist.specs.Running.{gatesTo};
 ghost use Rattle.netlist.specs.Judgements.{isPair, isInForm, isFormed};
-ghost use Rattle.equivalence.specs.Causes.{greatestWidth};
+ghost use Rattle.equivalence.specs.Causes.{mostWidth};
 
 // One wire of a and one of b.
 fn is_pair(width: usize, a: usize, b: usize) -> bool
-    requires { ⌜ width ≤ greatestWidth ⌝ }
+    requires { ⌜ width ≤ mostWidth ⌝ }
     ensures { λ r. ⌜ r ≡ isPair width a b ⌝ }
 {
     if width <= a {
@@ -23,7 +23,7 @@ fn is_pair(width: usize, a: usize, b: usize) -> bool
 
 // An AND takes one wire of a and one of b, on either side, an XOR two gates.
 fn in_form(width: usize, kind: usize, left: usize, right: usize) -> bool
-    requires { ⌜ width ≤ greatestWidth ⌝ }
+    requires { ⌜ width ≤ mostWidth ⌝ }
     ensures { λ r. ⌜ r ≡ isInForm width kind left right ⌝ }
 {
     if kind == 0 {
@@ -40,7 +40,7 @@ fn in_form(width: usize, kind: usize, left: usize, right: usize) -> bool
 
 // Gate k by its words.
 fn is_formed(width: usize, list: &[u32], k: usize) -> bool
-    requires { ⌜ (width ≤ greatestWidth) × (k < wordLimit) ⌝ }
+    requires { ⌜ (width ≤ mostWidth) × (k < wordLimit) ⌝ }
     ensures { λ r. ⌜ r ≡ isFormed width (now (list .entry)) k ⌝ }
 {
     let at = 2 + 3 * k;
@@ -52,7 +52,7 @@ fn is_formed(width: usize, list: &[u32], k: usize) -> bool
 
 // The first g gates.
 pub(crate) fn are_formed(width: usize, list: &[u32], g: usize) -> bool
-    requires { ⌜ (width ≤ greatestWidth) × (g < wordLimit) ⌝ }
+    requires { ⌜ (width ≤ mostWidth) × (g < wordLimit) ⌝ }
     ensures { λ r. ⌜ r ≡ every g (isFormed width (now (list .entry))) ⌝ }
 {
     let mut k = 0;

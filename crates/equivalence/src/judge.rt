@@ -4,11 +4,11 @@ ghost use mathlib.Core.List.{_++_};
 ghost use Prim.Native.Nat.{_≤_};
 ghost use Rattle.judging.specs.Causes.{faultOf};
 ghost use Rattle.table.specs.Rows.{Shaped};
-ghost use Rattle.equivalence.specs.Causes.{greatestWidth, sizeCauses, tableCauses, limitCauses, gateCauses, outputCauses};
+ghost use Rattle.equivalence.specs.Causes.{mostWidth, sizeCauses, tableCauses, limitCauses, gateCauses, outputCauses};
 ghost use Rattle.equivalence.specs.Calls.{acceptFault};
 ghost use Rattle.equivalence.specs.Inner.{Ready};
-use crate::MAX_GATES;
-use crate::MAX_WIDTH;
+use crate::MOST_GATES;
+use crate::MOST_WIDTH;
 use crate::gates;
 use crate::outputs;
 use crate::sets;
@@ -42,10 +42,10 @@ fn judge_handed(width: usize, table: &[u8], list: &[u32]) -> Fault
 fn judge_limits(width: usize, list: &[u32]) -> Fault
     ensures { λ r. ⌜ r ≡ faultOf (limitCauses width (now (list .entry))) ⌝ }
 {
-    if MAX_WIDTH < width {
+    if MOST_WIDTH < width {
         return Fault::List(ListFault::Size);
     }
-    if MAX_GATES < runner::word(list, 1) {
+    if MOST_GATES < runner::word(list, 1) {
         return Fault::List(ListFault::Size);
     }
     Fault::None
@@ -53,7 +53,7 @@ fn judge_limits(width: usize, list: &[u32]) -> Fault
 
 // 18, then 20.
 fn judge_gates(width: usize, list: &[u32]) -> Fault
-    requires { ⌜ (2 ≤ width) × (width ≤ greatestWidth) ⌝ }
+    requires { ⌜ (2 ≤ width) × (width ≤ mostWidth) ⌝ }
     ensures { λ r. ⌜ r ≡ faultOf (gateCauses width (now (list .entry))) ⌝ }
 {
     let wired = runner::judge_gates(width, list);

@@ -1,10 +1,6 @@
 // Accepting a gate list from elsewhere: combinational equivalence of the list and a table's product, by the products that are summed in
 // each gate. All is judged in document 02's order, (b), and nothing is written.
 ghost use mathlib.Core.Path.{_≡_};
-ghost use mathlib.Core.List.{List};
-ghost use Prim.Native.Nat.{_≤_};
-ghost use Rattle.netlist.specs.Gates.{andGates};
-ghost use Rattle.netlist.specs.Running.{gatesTo};
 ghost use Rattle.equivalence.specs.Calls.{acceptCall};
 use judging::is_none;
 use netlist::AndCount;
@@ -17,9 +13,9 @@ mod outputs;
 mod sets;
 
 // The greatest width and the most gates of a list that is compared.
-pub(crate) const MAX_WIDTH: usize = 16;
+pub(crate) const MOST_WIDTH: usize = 16;
 
-pub(crate) const MAX_GATES: usize = 2000;
+pub(crate) const MOST_GATES: usize = 2000;
 
 pub fn accept(width: usize, table: &[u8], list: &[u32]) -> CountsAnswer
     ensures { λ r. ⌜ r ≡ acceptCall width (now (table .entry)) (now (list .entry)) ⌝ }

@@ -7,25 +7,25 @@ ghost use Rattle.gf2.specs.Operands.{minus as minusOf};
 ghost use Rattle.judging.specs.Causes.{faultOf};
 ghost use Rattle.table.specs.Rows.{Shaped};
 ghost use Rattle.netlist.specs.Sets.{wanted, sameProducts, isRightOutput};
-ghost use Rattle.equivalence.specs.Causes.{greatestWidth, mostGates, outputCauses};
+ghost use Rattle.equivalence.specs.Causes.{mostWidth, mostGates, outputCauses};
 ghost use Rattle.equivalence.specs.Inner.{HasSets, bitAt, AllGathered};
-use crate::MAX_WIDTH;
+use crate::MOST_WIDTH;
 use crate::sets;
 use judging::Fault;
 use judging::ListFault;
 
 // Whether ai·bj is in the square of gate k.
 fn in_set(squares: &[u64], k: usize, i: usize, j: usize) -> u64
-    requires { ⌜ HasSets (now squares) × (k < mostGates) × (i < greatestWidth) × (j < greatestWidth) ⌝ }
+    requires { ⌜ HasSets (now squares) × (k < mostGates) × (i < mostWidth) × (j < mostWidth) ⌝ }
     ensures { λ r. ⌜ r ≡ bitAt (now (squares .entry)) k i j ⌝ }
 {
-    let n = sets::BITS * k + (MAX_WIDTH * i + j);
+    let n = sets::BITS * k + (MOST_WIDTH * i + j);
     (squares[n / 64] >> (n % 64)) % 2
 }
 
 // i - k modulo the width.
 fn minus(width: usize, i: usize, k: usize) -> usize
-    requires { ⌜ (width ≤ greatestWidth) × (i < width) × (k < width) ⌝ }
+    requires { ⌜ (width ≤ mostWidth) × (i < width) × (k < width) ⌝ }
     ensures { λ r. ⌜ (r ≡ minusOf width i k) × (r < width) ⌝ }
 {
     if k <= i { i - k } else { i + (width - k) }
@@ -33,7 +33,7 @@ fn minus(width: usize, i: usize, k: usize) -> usize
 
 // Whether βi·βj has coordinate r: row j - i, turned i places.
 fn is_wanted(width: usize, table: &[u8], r: usize, i: usize, j: usize) -> u64
-    requires { ⌜ Shaped width (now table) × (width ≤ greatestWidth) × (r < width) × (i < width) × (j < width) ⌝ }
+    requires { ⌜ Shaped width (now table) × (width ≤ mostWidth) × (r < width) × (i < width) × (j < width) ⌝ }
     ensures { λ v. ⌜ v ≡ wanted width (now (table .entry)) r i j ⌝ }
 {
     let row = minus(width, j, i) * limbs::bytes_for(width);
@@ -42,7 +42,7 @@ fn is_wanted(width: usize, table: &[u8], r: usize, i: usize, j: usize) -> u64
 
 // Row i of the square of gate k.
 fn same_row(width: usize, table: &[u8], squares: &[u64], k: usize, r: usize, i: usize) -> bool
-    requires { ⌜ Shaped width (now table) × (width ≤ greatestWidth) × HasSets (now squares) × (k < mostGates) × (r < width) × (i < width) ⌝ }
+    requires { ⌜ Shaped width (now table) × (width ≤ mostWidth) × HasSets (now squares) × (k < mostGates) × (r < width) × (i < width) ⌝ }
     ensures { λ b. ⌜ b ≡ every width (λ j. eqb (bitAt (now (squares .entry)) k i j) (wanted width (now (table .entry)) r i j)) ⌝ }
 {
     let mut j = 0;
@@ -57,7 +57,7 @@ fn same_row(width: usize, table: &[u8], squares: &[u64], k: usize, r: usize, i: 
 
 // The square of gate k, as far as the width goes.
 fn same_set(width: usize, table: &[u8], squares: &[u64], k: usize, r: usize) -> bool
-    requires { ⌜ Shaped width (now table) × (width ≤ greatestWidth) × HasSets (now squares) × (k < mostGates) × (r < width) ⌝ }
+    requires { ⌜ Shaped width (now table) × (width ≤ mostWidth) × HasSets (now squares) × (k < mostGates) × (r < width) ⌝ }
     ensures { λ b. ⌜ b ≡ sameProducts width (bitAt (now (squares .entry)) k) (wanted width (now (table .entry)) r) ⌝ }
 {
     let mut i = 0;
@@ -77,10 +77,10 @@ fn is_right(width: usize, table: &[u8], list: &[u32], squares: &[u64], r: usize)
 {
     let first = 2 + 3 * runner::word(list, 1);
     let wire = runner::word(list, first + r);
-    if wire < 2 * width {
-        return false;
+    if 2 * width <= wire {
+        return same_set(width, table, squares, wire - 2 * width, r);
     }
-    same_set(width, table, squares, wire - 2 * width, r)
+    false
 }
 
 // All outputs, to the first that is wrong.

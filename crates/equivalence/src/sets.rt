@@ -1,31 +1,31 @@
-// The products that are summed in each gate, as bits: a square of MAX_WIDTH by MAX_WIDTH for each gate, ai·bj at row i and column j.
+// The products that are summed in each gate, as bits: a square of MOST_WIDTH by MOST_WIDTH for each gate, ai·bj at row i and column j.
 ghost use mathlib.Core.Path.{_≡_};
 ghost use Prim.Native.Nat.{_+_, _*_, _/_, _%_, _^_, _<_, _≤_};
 ghost use lib.ListN.{set};
 ghost use Rattle.netlist.specs.Running.{gateCount};
 ghost use Rattle.netlist.specs.Judgements.{InForm};
-ghost use Rattle.equivalence.specs.Causes.{greatestWidth, mostGates};
+ghost use Rattle.equivalence.specs.Causes.{mostWidth, mostGates};
 ghost use Rattle.equivalence.specs.Inner.{setBits, setLimbs, HasSets, placeOf, Ready, Gathered, SumPut};
-use crate::MAX_GATES;
-use crate::MAX_WIDTH;
+use crate::MOST_GATES;
+use crate::MOST_WIDTH;
 
 // The bits and the limbs of a gate's square.
-pub(crate) const BITS: usize = MAX_WIDTH * MAX_WIDTH;
+pub(crate) const BITS: usize = MOST_WIDTH * MOST_WIDTH;
 
 const LIMBS: usize = BITS / 64;
 
 // The limbs of all: 64,000 bytes.
-pub(crate) const ROOM: usize = MAX_GATES * LIMBS;
+pub(crate) const ROOM: usize = MOST_GATES * LIMBS;
 
 // Where the product of a wire of a and one of b has its bit.
 fn place(width: usize, left: usize, right: usize) -> usize
-    requires { ⌜ (width ≤ greatestWidth) × InForm width 0 left right ⌝ }
+    requires { ⌜ (width ≤ mostWidth) × InForm width 0 left right ⌝ }
     ensures { λ r. ⌜ (r ≡ placeOf width left right) × (r < setBits) ⌝ }
 {
     if left < width {
-        return MAX_WIDTH * left + (right - width);
+        return MOST_WIDTH * left + (right - width);
     }
-    MAX_WIDTH * right + (left - width)
+    MOST_WIDTH * right + (left - width)
 }
 
 // The square of gate k, which was clear, with one product.

@@ -12,7 +12,7 @@ use Rattle.table.specs.Judgements.{symmetryFault}
 use Rattle.product.specs.Calls.{productInto}
 use Rattle.netlist.specs.Running.{gateCount}
 use Rattle.runner.specs.Causes.{runBytesCauses}
-use Rattle.equivalence.specs.Causes.{greatestWidth}
+use Rattle.equivalence.specs.Causes.{mostWidth}
 use Rattle.equivalence.specs.Calls.{acceptFault}
 use Rattle.equivalence.specs.Statements.{Comparable, OwnLists}
 use Rattle.nb.specs.Calls.{ranResult}
@@ -33,4 +33,4 @@ pub record Acceptance : Type 0 where
   pub exactly : (m : ℕ) (table list : List ℕ) → symmetryFault m table ≡ None → Comparable m list →
       (acceptFault m table list ≡ None) ↔ RunsToAllProducts m table list
   -- so the lists that nb_list_plain, nb_list_reduced and nb_list_common write, where they have at most 2,000 gates
-  pub own : (m : ℕ) (table : List ℕ) → symmetryFault m table ≡ None → m ≤ greatestWidth → OwnLists m table
+  pub own : (m : ℕ) (table : List ℕ) → symmetryFault m table ≡ None → m ≤ mostWidth → OwnLists m table

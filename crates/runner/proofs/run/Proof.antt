@@ -1,7 +1,6 @@
 -- `runner::run` meets its contract.
 use mathlib.Core.Path.{sym, _∙_}
 use mathlib.Core.List.{[]}
-use native.Mathlib.Omega.{arith}
 use lib.ListN.{length}
 use borrow.Author.Tests.{not-true, not-false}
 use Rattle.judging.proofs.CauseLaws.{fine, judged, ends, follows}

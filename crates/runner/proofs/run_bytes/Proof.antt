@@ -1,7 +1,6 @@
 -- `runner::run_bytes` meets its contract.
 use mathlib.Core.Path.{sym, _∙_}
 use mathlib.Core.List.{[], _∷_}
-use native.Mathlib.Omega.{arith}
 use lib.ListN.{length}
 use borrow.Author.Tests.{not-true, not-false}
 use Rattle.judging.specs.FaultTable.{badWidth, notW}

@@ -3,7 +3,7 @@ use mathlib.Core.List.{[], _++_}
 use borrow.Author.Tests.{ltb-false, not-true, not-false}
 use Rattle.judging.proofs.CauseLaws.{Fine, fine, judged, ends, follows}
 use Rattle.judging.proofs.Passed.{is-width}
-use Rattle.equivalence.specs.Causes.{greatestWidth, sizeCauses, tableCauses, limitCauses, gateCauses, outputCauses}
+use Rattle.equivalence.specs.Causes.{mostWidth, sizeCauses, tableCauses, limitCauses, gateCauses, outputCauses}
 use Rattle.equivalence.proofs.AcceptLaws.{list-ready, table-shaped}
 use borrow.Author.Needs.{needs}
 use Rattle.equivalence.proofs.judge.judge_all.Statement.{statement}
@@ -44,7 +44,7 @@ gates c =
     fine cs (judged cs [] (c .before .before .judge-gates .ensures) (c .before .is-none3 .ensures) (not-false _ (c .if3 .left)))
 
 judge-gates-requires : tie.Need-judge-gates-requires
-judge-gates-requires c κs = (is-width _ (handed (c .before .before .before) .0) .least, ltb-false greatestWidth _ (limits c .0))
+judge-gates-requires c κs = (is-width _ (handed (c .before .before .before) .0) .least, ltb-false mostWidth _ (limits c .0))
 
 returns-3 : tie.Need-returns-3
 returns-3 c =

@@ -8,14 +8,14 @@ use Rattle.gf2.specs.Operands.{bytesFor, minus}
 use Rattle.gf2.proofs.Operands.{minus-lt}
 use Rattle.netlist.proofs.ListLaws.{pair-coord}
 use Rattle.netlist.proofs.TableLaws.{row-coord}
-use Rattle.equivalence.specs.Causes.{greatestWidth}
+use Rattle.equivalence.specs.Causes.{mostWidth}
 use borrow.Author.Needs.{needs}
 use Rattle.equivalence.proofs.outputs.is_wanted.Statement.{statement}
 use Rattle.equivalence.proofs.outputs.is_wanted.Tie as tie
 
 -- a row's first byte is among the first few
-small : (c : tie.After-bytes-for) → c .before .minus .result * c .bytes-for .result ≤ greatestWidth * greatestWidth
-small c = mul-le-mul {n₁ = c .before .minus .result} {m₁ = c .bytes-for .result} {n₂ = greatestWidth} {m₂ = greatestWidth}
+small : (c : tie.After-bytes-for) → c .before .minus .result * c .bytes-for .result ≤ mostWidth * mostWidth
+small c = mul-le-mul {n₁ = c .before .minus .result} {m₁ = c .bytes-for .result} {n₂ = mostWidth} {m₂ = mostWidth}
     (omega (arith, c .before .minus .ensures .1, c .before .before .before .pre .1)) (omega (arith, c .bytes-for .ensures, c .before .before .before .pre .1))
 
 returns : tie.Need-returns

@@ -1,10 +1,9 @@
 -- `equivalence::outputs::judge_outputs` meets its contract. The invariant: the outputs before r are right.
-use mathlib.Core.Path.{_≡_, refl, sym, ap, _∙_}
+use mathlib.Core.Path.{_≡_, sym, ap, _∙_}
 use mathlib.Core.Bool.{not}
 use mathlib.Core.List.{[], _∷_}
 use Prim.Native.Nat.{_-_, _≤_}
 use native.Mathlib.Omega.{arith}
-use borrow.Author.Tests.{not-true, not-false}
 use Rattle.judging.specs.Causes.{faultOf}
 use Rattle.judging.proofs.Searches.{upTo, up-start, none-left, one-found, one-fails}
 use Rattle.equivalence.specs.Causes.{wrongOutput, outputCauses}

@@ -1,6 +1,4 @@
 -- `equivalence::sets::place` meets its contract.
-use mathlib.Core.Path.{sym, ap}
-use mathlib.Core.Logic.{⊎-elim}
 use native.Mathlib.Omega.{arith}
 use borrow.Author.Tests.{lt-ltb, le-ltb}
 use Rattle.equivalence.proofs.SquareLaws.{place-small, pair-left, pair-right}

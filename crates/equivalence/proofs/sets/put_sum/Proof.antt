@@ -1,5 +1,5 @@
 -- `equivalence::sets::put_sum` meets its contract. The invariant: the first w limbs are summed.
-use mathlib.Core.Path.{_≡_, refl, _∙_}
+use mathlib.Core.Path.{_≡_}
 use Prim.Native.Nat.{_-_, _≤_}
 use native.Mathlib.Omega.{arith}
 use Rattle.equivalence.specs.Inner.{setLimbs, SumPut}
