@@ -1,5 +1,6 @@
-/* Proved arithmetic in GF(2^m), in a normal basis, for C: the check of a table, products, inverse, trace, quadratic, gate lists,
- * drawn tables and cards, every call of document 01 on byte buffers. docs/FAULTS.md has document 01's table of faults in words.
+/* Proved arithmetic in GF(2^m), in a normal basis, for C: the check of a table, products, inverse, trace, quadratic, gate lists, the
+ * acceptance of lists from elsewhere, drawn tables and cards, every call of document 01 and of document 02's request (b) on byte
+ * buffers. docs/FAULTS.md has document 01's table of faults in words.
  *
  * Every call is proved to do what is said here, for every content and every length: the contracts stand above the functions of
  * crates/nb/src and cite the definitions of crates/nb/specs. `rt staticlib nb` writes target/staticlib/libnb.a, for x86-64 Linux,
@@ -19,9 +20,9 @@
  * stays.
  *
  * Answers. Each call returns one number: number + 2^8 · first + 2^36 · second. Number 0 is success; else it is the number of the
- * fault in document 01's table (NB_.. below), the lowest that applies, except that a card is judged in byte order. With a fault
- * every buffer is as it was, and first and second are 0 but for NB_ROW_PAIR (first is d) and NB_TRIPLE (first is i, second j; i is
- * always 0). Where no first or second is named, it is 0.
+ * fault in document 01's table (NB_.. below), the lowest that applies, except that a card is judged in byte order and nb_accept gives
+ * 19 before 18. With a fault every buffer is as it was, and first and second are 0 but for NB_ROW_PAIR (first is d), NB_TRIPLE (first
+ * is i, second j; i is always 0) and NB_OUTPUT_SET (first is r). Where no first or second is named, it is 0.
  *
  * The caller. The proofs take for granted: a pointer is not null, even at length 0, and points to as many elements as the length
  * says, aligned for their type; a buffer that a call writes overlaps no other argument of that call. Arguments that are only read
@@ -39,7 +40,9 @@
  *     word 2 + 3g + r            the output wire of coordinate r, r from 0 to m-1
  *
  * Wires 0 to m-1 are the coordinates of a, m to 2m-1 those of b, and wire 2m + n is what gate n gives. A gate reads earlier wires
- * alone. Every list begins with the m² AND gates, gate i·m + j being ai·bj.
+ * alone. Every list that is written begins with the m² AND gates, gate i·m + j being ai·bj. A list from elsewhere need not; to be
+ * accepted it must be of this form: an AND takes one wire of a and one of b, on either side, and an XOR takes two gates, which may be
+ * one and the same. The wire of each gate is then a sum of products ai·bj, and a gate that nothing reads does no harm.
  *
  * Cards. A card is a table for a file or a line: the number 1 (its form), m, and for each row the number of its ones, the place of the
  * first, and for each further one its place minus the previous minus 1. A number below 128 is a byte, one from 128 on two: the
@@ -91,7 +94,10 @@ enum nb_fault {
     NB_CARD_PLACE = 15,      /* count above m, or place m or above */
     NB_CARD_TAIL = 16,       /* bytes after the card */
     NB_NO_TYPE = 17,         /* type 0 */
-    NB_BAD_GATE = 18         /* kind above 1, gate wire not earlier, output wire absent */
+    NB_BAD_GATE = 18,        /* kind above 1, gate wire not earlier, output wire absent */
+    NB_LIST_SIZE = 19,       /* list to accept: width above 16, or more than 2,000 gates */
+    NB_GATE_FORM = 20,       /* gate outside the form */
+    NB_OUTPUT_SET = 21       /* output's set of products wrong: least r */
 };
 
 /* The check. Success exactly when the operands of the width form a field under the table whose square is the turn by one.
@@ -154,6 +160,13 @@ uint64_t nb_list_common(uint64_t width, const uint8_t *table, size_t table_len, 
  * wires; 3 in a, b; 18. Stack: 1,024. */
 uint64_t nb_run(uint64_t width, const uint32_t *list, size_t list_len, const uint8_t *a, size_t a_len, const uint8_t *b,
                 size_t b_len, uint8_t *result, size_t result_len, uint8_t *wires, size_t wires_len);
+
+/* Whether the list forms the table's plain product: among the lists of the form above, success exactly when nb_run gives what nb_product
+ * gives, for all a and b. The table need not be accepted. first: the list's AND gates, second: its XOR gates.
+ * Faults, in this order: 1; 2 table, list (as for nb_run); 3 in a row; 4; 5 with d; 19 where the width is above 16 or the list has more
+ * than 2,000 gates; 18; 20 where a gate is outside the form; 21 with r, the least coordinate whose output is an input wire, or sums
+ * other products than the ai·bj for which βi·βj has coordinate r. Stack: 69,632. */
+uint64_t nb_accept(uint64_t width, const uint8_t *table, size_t table_len, const uint32_t *list, size_t list_len);
 
 /* first: the least type T of a Gaussian normal basis of the width. Faults: 1; 17 where 8 divides the width, which has none.
  * Not a call of document 01: nb_draw's answer without the table. Stack: 1,024. */
