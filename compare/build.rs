@@ -4,7 +4,7 @@
 use std::path::{Path, PathBuf};
 use std::{env, fs};
 
-const CRATES: [&str; 18] = [
+const CRATES: [&str; 19] = [
     "limbs",
     "ones",
     "quadratic",
@@ -19,6 +19,7 @@ const CRATES: [&str; 18] = [
     "card_writer",
     "netlist",
     "runner",
+    "equivalence",
     "list_pairs",
     "list_folds",
     "list_writer",
@@ -82,10 +83,14 @@ fn main() {
     println!("cargo:rustc-link-search=native={}", archive.parent().unwrap().display());
     let name = archive.file_stem().unwrap().to_str().unwrap();
     println!("cargo:rustc-link-lib=static={}", name.strip_prefix("lib").expect("an archive's name begins with lib"));
-    // An earlier library, which compare/before-after links, may have no nb_zero and nb_one: the benchmark then leaves them out.
-    println!("cargo:rustc-check-cfg=cfg(constants)");
-    if fs::read(&archive).unwrap().windows(7).any(|name| name == b"nb_zero") {
-        println!("cargo:rustc-cfg=constants");
+    // An earlier library, which compare/before-after and compare/same-answers link, may have no nb_zero and nb_one, or no nb_accept:
+    // these are then left out.
+    let bytes = fs::read(&archive).unwrap();
+    for (cfg, call) in [("constants", "nb_zero"), ("accept", "nb_accept")] {
+        println!("cargo:rustc-check-cfg=cfg({cfg})");
+        if bytes.windows(call.len()).any(|name| name == call.as_bytes()) {
+            println!("cargo:rustc-cfg={cfg}");
+        }
     }
 
     let mut same = String::new();

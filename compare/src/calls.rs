@@ -4,10 +4,14 @@
 use crate::bits::{self, bytes_for, MAX_WIDTH};
 use crate::card;
 use crate::field::{self, judge, Table};
-use crate::gates::{self, Method};
+use crate::gates::{self, List, Method, ACCEPTED_WIDTH};
 use crate::gaussian;
-use crate::inputs::{all_accepted, damaged, dense, drawable, operand, some_card, sparse_symmetric, symmetric, table, Source};
+use crate::inputs::{
+    all_accepted, change_in_form, change_word, damaged, dense, drawable, operand, some_card, sparse_symmetric, symmetric, table,
+    with_detour, with_unused, Source,
+};
 pub use crate::proved::Call;
+use crate::shrinker::shrunk;
 use crate::{Answer, Pair};
 
 /// Above this width the tables of lists, runs and inverses have few ones: a list of m³/2 gates would have too many words, and the
@@ -45,6 +49,7 @@ impl Call {
             Call::list_reduced { width, table, out } => gates::write(*width, table, Reduced, out),
             Call::list_common { width, table, out } => gates::write(*width, table, Common, out),
             Call::run { width, list, a, b, result, wires } => nothing(gates::run(*width, list, a, b, result, wires)),
+            Call::accept { width, table, list } => gates::accept(*width, table, list),
             Call::type_of { width } => first(gaussian::type_of(*width)),
             Call::draw { width, table } => first(gaussian::draw(*width, table)),
             Call::card_write { width, table, out } => first(card::write(*width, table, out)),
@@ -63,6 +68,14 @@ fn list_words(t: &Table) -> [usize; 3] {
     [plain, m * (m - 1 + ones - 1) / 2, common].map(|xors| 2 + 3 * (m * m + xors) + m)
 }
 
+/// A list of one gate. It forms no product, and stands for all lists of a width above those where gates are looked at.
+fn one_gate(m: usize) -> Vec<u32> {
+    let mut list = List::new(m);
+    let wire = list.gate(0, 0, m);
+    (0..m).for_each(|_| list.output(wire));
+    list.finished()
+}
+
 /// A group of calls, made for a width.
 pub type Group = fn(&mut Maker, usize) -> Vec<Call>;
 
@@ -77,13 +90,14 @@ pub struct Maker {
 
 impl Maker {
     /// All calls, in groups.
-    pub const GROUPS: [(&'static str, Group); 8] = [
+    pub const GROUPS: [(&'static str, Group); 9] = [
         ("operands", Maker::operands),
         ("tables", Maker::tables),
         ("products", Maker::products),
         ("inverses", Maker::inverses),
         ("lists", Maker::lists),
         ("runs", Maker::runs),
+        ("accepts", Maker::accepts),
         ("draws", Maker::draws),
         ("cards", Maker::cards),
     ];
@@ -237,32 +251,54 @@ impl Maker {
         ]
     }
 
-    pub fn runs(&mut self, width: usize) -> Vec<Call> {
-        let n = self.near(width);
-        let t = self.light(n);
+    /// The plain, reduced or common list of a table that passes 4 and 5.
+    fn list_of(&mut self, n: usize, table: &[u8]) -> Vec<u32> {
         let method = [Method::Plain, Method::Reduced, Method::Common][self.source.below(3)];
-        let mut list = gates::list(&Table::new(n, &t), method);
+        gates::list(&Table::new(n, table), method)
+    }
+
+    /// A list with a word changed, its length changed, both or neither.
+    fn perhaps_damaged_list(&mut self, mut list: Vec<u32>, change: fn(&mut Source, &mut [u32])) -> Vec<u32> {
         if self.harms() {
-            let g = list[1] as usize;
-            let gate = self.source.below(g);
-            // A kind; the last wire that a gate or an output can read, or the first that it can't; any word.
-            let (at, word) = match self.source.below(5) {
-                0 => (2 + 3 * gate, self.source.below(4)),
-                1 | 2 => (3 + 3 * gate + self.source.below(2), 2 * n + gate - self.source.below(2)),
-                3 => (2 + 3 * g + self.source.below(n), 2 * n + g - self.source.below(2)),
-                _ => (self.source.below(list.len()), self.source.next() as usize),
-            };
-            list[at] = word as u32;
+            change(&mut self.source, &mut list);
         }
         if self.harms() {
             let length = [list.len() - 1, list.len() + 1, self.source.below(4)][self.source.below(3)];
             list.resize(length, 0);
         }
+        list
+    }
+
+    pub fn runs(&mut self, width: usize) -> Vec<Call> {
+        let n = self.near(width);
+        let t = self.light(n);
+        let list = self.list_of(n, &t);
+        let list = self.perhaps_damaged_list(list, change_word);
         let g = list.get(1).map_or(0, |&g| g as usize);
         let wires = self.source.bytes(2 * n + if 3 * g < list.len() { g } else { 7 });
         let wires = self.perhaps_damaged(n, 0, wires);
         let (a, b, result) = (self.operand(width), self.operand(width), self.result(width));
         vec![Call::run { width, list, a, b, result, wires }]
+    }
+
+    /// A table and its list, perhaps shrunk or with gates more; where harm is done, the list is changed or the table is another.
+    pub fn accepts(&mut self, width: usize) -> Vec<Call> {
+        let n = self.near(width);
+        let table = self.light(n);
+        let list = match self.source.below(8) {
+            _ if n > ACCEPTED_WIDTH => one_gate(n),
+            0 => shrunk(&self.list_of(n, &table)),
+            1 => with_unused(self.list_of(n, &table), 1),
+            2 => {
+                let list = self.list_of(n, &table);
+                with_detour(&mut self.source, list)
+            }
+            _ => self.list_of(n, &table),
+        };
+        let change = [change_word, change_in_form][self.source.below(2)];
+        let list = self.perhaps_damaged_list(list, change);
+        let table = if self.harms() { self.table(width) } else { self.perhaps_damaged(n, bytes_for(n), table) };
+        vec![Call::accept { width, table, list }]
     }
 
     pub fn draws(&mut self, width: usize) -> Vec<Call> {

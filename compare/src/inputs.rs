@@ -1,4 +1,4 @@
-//! Inputs for the comparison: widths, operands, tables and cards, good and damaged, from one seed.
+//! Inputs for the comparison: widths, operands, tables, gate lists and cards, good and damaged, from one seed.
 
 use crate::bits::{added, bytes_for, judge_width, pack, turned, Bits, MAX_WIDTH};
 use crate::card::card;
@@ -201,6 +201,71 @@ pub fn damaged(source: &mut Source, m: usize, row_bytes: usize, mut bytes: Vec<u
         bytes.resize([n - 1, n + 1, 0, 2 * n][source.below(4)], 0);
     }
     bytes
+}
+
+/// Where the words of a list's gates end: gate n begins at 2 + 3n, and the outputs follow the last.
+fn gates_end(list: &[u32]) -> usize {
+    2 + 3 * list[1] as usize
+}
+
+/// Gates put behind the last, each its kind and its two wires.
+pub fn push_gates(list: &mut Vec<u32>, gates: &[[u32; 3]]) {
+    let end = gates_end(list);
+    list[1] += gates.len() as u32;
+    list.splice(end..end, gates.concat());
+}
+
+/// A list with so many gates more that no output reads. They are of the form: XORs of the first gate and the one before.
+pub fn with_unused(mut list: Vec<u32>, more: usize) -> Vec<u32> {
+    let (first, next) = (2 * list[0], 2 * list[0] + list[1]);
+    let gates: Vec<_> = (next..next + more as u32).map(|wire| [1, first, wire - 1]).collect();
+    push_gates(&mut list, &gates);
+    list
+}
+
+/// A list in which an output has a gate added and, behind that, added again: its sum is as before.
+pub fn with_detour(source: &mut Source, mut list: Vec<u32>) -> Vec<u32> {
+    let (first, next) = (2 * list[0], 2 * list[0] + list[1]);
+    let (r, added) = (source.below(list[0] as usize), first + source.below(list[1] as usize) as u32);
+    let output = list[gates_end(&list) + r];
+    push_gates(&mut list, &[[1, output, added], [1, added, next]]);
+    let end = gates_end(&list);
+    list[end + r] = next + 1;
+    list
+}
+
+/// A word of a list changed: a kind; to any wire that a gate can read; to the last that a gate or an output can, or the first that it
+/// can't; to any word.
+pub fn change_word(source: &mut Source, list: &mut [u32]) {
+    let (m, g) = (list[0] as usize, list[1] as usize);
+    let gate = source.below(g);
+    let (at, word) = match source.below(6) {
+        0 => (2 + 3 * gate, source.below(4)),
+        1 => (3 + 3 * gate + source.below(2), source.below(2 * m + gate)),
+        2 | 3 => (3 + 3 * gate + source.below(2), 2 * m + gate - source.below(2)),
+        4 => (gates_end(list) + source.below(m), 2 * m + g - source.below(2)),
+        _ => (source.below(list.len()), source.next() as usize),
+    };
+    list[at] = word as u32;
+}
+
+/// A list of the form changed so that it stays of the form: an operand of a gate to another wire of its kind, a gate's operands
+/// exchanged, two outputs exchanged, an output to any wire or to an input wire.
+pub fn change_in_form(source: &mut Source, list: &mut [u32]) {
+    let (m, g, outputs) = (list[0] as usize, list[1] as usize, gates_end(list));
+    let gate = source.below(g);
+    let at = 2 + 3 * gate;
+    match source.below(8) {
+        0 => list.swap(at + 1, at + 2),
+        1 => list.swap(outputs + source.below(m), outputs + source.below(m)),
+        2 => list[outputs + source.below(m)] = source.below(2 * m) as u32,
+        3 => list[outputs + source.below(m)] = source.below(2 * m + g) as u32,
+        _ => {
+            let operand = at + 1 + source.below(2);
+            let wires = [0..m, m..2 * m, 2 * m..2 * m + gate][(list[operand] as usize / m).min(2)].clone();
+            list[operand] = (wires.start + source.below(wires.len())) as u32;
+        }
+    }
 }
 
 /// A card of some table, changed so many times: cut off, longer, or with bytes changed.

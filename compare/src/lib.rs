@@ -1,8 +1,10 @@
-//! An independent version of every call of document 01, by coordinates and not optimised, to compare with the proved one.
+//! An independent version of every call of document 01 and of document 02's request (b), by coordinates and not optimised, to compare
+//! with the proved one.
 //!
 //! - `bits`: operands as vectors of bits, and the judgements of widths, lengths and high bits
 //! - `field`: tables, the check, products, inverse, trace and quadratic
-//! - `gates`: the three gate lists, their counts and the runner
+//! - `gates`: the three gate lists, their counts, the runner, and whether a list forms a table's product
+//! - `shrinker`: how a maker may shrink a gate list
 //! - `gaussian`: types, drawn tables, and the product by IEEE 1363's own way
 //! - `card`: reading and writing cards, and the report of a card
 //! - `inputs`: inputs for the comparison, from one seed
@@ -20,6 +22,7 @@ pub mod gaussian;
 pub mod inputs;
 pub mod proved;
 pub mod same;
+pub mod shrinker;
 pub mod stack;
 
 /// A fault of document 01: its number and the values returned beside it.

@@ -35,10 +35,18 @@ mod raw {
             width: u64, list: *const u32, list_len: usize, a: *const u8, a_len: usize, b: *const u8, b_len: usize,
             result: *mut u8, result_len: usize, wires: *mut u8, wires_len: usize,
         ) -> u64;
+        #[cfg(accept)]
+        pub fn nb_accept(width: u64, table: *const u8, table_len: usize, list: *const u32, list_len: usize) -> u64;
         pub fn nb_type(width: u64) -> u64;
         pub fn nb_draw(width: u64, table: *mut u8, table_len: usize) -> u64;
         pub fn nb_card_write(width: u64, table: *const u8, table_len: usize, out: *mut u8, out_len: usize) -> u64;
         pub fn nb_card_read(card: *const u8, card_len: usize, table: *mut u8, table_len: usize) -> u64;
+    }
+
+    /// In the place of the call that an earlier library doesn't have.
+    #[cfg(not(accept))]
+    pub unsafe fn nb_accept(_: u64, _: *const u8, _: usize, _: *const u32, _: usize) -> u64 {
+        panic!("the library that is linked has no nb_accept")
     }
 }
 
@@ -128,8 +136,16 @@ calls! {
     list_reduced = nb_list_reduced(width: num, table: bytes, out: outwords);
     list_common = nb_list_common(width: num, table: bytes, out: outwords);
     run = nb_run(width: num, list: words, a: bytes, b: bytes, result: out, wires: out);
+    accept = nb_accept(width: num, table: bytes, list: words);
     type_of = nb_type(width: num);
     draw = nb_draw(width: num, table: out);
     card_write = nb_card_write(width: num, table: bytes, out: out);
     card_read = nb_card_read(card: bytes, table: out);
+}
+
+impl Call {
+    /// Whether the library that is linked has the call.
+    pub fn is_linked(&self) -> bool {
+        cfg!(accept) || !matches!(self, Call::accept { .. })
+    }
 }

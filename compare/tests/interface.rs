@@ -5,6 +5,7 @@
 
 use compare::bits::{self, bytes_for, MAX_WIDTH};
 use compare::calls::{Call, Group, Maker};
+use compare::gates::ACCEPTED_WIDTH;
 use compare::inputs::{accepted, dense, drawable, sparse_symmetric, symmetric, Source, EDGES, METERS};
 use compare::{field, proved, Answer, Pair};
 use std::collections::{BTreeMap, BTreeSet};
@@ -12,7 +13,7 @@ use std::env;
 
 /// The numbers each call can give beside 0. The check can't give 7: rules 4, 5 and 6 imply rule 7, by theorem C of
 /// crates/gf2/specs/Statements.antt.
-const NUMBERS: [(&str, &[u32]); 22] = [
+const NUMBERS: [(&str, &[u32]); 23] = [
     ("check", &[1, 2, 3, 4, 5, 6]),
     ("ones", &[1, 2, 3]),
     ("product", &[1, 2, 3]),
@@ -31,6 +32,7 @@ const NUMBERS: [(&str, &[u32]); 22] = [
     ("list_reduced", &[1, 2, 3, 4, 5, 11]),
     ("list_common", &[1, 2, 3, 4, 5, 11]),
     ("run", &[1, 2, 3, 18]),
+    ("accept", &[1, 2, 3, 4, 5, 18, 19, 20, 21]),
     ("type_of", &[1, 17]),
     ("draw", &[1, 2, 17]),
     ("card_write", &[1, 2, 3, 11]),
@@ -97,7 +99,8 @@ impl Run {
     fn some_calls(&mut self) {
         let m = some_width(self.maker.source());
         let group = match self.maker.source().below(if m <= ANY_CHECK { 16 } else { 12 }) {
-            0..=4 => Maker::operands,
+            0..=3 => Maker::operands,
+            4 => Maker::accepts,
             5 | 6 | 14 | 15 => Maker::products,
             7 => Maker::inverses,
             8 | 12 | 13 => Maker::tables,
@@ -130,6 +133,7 @@ fn can(succeeds: bool, name: &str, m: usize) -> bool {
         _ if bits::judge_width(m).is_err() => !succeeds,
         "type_of" => succeeds == drawable(m),
         "draw" => !succeeds || drawable(m),
+        "accept" => !succeeds || m <= ACCEPTED_WIDTH,
         _ => true,
     }
 }

@@ -7,8 +7,8 @@ use compare::stack::taken;
 use std::collections::BTreeMap;
 use std::hint::black_box;
 
-/// 477 has the greatest type, 46.
-const WIDTHS: [usize; 14] = [2, 3, 8, 64, 65, 163, 233, 255, 256, 257, 283, 409, 477, 571];
+/// 16 is the greatest at which lists are accepted, 477 has the greatest type, 46.
+const WIDTHS: [usize; 15] = [2, 3, 8, 16, 64, 65, 163, 233, 255, 256, 257, 283, 409, 477, 571];
 
 /// Words of the longest list that is written here; for a longer one the room is too short, which is 11.
 const WORDS: usize = 1 << 24;
@@ -60,6 +60,7 @@ fn on_operands(most: &mut Most, m: usize, a: &[u8], b: &[u8], x: &mut [u8]) {
 }
 
 fn on_tables(most: &mut Most, m: usize, t: &[u8], a: &[u8], b: &[u8], x: &mut [u8]) {
+    let no_gates = [vec![m as u32, 0], vec![0; m]].concat();
     take! { most,
         "nb_check" nb::check(m, t);
         "nb_ones" nb::ones(m, t);
@@ -69,10 +70,13 @@ fn on_tables(most: &mut Most, m: usize, t: &[u8], a: &[u8], b: &[u8], x: &mut [u
         "nb_counts_plain" nb::counts_plain(m, t);
         "nb_counts_reduced" nb::counts_reduced(m, t);
         "nb_counts_common" nb::counts_common(m, t);
+        "nb_accept" nb::accept(m, t, &no_gates);
+        "nb_accept" nb::accept(m, t, &[]);
     }
 }
 
-/// The lists of a table, and each run as it is and with its last word changed.
+/// The lists of a table, and each run and handed back as it is, with an output that is an input wire, with a gate outside the form beside
+/// it, and with an output that is absent.
 fn on_lists(most: &mut Most, m: usize, t: &[u8], a: &[u8], b: &[u8], words: &mut [u32]) {
     let mut x = vec![0; bytes_for(m)];
     for (name, write) in [
@@ -87,9 +91,14 @@ fn on_lists(most: &mut Most, m: usize, t: &[u8], a: &[u8], b: &[u8], words: &mut
         let g = words[1] as usize;
         let list = &mut words[..2 + 3 * g + m];
         let mut wires = vec![0; 2 * m + g];
-        take! { most, "nb_run" nb::run(m, list, a, b, &mut x, &mut wires); }
-        list[1 + 3 * g + m] = u32::MAX;
-        take! { most, "nb_run" nb::run(m, list, a, b, &mut x, &mut wires); }
+        let last = list.len() - 1;
+        for (at, word) in [(0, m as u32), (last, 0), (2, 1), (last, u32::MAX)] {
+            list[at] = word;
+            take! { most,
+                "nb_run" nb::run(m, list, a, b, &mut x, &mut wires);
+                "nb_accept" nb::accept(m, t, list);
+            }
+        }
     }
 }
 

@@ -1,6 +1,7 @@
 //! What the linked library answers: for each width and call how many inputs it was handed, good and damaged, and a digest of its answers
 //! and of every buffer after them. The inputs come from the independent version and one seed, so that two libraries that print the
-//! same lines have answered alike; compare/same-answers runs two.
+//! same lines have answered alike; compare/same-answers runs two. Calls that an earlier library doesn't have are made and not handed to
+//! it, so that all others are the same for both.
 //!
 //!     answers GREATEST [GROUP..]    # widths 0 to GREATEST and some that no library takes; all groups of calls, or those named
 
@@ -17,13 +18,13 @@ const HARMS: [usize; 3] = [0, 3, 12];
 /// Widths beyond every greatest one, and such as would be good if their upper bits were lost.
 const BEYOND: [usize; 5] = [65_536, 65_536 + 5, (1 << 32) + 5, usize::MAX - 1, usize::MAX];
 
-/// A card may state a width that only one of two libraries takes; such a card is left out.
+/// Whether the call is handed in. A card may state a width that only one of two libraries takes; such a card is left out.
 fn fits(call: &Call, greatest: usize) -> bool {
     let stated = match call {
         Call::card_read { card, .. } => stated_width(card),
         _ => None,
     };
-    !stated.is_some_and(|m| (greatest + 1..=MAX_WIDTH).contains(&m))
+    call.is_linked() && !stated.is_some_and(|m| (greatest + 1..=MAX_WIDTH).contains(&m))
 }
 
 fn main() {
