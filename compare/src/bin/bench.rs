@@ -4,11 +4,12 @@
 //!
 //! Prints the lines of docs/benchmark.csv, in nanoseconds, the ratio proved / Rust last, and on standard error how long the product
 //! takes by definition. With the argument `growth` it prints how each cost grows from width 65 to 571 instead, with `calls` the times at
-//! 233, type 2, and at 571, type 10, and those of the check over more tables, which compare/before-after reads; an earlier library that
-//! doesn't take a width is not timed there. Every time is of a whole call, with every judgement in it; lent buffers are not cleared
-//! before a call.
+//! 233, type 2, and at 571, type 10, those of accepting a list, and those of the check over more tables, which compare/before-after reads;
+//! an earlier library that doesn't take a width or has no such call is not timed there. Every time is of a whole call, with every
+//! judgement in it; lent buffers are not cleared before a call.
 
-use compare::inputs::{changed_pair, dense, Source};
+use compare::gates::{self, Method, ACCEPTED_GATES, ACCEPTED_WIDTH};
+use compare::inputs::{accepted, changed_pair, dense, with_unused, Source};
 use compare::proved::packed as proved;
 use compare::same::nb as same;
 use compare::{bits, card, field, gaussian};
@@ -146,6 +147,19 @@ fn measure(case: &Case) -> Vec<(&'static str, f64, f64)> {
     rows
 }
 
+/// What accepting is called: of a list with as many gates as are accepted.
+const ACCEPTING: &str = "accept of 2000 gates";
+
+/// Its times: at the greatest width the reduced list of an accepted table, half of whose coordinates are 1, and gates that nothing reads.
+fn accepting() -> (f64, f64) {
+    let (m, table) = (ACCEPTED_WIDTH, accepted(ACCEPTED_WIDTH));
+    let list = gates::list(&field::Table::new(m, &table), Method::Reduced);
+    let unused = ACCEPTED_GATES - list[1] as usize;
+    let list = with_unused(list, unused);
+    assert!(compare::proved::accept(m, &table, &list).is_ok());
+    times(|| { black_box(proved::accept(m, &table, &list)); }, || { black_box(same::netlists::nb_accept(m as u64, &table, &list)); })
+}
+
 /// Each call's name and its least times over the passes, case by case.
 fn least(cases: &[Case]) -> Vec<Vec<(&'static str, f64, f64)>> {
     let mut all: Vec<_> = cases.iter().map(measure).collect();
@@ -167,6 +181,9 @@ fn compared(cases: &[Case]) {
             println!("{name},{},{ours:.1},{theirs:.1},{:.2}", case.label.replace(", ", ","), ours / theirs);
         }
     }
+    let passes = (0..PASSES).map(|_| accepting());
+    let (ours, theirs) = passes.fold((f64::INFINITY, f64::INFINITY), |least, pass| (least.0.min(pass.0), least.1.min(pass.1)));
+    println!("{ACCEPTING},{ACCEPTED_WIDTH},dense,{ours:.1},{theirs:.1},{:.2}", ours / theirs);
     for (case, rows) in cases.iter().zip(&all).filter(|(case, _)| TYPED.contains(&case.m) && case.label.contains("type")) {
         let ours = rows[0].1;
         let mut result = vec![0; bits::bytes_for(case.m)];
@@ -196,6 +213,10 @@ fn calls() {
         for (name, ours, theirs) in measure(&case) {
             println!("{name}{at},{ours:.1},{theirs:.1}");
         }
+    }
+    if cfg!(accept) {
+        let (ours, theirs) = accepting();
+        println!("{ACCEPTING} at {ACCEPTED_WIDTH}; dense,{ours:.1},{theirs:.1}");
     }
     let mut checks = vec![];
     for m in [65, 97, 130, 163, 194, 233, 255, 283, 409, 571].into_iter().filter(takes) {
