@@ -49,10 +49,11 @@ InForm m (suc kind) left right = (¬ IsInput m left) × (¬ IsInput m right)
 abbrev pub HasOtherGate : ℕ → List ℕ → Type 0
 HasOtherGate m list = (k : ℕ) × (k < gateCount list) × (¬ InForm m (kindAt list k) (leftAt list k) (rightAt list k))
 
--- one wire of a and one of b, in this order
+-- the tests of it: one wire of a and one of b, in this order
 abbrev pub isPair : ℕ → ℕ → ℕ → Bool
 isPair m a b = ltb a m && (leb m b && ltb b (2 * m))
 
+-- a gate of this kind, left and right wire
 unfoldable pub isInForm : ℕ → ℕ → ℕ → ℕ → Bool
 isInForm m zero left right = isPair m left right || isPair m right left
 isInForm m (suc kind) left right = leb (2 * m) left && leb (2 * m) right

@@ -18,6 +18,7 @@ use Rattle.netlist.specs.Judgements.{IsInput}
 abbrev pub Products : Type 0
 Products = ℕ → ℕ → ℕ
 
+-- the empty set
 abbrev pub noProducts : Products
 noProducts i j = 0
 
@@ -43,6 +44,7 @@ gather m (g ∷ gs) sets = gather m gs (sets ++ (gateSet m sets g ∷ []))
 unfoldable pub setsOf : ℕ → Netlist → List Products
 setsOf m list = gather m (list .gates) (replicate (2 * m) noProducts)
 
+-- "for each wire, the set of products"
 abbrev pub setOn : ℕ → Netlist → ℕ → Products
 setOn m list wire = getD (setsOf m list) wire noProducts
 
@@ -54,6 +56,7 @@ wanted m table r i j = coord (pairProduct m table i j) r
 abbrev pub SameProducts : ℕ → Products → Products → Type 0
 SameProducts m s t = (i j : ℕ) → i < m → j < m → s i j ≡ t i j
 
+-- the test of it
 unfoldable pub sameProducts : ℕ → Products → Products → Bool
 sameProducts m s t = every m (λ i. every m (λ j. eqb (s i j) (t i j)))
 
@@ -62,6 +65,7 @@ abbrev pub IsWrongOutput : ℕ → List ℕ → List ℕ → ℕ → Type 0
 IsWrongOutput m table list r =
     IsInput m (outputAt list r) ⊎ (¬ SameProducts m (setOn m (readList list m) (outputAt list r)) (wanted m table r))
 
+-- the test that an output is a gate, and its set right
 unfoldable pub isRightOutput : ℕ → List ℕ → List ℕ → ℕ → Bool
 isRightOutput m table list r =
     not (ltb (outputAt list r) (2 * m)) && sameProducts m (setOn m (readList list m) (outputAt list r)) (wanted m table r)
