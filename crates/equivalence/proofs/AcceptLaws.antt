@@ -1,5 +1,5 @@
 -- Laws of accepting a list.
--- Answers: with a fault and without. Causes: what a list is that can be compared, and what is judged of it.
+-- Causes: what a list is that can be compared, and what is judged of it.
 -- Operands: the products of two basis operands, and of one that is zero.
 -- Right: a list whose outputs have the right products gives the product.
 -- Given: a list that gives the product of all operands has no wrong output; basis operands tell its products.
@@ -25,7 +25,6 @@ use Rattle.gf2.proofs.Parity.{and-both}
 use Rattle.gf2.proofs.Coordinates.{coord-lt, getD-tabulate}
 use Rattle.gf2.proofs.Operands.{coord-from, from-operand}
 use Rattle.gf2.proofs.OperandVectors.{bytes-fit}
-use Rattle.judging.specs.declared.fault.Fault.{Fault}
 use Rattle.judging.specs.Faults.{isNone}
 use Rattle.judging.specs.Causes.{Cause}
 use Rattle.judging.specs.FaultTable.{symmetryCauses}
@@ -36,7 +35,6 @@ use Rattle.table.specs.Rows.{Shaped}
 use Rattle.table.proofs.Theorems.{symmetry}
 use Rattle.table.proofs.BasisOperands.{basis-operand}
 use Rattle.netlist.specs.Gates.{Netlist, andGates, xorGates}
-use Rattle.netlist.specs.Calls.{answer, refusedWith}
 use Rattle.netlist.specs.Running.{valueOn, wires, result, gateOf, kindAt, leftAt, rightAt, gateCount, outputAt, gatesTo, readList}
 use Rattle.netlist.specs.Judgements.{IsA, IsB, IsInput, isGate, isOutput, isFormed}
 use Rattle.netlist.specs.Sets.{Products, setOn, wanted, SameProducts, IsWrongOutput, isRightOutput}
@@ -53,16 +51,6 @@ use Rattle.equivalence.specs.Causes.{mostWidth, mostGates, otherGates, w
 use Rattle.equivalence.specs.Calls.{acceptFault}
 use Rattle.equivalence.specs.Inner.{Ready}
 use Rattle.equivalence.specs.Statements.{Comparable, GivesProduct}
-
--- Answers
-module _ {f g : Fault} (e : f ≡ g) (a x : ℕ) where
-  pub answer-refused : isNone f ≡ false → refusedWith f ≡ answer g a x
-  unfolding answer
-  answer-refused n = let k = ap isNone (sym e) ∙ n in rw (e, k)
-
-  pub answer-given : {n k : ℕ} → isNone f ≡ true → n ≡ a → k ≡ x → record { fault = f; ands = record { 0 = n }; xors = record { 0 = k } } ≡ answer g a x
-  unfolding answer
-  answer-given n h l = let k = ap isNone (sym e) ∙ n in rw (e, k, h, l)
 
 -- Causes
 unheld : (c : Cause) → ¬ c .Holds → c .test ≡ false

@@ -2,18 +2,17 @@
 use mathlib.Core.Path.{_≡_, refl, sym, ap, ap₂, _∙_}
 use mathlib.Core.Logic.{inl, inr}
 use mathlib.Core.List.{List}
-use Prim.Native.Nat.{ℕ, zero, suc, _+_, _-_, _*_, _/_, _%_, _^_, _<_, _≤_}
-use native.Mathlib.Nat.{div-eq-of-lt, lt-of-lt-of-le, zero-div}
-use native.Mathlib.Decide.{decLt, ℕ-discrete}
+use Prim.Native.Nat.{ℕ, _+_, _-_, _*_, _/_, _%_, _^_, _<_, _≤_}
+use native.Mathlib.Nat.{zero-div}
+use native.Mathlib.Decide.{ℕ-discrete}
 use native.Mathlib.Omega.{arith}
 use lib.Dec.{eqb}
 use lib.Bits.{bitXor}
-use lib.Pow.{pow-mono}
-use lib.ListN.{length, getD, set, replicate, length-set, length-replicate, getD-replicate, List·getD-eq-default}
+use lib.ListN.{length, getD, set, replicate, length-set, length-replicate}
 use lib.Seq.{getD-set-same, getD-set-other}
 use borrow.Author.Tests.{eq-eqb, ne-eqb, lt-ltb, le-ltb}
 use Rattle.gf2.specs.Operands.{choose}
-use Rattle.gf2.proofs.Coordinates.{xor-bit, shl-bit, shl-bit-out}
+use Rattle.gf2.proofs.Coordinates.{xor-bit, one-bit, zero-at}
 use Rattle.limbs.specs.Limbs.{limbCoord}
 use Rattle.netlist.specs.Running.{kindAt, leftAt, rightAt, gateCount, readList}
 use Rattle.netlist.specs.Judgements.{IsA, IsB, InForm}
@@ -30,26 +29,12 @@ bit-limb s k i j =
     let r : (setBits * k + (mostWidth * i + j)) % 64 ≡ (mostWidth * i + j) % 64 = omega arith in
     rw (q, r)
 
--- the bits of 1, moved up
-one-moved : (t : ℕ) → 1 / 2 ^ suc t ≡ 0
-one-moved t = div-eq-of-lt (lt-of-lt-of-le {m = 2 ^ 1} (omega arith) (pow-mono {i = 1} {j = suc t} (omega arith)))
-
-moved-bit : (s j : ℕ) → s < 64 → j < 64 → 1 * 2 ^ s % 2 ^ 64 / 2 ^ j % 2 ≡ choose (eqb j s) 1 0
-moved-bit s j ls lj = elim (decLt j s) [
-  | yes h ↦ shl-bit-out 1 64 s j h lj ∙ rw (ne-eqb j s (omega arith))
-  | no h ↦ shl-bit 1 64 s j (omega arith) lj ∙ at (j - s) (omega arith)
-]
-  where
-    at : (t : ℕ) → j ≡ s + t → 1 / 2 ^ t % 2 ≡ choose (eqb j s) 1 0
-    at zero e = rw (eq-eqb j s (omega arith))
-    at (suc t) e = rw (ne-eqb j s (omega arith), one-moved t)
-
 -- one bit in a square that was clear
-one-bit : (s : List ℕ) (k at c : ℕ) → setLimbs * k + at / 64 < length s → getD s (setLimbs * k + c / 64) 0 ≡ 0 →
+bit-put : (s : List ℕ) (k at c : ℕ) → setLimbs * k + at / 64 < length s → getD s (setLimbs * k + c / 64) 0 ≡ 0 →
     getD (set s (setLimbs * k + at / 64) (1 * 2 ^ (at % 64) % 2 ^ 64)) (setLimbs * k + c / 64) 0 / 2 ^ (c % 64) % 2 ≡ choose (eqb c at) 1 0
-one-bit s k at c h z = elim (ℕ-discrete (c / 64) (at / 64)) [
+bit-put s k at c h z = elim (ℕ-discrete (c / 64) (at / 64)) [
   | yes e ↦ rw (e, getD-set-same s (setLimbs * k + at / 64) (1 * 2 ^ (at % 64) % 2 ^ 64) 0 h)
-      (moved-bit (at % 64) (c % 64) (omega arith) (omega arith) ∙ ap (λ b. choose b 1 0) (same e))
+      (one-bit 64 (at % 64) (c % 64) (omega arith) ∙ ap (λ b. choose b 1 0) (same e))
   | no ne ↦ rw (ne-eqb c at (λ q. ne (ap (λ x. x / 64) q)), getD-set-other s (setLimbs * k + at / 64) (setLimbs * k + c / 64) (1 * 2 ^ (at % 64) % 2 ^ 64) 0 (omega arith), z, zero-div)
 ]
   where
@@ -84,14 +69,8 @@ pub gathered-none : (m : ℕ) (list : List ℕ) → Gathered m list 0 clear
 gathered-none m list = record {
   size = length-replicate {A = ℕ} (mostGates * setLimbs) 0;
   bits = λ l i j h. absurd (omega arith);
-  rest = λ p h. at p;
+  rest = λ p h. zero-at (mostGates * setLimbs) p;
 }
-  where
-    at : (p : ℕ) → getD clear p 0 ≡ 0
-    at p = elim (decLt p (mostGates * setLimbs)) [
-      | yes l ↦ getD-replicate {A = ℕ} (mostGates * setLimbs) p 0 0 l
-      | no n ↦ List·getD-eq-default {A = ℕ} clear 0 {n = p} (omega (arith, length-replicate {A = ℕ} (mostGates * setLimbs) 0))
-    ]
 
 -- where the product of an AND of these wires has its bit
 pair-place : (m a b i j : ℕ) → m ≤ mostWidth → IsA m a → IsB m b → i < mostWidth → j < mostWidth →
@@ -147,7 +126,7 @@ module _ (m : ℕ) (list : List ℕ) (ready : Ready m list) (k : ℕ) (lk : k < 
           bitAt (set s (setLimbs * k + at / 64) (1 * 2 ^ (at % 64) % 2 ^ 64)) k i j ≡ setOn m (readList list m) (2 * m + k) i j
       here i j li lj =
           bit-limb (set s (setLimbs * k + at / 64) (1 * 2 ^ (at % 64) % 2 ^ 64)) k i j
-          ∙ one-bit s k at (mostWidth * i + j) (omega (arith, g .size, ready .few)) (g .rest (setLimbs * k + (mostWidth * i + j) / 64) (omega arith))
+          ∙ bit-put s k at (mostWidth * i + j) (omega (arith, g .size, ready .few)) (g .rest (setLimbs * k + (mostWidth * i + j) / 64) (omega arith))
           ∙ ap (λ a. choose (eqb (mostWidth * i + j) a) 1 0) q ∙ place-one m (leftAt list k) (rightAt list k) i j (ready .narrow) f li lj
           ∙ sym (ap (λ (t : Products). t i j) (gate-set-and m list k lk e))
 

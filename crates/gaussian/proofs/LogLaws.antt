@@ -3,14 +3,15 @@ use mathlib.Core.Path.{_≡_, sym, ap, _∙_}
 use mathlib.Core.List.{List}
 use Prim.Native.Nat.{ℕ, _+_, _-_, _*_, _%_, _^_, _<_, _≤_}
 use native.Mathlib.Nat.{mod-mod, mod-eq-of-lt, pow-zero, pow-suc}
-use native.Mathlib.Decide.{ℕ-discrete, decLt}
+use native.Mathlib.Decide.{ℕ-discrete}
 use native.Mathlib.Numerals.{add-one}
 use native.Mathlib.Omega.{arith}
-use lib.ListN.{getD, set, replicate, length-set, length-replicate, getD-replicate, List·getD-eq-default}
+use lib.ListN.{getD, set, replicate, length-set, length-replicate}
 use lib.Seq.{getD-set-same, getD-set-other}
 use lib.Dec.{eqb}
 use borrow.Author.Tests.{eq-eqb, ne-eqb}
 use Rattle.gf2.specs.Operands.{choose}
+use Rattle.gf2.proofs.Coordinates.{zero-at}
 use Rattle.gaussian.specs.Types.{modulus}
 use Rattle.gaussian.specs.Table.{gives}
 use Rattle.gaussian.specs.Inner.{residues, Residue, Drawable, Logarithms}
@@ -24,19 +25,13 @@ pub record LogLoop (m t : ℕ) (logs : List ℕ) (y s : ℕ) : Type 0 where
   pub less : Residue (modulus m t) y
   pub entries : Logarithms m t s logs
 
-no-log : (n y : ℕ) → getD (replicate {A = ℕ} n 0) y 0 ≡ 0
-no-log n y = elim (decLt y n) [
-  | yes h ↦ getD-replicate {A = ℕ} n y 0 0 h
-  | no h ↦ List·getD-eq-default {A = ℕ} (replicate n 0) 0 {n = y} (omega (arith, length-replicate {A = ℕ} n 0))
-]
-
 module _ {m t : ℕ} (d : Drawable m t) where
   pub log-start : LogLoop m t (replicate residues 0) 1 0
   log-start = let h = d .isType .0 .0 in record {
     within = omega arith;
     power = ap (λ x. x % modulus m t) (pow-zero (2 ^ t)) ∙ mod-eq-of-lt h;
     less = residue 1 d h;
-    entries = record { size = length-replicate {A = ℕ} residues 0; known = λ s l. absurd (omega arith); sound = λ y s e. absurd (omega (arith, no-log residues y, e)) };
+    entries = record { size = length-replicate {A = ℕ} residues 0; known = λ s l. absurd (omega arith); sound = λ y s e. absurd (omega (arith, zero-at residues y, e)) };
   }
 
   module _ {logs : List ℕ} {y s : ℕ} (l : LogLoop m t logs y s) (below : s < m) where

@@ -15,9 +15,12 @@ use lib.Arith.{digits-lt, digits-div, digits-mod}
 use lib.ListN.{length, getD, replicate, length-append, length-replicate, getD-replicate, List·getD-append, List·getD-eq-default}
 use lib.Seq.{getD-at, ext-getD}
 use lib.Bits.{bitAnd, and-shr, and-step, bitXor, xor-shr, xor-add-and, xor-lt}
+use lib.Dec.{eqb}
 use lib.Pow.{pow-pos, pow-mono, pow-add, shl-shr, shl-exact, shr-shr, mod-pow-add, mod-mod-pow, field}
+use borrow.Author.Tests.{eq-eqb, ne-eqb}
 use Rattle.gf2.specs.Sums.{sum}
 use Rattle.gf2.specs.Coordinates.{coord, value, tabulate, pack}
+use Rattle.gf2.specs.Operands.{choose}
 use Rattle.gf2.proofs.Sums.{sum-ext, sum-next}
 
 pub value-ext : (n : ℕ) (f g : ℕ → ℕ) → ((j : ℕ) → j < n → f j % 2 ≡ g j % 2) → value n f ≡ value n g
@@ -80,6 +83,13 @@ getD-tabulate (suc n) f i h = elim (ℕ-discrete i n) [
   | no q ↦ List·getD-append (tabulate n f) (f n ∷ []) 0 i (omega (arith, length-tabulate n f)) ∙ getD-tabulate n f i (omega arith)
 ]
 
+-- a list of zeros has 0 everywhere, past its end too
+pub zero-at : (n i : ℕ) → getD (replicate {A = ℕ} n 0) i 0 ≡ 0
+zero-at n i = elim (decLt i n) [
+  | yes h ↦ getD-replicate {A = ℕ} n i 0 0 h
+  | no h ↦ List·getD-eq-default {A = ℕ} (replicate n 0) 0 {n = i} (omega (arith, length-replicate {A = ℕ} n 0))
+]
+
 pub tabulate-ext : (n : ℕ) (f g : ℕ → ℕ) → ((i : ℕ) → i < n → f i ≡ g i) → tabulate n f ≡ tabulate n g
 unfolding tabulate
 tabulate-ext zero f g h = refl
@@ -124,10 +134,7 @@ module _ (d : ℕ) (some : 0 < d) where
       ∙ packed-of n _ f (λ b h. small b) (λ b j h l'. sym (digit-at l b j l') ∙ e (b * d + j) (digits-lt h l'))
 
   pub digit-none : (n i : ℕ) → digit d (replicate n 0) i ≡ 0
-  digit-none n i = elim (decLt (i / d) n) [
-    | yes h ↦ rw (getD-replicate {A = ℕ} n (i / d) 0 0 h, zero-div)
-    | no h ↦ digit-past (replicate n 0) i (omega (arith, length-replicate {A = ℕ} n 0))
-  ]
+  digit-none n i = rw (zero-at n (i / d), zero-div)
 
 pub coord-lt : (bytes : List ℕ) (i : ℕ) → coord bytes i < 2
 unfolding coord
@@ -223,6 +230,20 @@ shl-bit-out x n k j h l =
   where
     even : x * 2 ^ (k - suc j + suc j) ≡ x * 2 ^ (k - suc j) * 2 * 2 ^ j
     even = simp (pow-add, pow-succ', mul-assoc)
+
+-- 1 shifted up has the one bit
+pub one-bit : (n k j : ℕ) → j < n → 1 * 2 ^ k % 2 ^ n / 2 ^ j % 2 ≡ choose (eqb j k) 1 0
+one-bit n k j l = elim (decLt j k) [
+  | yes h ↦ shl-bit-out 1 n k j h l ∙ rw (ne-eqb j k (omega arith))
+  | no h ↦ shl-bit 1 n k j (omega arith) l ∙ at (j - k) (omega arith)
+]
+  where
+    past : (t : ℕ) → 1 / 2 ^ suc t ≡ 0
+    past t = div-eq-of-lt (lt-of-lt-of-le {m = 2 ^ 1} (omega arith) (pow-mono {i = 1} {j = suc t} (omega arith)))
+
+    at : (t : ℕ) → j ≡ k + t → 1 / 2 ^ t % 2 ≡ choose (eqb j k) 1 0
+    at zero e = rw (eq-eqb j k (omega arith))
+    at (suc t) e = rw (ne-eqb j k (omega arith), past t)
 
 pub coord-none : (n i : ℕ) → coord (replicate n 0) i ≡ 0
 unfolding coord

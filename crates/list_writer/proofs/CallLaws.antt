@@ -23,7 +23,7 @@ use Rattle.netlist.specs.Gates.{Netlist, wordLimit, words, andGates, xorGates}
 use Rattle.netlist.specs.Lists.{plain, sharing, common, fullRows, ifNone}
 use Rattle.netlist.specs.Calls.{answer, refusedWith, countedAs, listFault, listCall, listBuffer}
 use Rattle.netlist.specs.Methods.{listBy, sharedBy, tallied, tallyCall}
-use Rattle.netlist.proofs.CallLaws.{table-fine, sized-by, answer-counted, tally-answer}
+use Rattle.netlist.proofs.CallLaws.{table-fine, sized-by, answer-counted, answer-refused, tally-answer}
 use Rattle.list_writer.specs.Inner.{listed, Told}
 use Rattle.list_writer.proofs.ListLaws.{few-words}
 
@@ -82,15 +82,12 @@ module _ (m : ℕ) (table : List ℕ) (list : Netlist) (old : List ℕ) where
 
   pub list-refused : {f : Fault} {c : CountsAnswer} → c ≡ refusedWith f → f ≡ symmetryFault m table → isNone (symmetryFault m table) ≡ false → Answered c old
   list-refused {f} {c} e h n = (
-    e ∙ ap refusedWith h ∙ none ∙ ap (λ f. answer f (andGates (list .gates)) (xorGates (list .gates))) (sym first),
+    e ∙ answer-refused (h ∙ sym first) (andGates (list .gates)) (xorGates (list .gates)) (ap isNone h ∙ n),
     sym (ap (λ b. choose b (words m list ++ drop (length (words m list)) old) old) (ap isNone first ∙ n)),
   )
     where
       first : listFault m table list old ≡ symmetryFault m table
       first = stops (symmetryCauses m table) (tooShort (length old) (length (words m list)) ∷ []) n
-
-      none : refusedWith (symmetryFault m table) ≡ answer (symmetryFault m table) (andGates (list .gates)) (xorGates (list .gates))
-      none = unfold answer in rw n
 
   module _ (n : isNone (symmetryFault m table) ≡ true) where
     second : listFault m table list old ≡ faultOf (tooShort (length old) (length (words m list)) ∷ [])

@@ -44,6 +44,16 @@ pub answer-counted : (cs : List Cause) (a x : ℕ) → Fine cs → answer (fault
 unfolding answer isNone
 answer-counted cs a x e = rw (none-given cs e)
 
+-- by a fault that is worked out: with one, and with none
+module _ {f g : Fault} (e : f ≡ g) (a x : ℕ) where
+  pub answer-refused : isNone f ≡ false → refusedWith f ≡ answer g a x
+  unfolding answer
+  answer-refused n = let k = ap isNone (sym e) ∙ n in rw (e, k)
+
+  pub answer-given : {n k : ℕ} → isNone f ≡ true → n ≡ a → k ≡ x → record { fault = f; ands = record { 0 = n }; xors = record { 0 = k } } ≡ answer g a x
+  unfolding answer
+  answer-given n h l = let k = ap isNone (sym e) ∙ n in rw (e, k, h, l)
+
 pub all-counted : (m : ℕ) (table : List ℕ) {p r c : CountsAnswer} → p ≡ countsPlainCall m table → r ≡ countsReducedCall m table → c ≡ countsCommonCall m table →
     record { plain = p; reduced = r; common = c } ≡ allCountsCall m table
 all-counted m table {p} {r} {c} h k l =

@@ -1,22 +1,19 @@
 -- The basis operands, products of them and sums of rows as operands of W bytes; a basis operand carried.
-use mathlib.Core.Path.{_≡_, refl, sym, ap, _∙_}
-use mathlib.Core.Bool.{Bool, true}
+use mathlib.Core.Path.{_≡_, sym, ap, _∙_}
 use mathlib.Core.List.{List}
 use Prim.Native.Nat.{ℕ, zero, suc, _+_, _*_, _/_, _%_, _^_, _<_, _≤_}
-use native.Mathlib.Nat.{mod-lt, zero-div}
+use native.Mathlib.Nat.{mod-lt, mod-mod, zero-div}
 use native.Mathlib.Decide.{decLt}
 use native.Mathlib.Omega.{arith}
 use lib.ListN.{set, replicate}
 use lib.Dec.{eqb}
-use borrow.Author.Tests.{eqb-true, ne-eqb}
-use Rattle.gf2.specs.Sums.{every}
+use borrow.Author.Tests.{ne-eqb}
 use Rattle.gf2.specs.Coordinates.{tabulate}
 use Rattle.gf2.specs.Operands.{bytesFor, carriedBytes, choose, IsOperand, below, fromCoords, carriedBy}
 use Rattle.gf2.specs.Tables.{basis}
 use Rattle.gf2.specs.Products.{product}
 use Rattle.gf2.specs.Check.{rowSum}
-use Rattle.gf2.proofs.Sums.{every-at}
-use Rattle.gf2.proofs.Coordinates.{pack-of}
+use Rattle.gf2.proofs.Coordinates.{pack-of, one-bit}
 use Rattle.gf2.proofs.Operands.{below-in, below-out, from-operand}
 use Rattle.gf2.proofs.Carrying.{carried-from}
 use Rattle.table.specs.Inner.{leftProduct, rightProduct}
@@ -42,13 +39,6 @@ unfolding rowSum
 sum-operand m t = from-operand (bytesFor m) m _
 
 -- the basis operand of a coordinate in the first byte
-power-test : ℕ → ℕ → Bool
-power-test k j = eqb (1 * 2 ^ k % 256 / 2 ^ j % 2) (choose (eqb j k) 1 0 % 2)
-
-power-all : every 8 (λ k. every 8 (power-test k)) ≡ true
-unfolding every power-test
-power-all = refl
-
 first-byte : ℕ → ℕ → ℕ
 first-byte x zero = x
 first-byte x (suc b) = 0
@@ -61,10 +51,10 @@ module _ (m k : ℕ) (low : k < 8) (l : k < m) where
   ]
 
   bits : (b j : ℕ) → j < 8 → first-byte (1 * 2 ^ k % 256) b / 2 ^ j % 2 ≡ below m (λ i. choose (eqb i k) 1 0) (b * 8 + j) % 2
-  unfolding first-byte power-test
+  unfolding first-byte
   bits zero j h =
       let place : j ≡ 0 * 8 + j = omega arith in
-      eqb-true _ _ (every-at 8 (power-test k) (every-at 8 (λ k. every 8 (power-test k)) power-all k low) j h) ∙ ap (λ x. x % 2) (sym (only j))
+      sym (mod-mod (1 * 2 ^ k % 256 / 2 ^ j) 2) ∙ ap (λ x. x % 2) (one-bit 8 k j h ∙ sym (only j))
       ∙ ap (λ i. below m (λ i. choose (eqb i k) 1 0) i % 2) place
   bits (suc b) j h = ap (λ x. x % 2) (zero-div (2 ^ j) ∙ sym (only (suc b * 8 + j) ∙ ap (λ b. choose b 1 0) (ne-eqb (suc b * 8 + j) k (omega arith))))
 

@@ -1,8 +1,8 @@
 -- `equivalence::accept` meets its contract.
 use mathlib.Core.Path.{sym, _∙_}
 use borrow.Author.Tests.{not-true, not-false}
+use Rattle.netlist.proofs.CallLaws.{answer-refused, answer-given}
 use Rattle.equivalence.proofs.GateLaws.{xors-left}
-use Rattle.equivalence.proofs.AcceptLaws.{answer-refused, answer-given}
 use borrow.Author.Needs.{needs}
 use Rattle.equivalence.proofs.accept.Statement.{statement}
 use Rattle.equivalence.proofs.accept.Tie as tie

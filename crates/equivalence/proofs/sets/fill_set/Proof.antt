@@ -5,7 +5,7 @@ use native.Mathlib.Omega.{arith}
 use Rattle.netlist.specs.Running.{kindAt}
 use Rattle.equivalence.specs.Inner.{placeOf}
 use Rattle.equivalence.proofs.SquareLaws.{product-gathered, sum-gathered}
-use Rattle.equivalence.proofs.OutputLaws.{and-formed, xor-formed}
+use Rattle.equivalence.proofs.GateLaws.{and-formed, xor-formed}
 use borrow.Author.Needs.{needs}
 use Rattle.equivalence.proofs.sets.fill_set.Statement.{statement}
 use Rattle.equivalence.proofs.sets.fill_set.Tie as tie
