@@ -8,7 +8,7 @@ use crate::gates::{self, List, Method, ACCEPTED_WIDTH};
 use crate::gaussian;
 use crate::inputs::{
     all_accepted, change_in_form, change_word, damaged, dense, drawable, operand, some_card, sparse_symmetric, symmetric, table,
-    with_detour, with_unused, Source,
+    with_detour, with_unused, wrong_lengths, Source,
 };
 pub use crate::proved::Call;
 use crate::shrinker::shrunk;
@@ -301,11 +301,13 @@ impl Maker {
         vec![Call::accept { width, table, list }]
     }
 
+    /// A draw into a buffer as long as the table; where harm is done, into one of each wrong length too, so that no width goes without.
     pub fn draws(&mut self, width: usize) -> Vec<Call> {
         let n = self.near(width);
-        let table = self.source.bytes(n * bytes_for(n));
-        let table = self.perhaps_damaged(n, 0, table);
-        vec![Call::type_of { width }, Call::draw { width, table }]
+        let needed = n * bytes_for(n);
+        let wrong = if self.harm > 0 { wrong_lengths(needed).to_vec() } else { vec![] };
+        let draws = [needed].into_iter().chain(wrong).map(|length| Call::draw { width, table: self.source.bytes(length) });
+        [Call::type_of { width }].into_iter().chain(draws).collect()
     }
 
     pub fn cards(&mut self, width: usize) -> Vec<Call> {

@@ -190,6 +190,11 @@ pub fn operand(source: &mut Source, m: usize) -> Vec<u8> {
     pack(&bits)
 }
 
+/// Lengths that are wrong where `n` is right.
+pub fn wrong_lengths(n: usize) -> [usize; 4] {
+    [n - 1, n + 1, 0, 2 * n]
+}
+
 /// Bytes of a wrong length, or with a bit at the width or above where there is room for one. `row_bytes` is 0 where any bits may be set.
 pub fn damaged(source: &mut Source, m: usize, row_bytes: usize, mut bytes: Vec<u8>) -> Vec<u8> {
     if row_bytes > 0 && m % 8 != 0 && source.one_in(2) {
@@ -197,8 +202,7 @@ pub fn damaged(source: &mut Source, m: usize, row_bytes: usize, mut bytes: Vec<u
         let last = (source.below(rows) + 1) * row_bytes - 1;
         bytes[last] |= 1 << (m % 8 + source.below(8 - m % 8));
     } else {
-        let n = bytes.len();
-        bytes.resize([n - 1, n + 1, 0, 2 * n][source.below(4)], 0);
+        bytes.resize(wrong_lengths(bytes.len())[source.below(4)], 0);
     }
     bytes
 }

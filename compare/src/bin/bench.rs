@@ -40,6 +40,9 @@ fn time(runs: u64, call: &mut impl FnMut()) -> f64 {
 /// The widths whose drawn tables stand for all: what is timed by definition, and what compare/before-after shows of every call.
 const TYPED: [usize; 2] = [233, 571];
 
+/// The other widths whose drawing compare/before-after shows: odd and even types, and the greatest p, that of 477.
+const DRAWN: [usize; 8] = [65, 130, 163, 255, 283, 409, 477, 540];
+
 /// How often each of two calls is timed in a pass, and how many passes there are over all of them; the least time counts.
 const TRIES: usize = 5;
 const PASSES: usize = 5;
@@ -217,6 +220,13 @@ fn calls() {
     if cfg!(accept) {
         let (ours, theirs) = accepting();
         println!("{ACCEPTING} at {ACCEPTED_WIDTH}; dense,{ours:.1},{theirs:.1}");
+    }
+    for m in DRAWN.into_iter().filter(takes) {
+        let Case { label, table: mut drawn, .. } = Case::drawn(m);
+        let mut drawn2 = drawn.clone();
+        let (ours, theirs) =
+            times(|| { black_box(proved::draw(m, &mut drawn)); }, || { black_box(same::drawing::nb_draw(m as u64, &mut drawn2)); });
+        println!("draw at {},{ours:.1},{theirs:.1}", label.replace(',', ";"));
     }
     let mut checks = vec![];
     for m in [65, 97, 130, 163, 194, 233, 255, 283, 409, 571].into_iter().filter(takes) {

@@ -17,7 +17,7 @@ use Rattle.gaussian.specs.Table.{gives}
 use Rattle.gaussian.specs.Inner.{residues, Residue, Drawable, Logarithms}
 use Rattle.gaussian.proofs.Modulo.{mul-cong}
 use Rattle.gaussian.proofs.Cosets.{power-one, coset-in, coset-out}
-use Rattle.gaussian.proofs.ResidueLaws.{residue, residue-mod}
+use Rattle.gaussian.proofs.ResidueLaws.{residue, residue-of}
 
 pub record LogLoop (m t : ℕ) (logs : List ℕ) (y s : ℕ) : Type 0 where
   pub within : s ≤ m
@@ -49,13 +49,14 @@ module _ {m t : ℕ} (d : Drawable m t) where
       | no q ↦ let old = l .entries .sound z i (sym (getD-set-other logs y z (s + 1) 0 q) ∙ e) in (omega (arith, old .0), old .1)
     ]
 
-    pub log-more : {base : ℕ} → base ≡ 2 ^ t % modulus m t → LogLoop m t (set logs y (s + 1)) (y * base % modulus m t) (s + 1)
-    log-more {base} e = record {
+    pub log-more : {base z : ℕ} → base ≡ 2 ^ t % modulus m t → z ≡ y * base % modulus m t → LogLoop m t (set logs y (s + 1)) z (s + 1)
+    log-more {base} e ez = record {
       within = omega arith;
       power =
           ap (λ k. (2 ^ t) ^ k % modulus m t) (add-one s) ∙ ap (λ x. x % modulus m t) (pow-suc (2 ^ t) s)
-          ∙ mul-cong ((2 ^ t) ^ s) y (2 ^ t) base (modulus m t) (l .power ∙ sym (mod-eq-of-lt (l .less .less))) (sym (mod-mod (2 ^ t) (modulus m t)) ∙ ap (λ x. x % modulus m t) (sym e));
-      less = residue-mod _ (l .less);
+          ∙ mul-cong ((2 ^ t) ^ s) y (2 ^ t) base (modulus m t) (l .power ∙ sym (mod-eq-of-lt (l .less .less))) (sym (mod-mod (2 ^ t) (modulus m t)) ∙ ap (λ x. x % modulus m t) (sym e))
+          ∙ sym ez;
+      less = residue-of _ ez (l .less);
       entries = record { size = length-set logs y (s + 1) ∙ l .entries .size; known = new-known; sound = new-sound };
     }
 

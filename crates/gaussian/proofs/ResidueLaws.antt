@@ -1,17 +1,27 @@
--- Residues modulo p: their products fit, and the loop that makes a power.
+-- Residues modulo p: p and their products fit; what is left of p and of less; the loop that makes a power.
 use mathlib.Core.Path.{_≡_, sym, ap, _∙_}
 use Prim.Native.Nat.{ℕ, _+_, _*_, _/_, _%_, _^_, _<_, _≤_}
-use native.Mathlib.Nat.{mul-le-mul, mul-one, one-mul, mul-assoc, mod-lt, mod-mod, mod-eq-of-lt, pow-zero, pow-suc}
+use native.Mathlib.Nat.{lt-of-le-of-lt, mul-le-mul, mul-one, one-mul, mul-assoc, mod-lt, mod-self, mod-mod, mod-eq-of-lt, pow-zero, pow-suc}
 use native.Mathlib.Omega.{arith}
+use lib.Dec.{lit<}
 use lib.Pow.{pow-add}
 use Rattle.gf2.specs.Operands.{maxWidth}
 use Rattle.gaussian.specs.Types.{modulus, maxType}
 use Rattle.gaussian.specs.Inner.{residues, Residue, Drawable}
+use Rattle.gaussian.specs.Statements.{ModulusFits}
 use Rattle.gaussian.proofs.Modulo.{mul-cong, mul-pow, pow-cong}
 use Rattle.gaussian.proofs.Cosets.{at-least}
 
-pub product-small : {p a b : ℕ} → Residue p a → Residue p b → a * b ≤ residues * residues
-product-small ra rb = mul-le-mul {n₂ = residues} {m₂ = residues} (omega (arith, ra .small, ra .less)) (omega (arith, rb .small, rb .less))
+-- every modulus of the list fits, by the bounds of its types and widths
+pub modulus-small : {m t : ℕ} → t ≤ maxType → m ≤ maxWidth → modulus m t < residues
+modulus-small ht hm = omega (arith, mul-le-mul ht hm)
+
+pub modulus-fits : {p : ℕ} → p < residues → ModulusFits p
+modulus-fits h = record { held = omega arith; multiplied = lt-of-le-of-lt (mul-le-mul {n₂ = residues} {m₂ = residues} (omega arith) (omega arith)) (lit< tt) }
+
+-- and so does the product of two residues
+pub product-fits : {p a b : ℕ} → Residue p a → Residue p b → a * b < 2 ^ 64
+product-fits ra rb = lt-of-le-of-lt (mul-le-mul (omega (arith, ra .less)) (omega (arith, rb .less))) (modulus-fits (ra .small) .multiplied)
 
 pub residue-mod : {p a : ℕ} (x : ℕ) → Residue p a → Residue p (x % p)
 residue-mod x r = let h = r .above in record { above = h; small = r .small; less = mod-lt x (omega arith) }
@@ -19,15 +29,19 @@ residue-mod x r = let h = r .above in record { above = h; small = r .small; less
 pub residue-of : {p a b : ℕ} (x : ℕ) → b ≡ x % p → Residue p a → Residue p b
 residue-of x e r = rw e (residue-mod x r)
 
-pub modulus-small : {m t : ℕ} → Drawable m t → t * m ≤ maxType * maxWidth
-modulus-small d = mul-le-mul (d .small) (d .greatest)
-
 pub residue : {m t : ℕ} (x : ℕ) → Drawable m t → x < modulus m t → Residue (modulus m t) x
-residue {m} {t} x d h = let s = modulus-small d in record { above = d .isType .0 .0; small = omega arith; less = h }
+residue x d h = record { above = d .isType .0 .0; small = modulus-small (d .small) (d .greatest); less = h }
 
 -- 2 is a residue
 pub two-less : {m t : ℕ} → Drawable m t → 2 < modulus m t
 two-less {m} {t} d = let h = d .least in omega (arith, at-least m t (d .least) (d .isType))
+
+-- what is p itself, and what is less
+pub rest-none : (s p : ℕ) → s ≡ p → 0 ≡ s % p
+rest-none s p e = rw e (sym (mod-self p))
+
+pub rest-whole : {s p : ℕ} → s ≤ p → (s ≡ p → ⊥) → s ≡ s % p
+rest-whole h n = sym (mod-eq-of-lt (omega arith))
 
 -- the digit 0, and the digit 1
 pub digit-zero : {p r : ℕ} (x e : ℕ) → Residue p r → e % 2 ≡ 0 → r ≡ r * x ^ (e % 2) % p
@@ -52,12 +66,12 @@ power-start {p} {x} e q = let h = q .above in record {
   value = ap (λ y. y % p) (one-mul (x ^ e));
 }
 
-pub power-more : {x e p r square left n : ℕ} → PowerLoop x e p r square left → n ≡ r * square ^ (left % 2) % p → PowerLoop x e p n (square * square % p) (left / 2)
-power-more {x} {e} {p} {r} {square} {left} {n} l e′ = record {
-  done = rw e′ (residue-mod _ (l .done));
-  factor = residue-mod _ (l .factor);
+pub power-more : {x e p r square left n k : ℕ} → PowerLoop x e p r square left → n ≡ r * square ^ (left % 2) % p → k ≡ square * square % p → PowerLoop x e p n k (left / 2)
+power-more {x} {e} {p} {r} {square} {left} {n} {k} l en ek = record {
+  done = residue-of _ en (l .done);
+  factor = residue-of _ ek (l .factor);
   value =
-      mul-cong n (r * square ^ b) ((square * square % p) ^ q) ((square * square) ^ q) p (ap (λ y. y % p) e′ ∙ mod-mod _ p) (pow-cong (square * square % p) (square * square) p q (mod-mod _ p))
+      mul-cong n (r * square ^ b) (k ^ q) ((square * square) ^ q) p (ap (λ y. y % p) en ∙ mod-mod _ p) (pow-cong k (square * square) p q (ap (λ y. y % p) ek ∙ mod-mod _ p))
       ∙ ap (λ y. y % p) whole ∙ l .value;
 }
   where

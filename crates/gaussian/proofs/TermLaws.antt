@@ -13,7 +13,7 @@ use Rattle.gaussian.specs.Types.{modulus}
 use Rattle.gaussian.specs.Table.{inK, gives, term, rowCoord, rowsOf, drawn}
 use Rattle.gaussian.specs.Inner.{Residue, inRow, Adds}
 use Rattle.gf2.proofs.Remainders.{mul-mod-left}
-use Rattle.gaussian.proofs.ResidueLaws.{residue-mod}
+use Rattle.gaussian.proofs.ResidueLaws.{residue-of}
 use Rattle.gaussian.proofs.RowLaws.{zero-rows}
 use Rattle.gaussian.proofs.AddLaws.{adds-none, upTo, rows-none, rows-more, rows-all}
 
@@ -42,13 +42,13 @@ module _ {m t p w : ℕ} where
     image : (y + 1) % p ≡ (1 + 2 ^ d * w) % p
     image = ap (λ x. (x + 1) % p) (l .power) ∙ mod-add-mod (2 ^ d * w) p 1 ∙ ap (λ x. x % p) (add-comm (2 ^ d * w) 1)
 
-    pub term-more : {q : ℕ} {c : List ℕ} → q ≡ p → Adds m (inRow d (gives p t ((y + 1) % q))) b c → length c ≡ length b → TermLoop m t p w a c (y * 2 % q) (d + 1)
-    term-more {q} is more e = record {
-      adds = rows-more m (given p t w) d _ (l .adds) more (λ i. ap (λ x. gives p t x i) (ap (λ x. (y + 1) % x) is ∙ image));
+    pub term-more : {x z : ℕ} {c : List ℕ} → x ≡ (y + 1) % p → z ≡ y * 2 % p → Adds m (inRow d (gives p t x)) b c → length c ≡ length b → TermLoop m t p w a c z (d + 1)
+    term-more ex ez more e = record {
+      adds = rows-more m (given p t w) d _ (l .adds) more (λ i. ap (λ k. gives p t k i) (ex ∙ image));
       size = e ∙ l .size;
-      less = rw is (residue-mod _ (l .less));
+      less = residue-of _ ez (l .less);
       power =
-          ap (λ x. y * 2 % x) is ∙ ap (λ x. x * 2 % p) (l .power) ∙ sym (mul-mod-left (2 ^ d * w) 2 p)
+          ez ∙ ap (λ x. x * 2 % p) (l .power) ∙ sym (mul-mod-left (2 ^ d * w) 2 p)
           ∙ ap (λ x. x % p) (mul-comm (2 ^ d * w) 2 ∙ sym (mul-assoc 2 (2 ^ d) w) ∙ ap (λ x. x * w) (sym (pow-succ' 2 d)) ∙ ap (λ k. 2 ^ k * w) (sym (add-one d)));
     }
 

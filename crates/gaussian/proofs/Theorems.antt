@@ -1,4 +1,4 @@
--- The theorems of specs/Statements: the list of types, by one computed test over all of its entries; drawn tables, computed.
+-- The theorems of specs/Statements: the list of types, by one computed test over all of its entries, and its moduli, by its bounds; drawn tables, computed.
 use mathlib.Core.Path.{_≡_, refl, sym, subst}
 use mathlib.Core.Logic.{_⊎_, inl, inr}
 use mathlib.Core.Bool.{Bool, true, false}
@@ -12,11 +12,13 @@ use Rattle.gf2.specs.Coordinates.{value, tabulate, pack}
 use Rattle.gf2.specs.Operands.{below, fromCoords}
 use Rattle.gaussian.specs.Types.{IsType, types, typeOf}
 use Rattle.gaussian.specs.Table.{some, inK, inCoset, gives, term, rowCoord, rowsOf, drawn}
-use Rattle.gaussian.specs.Statements.{Listed, TypeList, DrawnTable, DrawnCarried}
+use Rattle.gaussian.specs.Statements.{Listed, TypeList, ModuliFit, DrawnTable, DrawnCarried}
 use Rattle.gaussian.proofs.Entries.{both, both-parts, every, at}
 use Rattle.gaussian.proofs.TypeTests.{entry, isType, noneBelow}
 use Rattle.gaussian.proofs.Soundness.{least}
 use Rattle.gaussian.proofs.Two.{eight}
+use Rattle.gaussian.proofs.TypeBound.{type-small}
+use Rattle.gaussian.proofs.ResidueLaws.{modulus-small, modulus-fits}
 use Rattle.gaussian.proofs.RowLaws.{row-of, rows-table}
 
 passes : T (every entry 0 types)
@@ -60,6 +62,9 @@ type-list m h h′ = subst (λ (y : ℕ). Listed y (getD types (m - 2) 0)) back 
   where
     back : m - 2 + 2 ≡ m
     back = omega arith
+
+pub moduli-fit : ModuliFit
+moduli-fit m h h′ = modulus-fits (modulus-small (type-small m h h′) h′)
 
 pub drawn-table : (m t : ℕ) → DrawnTable m t
 unfolding drawn

@@ -12,7 +12,7 @@ use Rattle.gaussian.specs.Table.{rowsOf}
 abbrev pub residues : ℕ
 residues = maxType * maxWidth + 2
 
--- x is a residue modulo p, and the product of two such does not wrap
+-- x is a residue modulo p, which is no greater than a listed type can give
 pub record Residue (p x : ℕ) : Type 0 where
   pub above : 1 < p
   pub small : p < residues

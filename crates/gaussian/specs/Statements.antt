@@ -1,7 +1,7 @@
 -- What is proved of the list of types and of drawn tables: the statements alone.
 use mathlib.Core.Path.{_≡_}
 use mathlib.Core.Logic.{_↔_}
-use Prim.Native.Nat.{ℕ, _∣_, _<_, _≤_}
+use Prim.Native.Nat.{ℕ, _-_, _*_, _^_, _∣_, _<_, _≤_}
 use Rattle.gf2.specs.Operands.{maxWidth, bytesFor, fromCoords}
 use Rattle.gf2.specs.Tables.{IsTable, row}
 use Rattle.table.specs.Carried.{carried2, carried3, carried4, carried5}
@@ -20,6 +20,15 @@ pub record Listed (m t : ℕ) : Type 0 where
 -- "A fixed list holds the type of each width 2 to 571"
 abbrev pub TypeList : Type 0
 TypeList = (m : ℕ) → 2 ≤ m → m ≤ maxWidth → Listed m (typeOf m)
+
+-- 32 bits hold the modulus p, and 64 the product of any two residues
+pub record ModulusFits (p : ℕ) : Type 0 where
+  pub held : p < 2 ^ 32
+  pub multiplied : (p - 1) * (p - 1) < 2 ^ 64
+
+-- document 02, (c): "every p of the list fits"
+abbrev pub ModuliFit : Type 0
+ModuliFit = (m : ℕ) → 2 ≤ m → m ≤ maxWidth → ModulusFits (modulus m (typeOf m))
 
 -- "A table is m rows, each an operand of W bytes, m·W in all. Row d holds the coordinates ..": for any m and T
 pub record DrawnTable (m t : ℕ) : Type 0 where

@@ -32,7 +32,7 @@ fn flip_row(table: &mut [u8], m: usize, d: usize)
 }
 
 // What x gives is added to row d: one coordinate where x is not 0, else all of them if T is odd.
-fn add_image(table: &mut [u8], logs: &[u16], m: usize, t: usize, d: usize, x: u64)
+fn add_image(table: &mut [u8], logs: &[u16], m: usize, t: usize, d: usize, x: u32)
     requires { ⌜ Drawable m t × Logarithms m t m (now logs) × HasRow m d (now table) × Residue (modulus m t) x ⌝ }
     ensures { λ _. ⌜ Adds m (inRow d (gives (modulus m t) t x)) (now (table .entry)) (now (table .exit)) ⌝ }
 {
@@ -49,7 +49,7 @@ fn add_image(table: &mut [u8], logs: &[u16], m: usize, t: usize, d: usize, x: u6
 }
 
 // What one w of K gives is added to all rows.
-fn add_images(table: &mut [u8], logs: &[u16], m: usize, t: usize, w: u64)
+fn add_images(table: &mut [u8], logs: &[u16], m: usize, t: usize, w: u32)
     requires { ⌜ Drawable m t × Logarithms m t m (now logs) × HasRow m 0 (now table) × Residue (modulus m t) w ⌝ }
     ensures { λ _. ⌜ Adds m (λ d. gives (modulus m t) t ((1 + 2 ^ d * w) % modulus m t)) (now (table .entry)) (now (table .exit)) ⌝ }
 {
@@ -57,14 +57,14 @@ fn add_images(table: &mut [u8], logs: &[u16], m: usize, t: usize, w: u64)
     let mut y = w;
     let mut d = 0;
     while d < m {
-        add_image(table, logs, m, t, d, (y + 1) % p);
-        y = y * 2 % p;
+        add_image(table, logs, m, t, d, residues::plus_one(y, p));
+        y = residues::times(y, 2, p);
         d += 1;
     }
 }
 
 // The term of w in the sum over K.
-fn add_term(table: &mut [u8], logs: &[u16], m: usize, t: usize, w: u64)
+fn add_term(table: &mut [u8], logs: &[u16], m: usize, t: usize, w: u32)
     requires { ⌜ Drawable m t × Logarithms m t m (now logs) × HasRow m 0 (now table) × Residue (modulus m t) w ⌝ }
     ensures { λ _. ⌜ Adds m (term (modulus m t) t w) (now (table .entry)) (now (table .exit)) ⌝ }
 {
@@ -92,7 +92,7 @@ pub(crate) fn fill(table: &mut [u8], m: usize, t: usize)
     clear(table);
     let p = residues::modulus(m, t);
     let logs = residues::logarithms(m, t);
-    let mut w: u64 = 0;
+    let mut w: u32 = 0;
     while w < p {
         add_term(table, &logs, m, t, w);
         w += 1;

@@ -1,7 +1,7 @@
 -- `gaussian::residues::logarithms` meets its contract.
 use Prim.Native.Nat.{_-_}
 use native.Mathlib.Omega.{arith}
-use Rattle.gaussian.proofs.ResidueLaws.{product-small, residue, residue-of, two-less}
+use Rattle.gaussian.proofs.ResidueLaws.{residue, residue-of, two-less}
 use Rattle.gaussian.proofs.LogLaws.{LogLoop, log-start, log-more, log-done}
 use borrow.Author.Needs.{needs}
 use Rattle.gaussian.proofs.residues.logarithms.Statement.{statement}
@@ -22,24 +22,20 @@ add-logs c = omega (arith, c .before .before .before .before .pre .greatest)
 cast-logs : tie.Need-cast-logs Inv-loop μ-loop
 cast-logs c = omega (arith, c .before .before .before .before .pre .greatest)
 
-mul-logs : tie.Need-mul-logs Inv-loop μ-loop
-mul-logs c = omega (arith, c .before .loop .inv .less .small, c .before .loop .inv .less .less)
-
 array-write-logs : tie.Need-array-write-logs Inv-loop μ-loop
 array-write-logs c = omega (arith, c .before .loop .inv .less .small, c .before .loop .inv .less .less)
 
-mul-y : tie.Need-mul-y Inv-loop μ-loop
-mul-y c =
-    let base = rw (c .before .before .before .modulus .ensures) at (c .before .before .power .ensures) in
-    omega (arith, product-small (c .before .loop .inv .less) (residue-of _ base (c .before .loop .inv .less)))
-
-rem-y : tie.Need-rem-y Inv-loop μ-loop
-rem-y c = rw (c .before .before .before .modulus .ensures) (omega arith)
+times-requires : tie.Need-times-requires Inv-loop μ-loop
+times-requires c κs =
+    let y = c .before .loop .inv .less in
+    let is = c .before .before .before .modulus .ensures in
+    rw is (y, residue-of _ (rw is at (c .before .before .power .ensures)) y)
 
 loop-again : tie.Need-loop-again Inv-loop μ-loop
 loop-again c =
-    let s = c .before .before .before in
-    rw (s .modulus .ensures) (log-more (s .before .pre) (c .before .loop .inv) (c .loop-test .taken) (rw (s .modulus .ensures) at (c .before .before .power .ensures)))
+    let s = c .before .before .before .before in
+    let is = s .modulus .ensures in
+    log-more (s .before .pre) (c .before .before .loop .inv) (c .before .loop-test .taken) (rw is at (c .before .before .before .power .ensures)) (rw is at (c .times .ensures))
 
 returns : tie.Need-returns Inv-loop μ-loop
 returns c = log-done (c .before .before .before .before .pre) (c .before .loop .inv) (omega arith)
@@ -47,5 +43,5 @@ returns c = log-done (c .before .before .before .before .pre) (c .before .loop .
 pub logarithms-spec : {M : Type 1} → statement M
 logarithms-spec =
     tie.close
-    (tie.spec Inv-loop μ-loop (λ c κs. c .pre) power-requires (λ c. log-start (c .before .before .pre)) add-logs cast-logs mul-logs array-write-logs mul-y
-    rem-y (λ c. search needs) (λ c. search needs) loop-again returns)
+    (tie.spec Inv-loop μ-loop (λ c κs. c .pre) power-requires (λ c. log-start (c .before .before .pre)) add-logs cast-logs (λ c. search needs)
+    (λ c. search needs) array-write-logs times-requires (λ c. search needs) (λ c. search needs) loop-again returns)
