@@ -25,13 +25,17 @@ pub record LogLoop (m t : ℕ) (logs : List ℕ) (y s : ℕ) : Type 0 where
   pub less : Residue (modulus m t) y
   pub entries : Logarithms m t s logs
 
+-- entries that are all 0
+pub no-logarithms : (m t : ℕ) → Logarithms m t 0 (replicate residues 0)
+no-logarithms m t = record { size = length-replicate {A = ℕ} residues 0; known = λ s l. absurd (omega arith); sound = λ y s e. absurd (omega (arith, zero-at residues y, e)) }
+
 module _ {m t : ℕ} (d : Drawable m t) where
-  pub log-start : LogLoop m t (replicate residues 0) 1 0
-  log-start = let h = d .isType .0 .0 in record {
+  pub log-start : {logs : List ℕ} → Logarithms m t 0 logs → LogLoop m t logs 1 0
+  log-start l = let h = d .isType .0 .0 in record {
     within = omega arith;
     power = ap (λ x. x % modulus m t) (pow-zero (2 ^ t)) ∙ mod-eq-of-lt h;
     less = residue 1 d h;
-    entries = record { size = length-replicate {A = ℕ} residues 0; known = λ s l. absurd (omega arith); sound = λ y s e. absurd (omega (arith, zero-at residues y, e)) };
+    entries = l;
   }
 
   module _ {logs : List ℕ} {y s : ℕ} (l : LogLoop m t logs y s) (below : s < m) where

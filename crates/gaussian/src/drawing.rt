@@ -91,7 +91,8 @@ pub(crate) fn fill(table: &mut [u8], m: usize, t: usize)
 {
     clear(table);
     let p = residues::modulus(m, t);
-    let logs = residues::logarithms(m, t);
+    let mut logs = [0u16; residues::RESIDUES];
+    residues::logarithms(&mut logs, m, t);
     let mut w: u32 = 0;
     while w < p {
         add_term(table, &logs, m, t, w);

@@ -7,7 +7,7 @@ ghost use Rattle.gaussian.specs.Inner.{Residue, Drawable, Logarithms};
 use crate::types;
 
 // No modulus of a listed type reaches this number.
-const RESIDUES: usize = types::MAX_TYPE * limbs::MAX_WIDTH + 2;
+pub(crate) const RESIDUES: usize = types::MAX_TYPE * limbs::MAX_WIDTH + 2;
 
 pub(crate) fn modulus(m: usize, t: usize) -> u32
     requires { ⌜ Drawable m t ⌝ }
@@ -57,14 +57,14 @@ pub(crate) fn power(x: u32, e: usize, p: u32) -> u32
     r
 }
 
-// Entry y is s + 1 where y is 2^(T·s) modulo p for an s below m, and 0 where there is none.
-pub(crate) fn logarithms(m: usize, t: usize) -> [u16; RESIDUES]
-    requires { ⌜ Drawable m t ⌝ }
-    ensures { λ r. ⌜ Logarithms m t m r ⌝ }
+// Entry y becomes s + 1 where y is 2^(T·s) modulo p for an s below m, and stays 0 where there is none. The entries are lent, since an
+// array of so many would be copied when it is returned.
+pub(crate) fn logarithms(logs: &mut [u16], m: usize, t: usize)
+    requires { ⌜ Drawable m t × Logarithms m t 0 (now logs) ⌝ }
+    ensures { λ _. ⌜ Logarithms m t m (now (logs .exit)) ⌝ }
 {
     let p = modulus(m, t);
     let base = power(2, t, p);
-    let mut logs = [0u16; RESIDUES];
     let mut y: u32 = 1;
     let mut s = 0;
     while s < m {
@@ -72,7 +72,6 @@ pub(crate) fn logarithms(m: usize, t: usize) -> [u16; RESIDUES]
         y = times(y, base, p);
         s += 1;
     }
-    logs
 }
 
 // The entry of x^T modulo p.
