@@ -23,11 +23,9 @@ modulus-fits h = record { held = omega arith; multiplied = lt-of-le-of-lt (mul-l
 pub product-fits : {p a b : ℕ} → Residue p a → Residue p b → a * b < 2 ^ 64
 product-fits ra rb = lt-of-le-of-lt (mul-le-mul (omega (arith, ra .less)) (omega (arith, rb .less))) (modulus-fits (ra .small) .multiplied)
 
-pub residue-mod : {p a : ℕ} (x : ℕ) → Residue p a → Residue p (x % p)
-residue-mod x r = let h = r .above in record { above = h; small = r .small; less = mod-lt x (omega arith) }
-
+-- what is left modulo p, and what is less than a listed p, is a residue
 pub residue-of : {p a b : ℕ} (x : ℕ) → b ≡ x % p → Residue p a → Residue p b
-residue-of x e r = rw e (residue-mod x r)
+residue-of x e r = let h = r .above in record { above = h; small = r .small; less = rw e (mod-lt x (omega arith)) }
 
 pub residue : {m t : ℕ} (x : ℕ) → Drawable m t → x < modulus m t → Residue (modulus m t) x
 residue x d h = record { above = d .isType .0 .0; small = modulus-small (d .small) (d .greatest); less = h }
