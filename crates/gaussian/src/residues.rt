@@ -9,6 +9,7 @@ use crate::types;
 // No modulus of a listed type reaches this number.
 pub(crate) const RESIDUES: usize = types::MAX_TYPE * limbs::MAX_WIDTH + 2;
 
+// p, which 32 bits hold.
 pub(crate) fn modulus(m: usize, t: usize) -> u32
     requires { ⌜ Drawable m t ⌝ }
     ensures { λ r. ⌜ r ≡ modulus m t ⌝ }
