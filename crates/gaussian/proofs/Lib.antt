@@ -3,9 +3,9 @@
 -- Modulo: remainders of products and powers, and orders.
 -- Soundness: what a test of types that is passed says.
 -- Two: powers of 2 modulo a prime; why a width that 8 divides has no type.
--- TypeBound: the greatest type of the list.
+-- TypeBound: the greatest type of the list; every p of it fits.
 -- Cosets: x lies in 2^s·K exactly when x^T is 2^(T·s).
--- ResidueLaws, LogLaws: the loops that make a power and the logarithms.
+-- ResidueLaws, LogLaws: residues and their products; the loops that make a power and the logarithms.
 -- RowLaws, AddLaws, TermLaws: tables made row by row, what is added to them, and the sum over K.
 -- Answers: what the calls answer, by the fault that is given.
 -- Theorems: the proofs of the statements in specs/Statements.antt.

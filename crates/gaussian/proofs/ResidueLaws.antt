@@ -1,40 +1,34 @@
--- Residues modulo p: p and their products fit; what is left of p and of less; the loop that makes a power.
+-- Residues modulo p: their products fit; what is a residue; what is left of a number up to p; the loop that makes a power.
 use mathlib.Core.Path.{_≡_, sym, ap, _∙_}
 use Prim.Native.Nat.{ℕ, _+_, _*_, _/_, _%_, _^_, _<_, _≤_}
 use native.Mathlib.Nat.{lt-of-le-of-lt, mul-le-mul, mul-one, one-mul, mul-assoc, mod-lt, mod-self, mod-mod, mod-eq-of-lt, pow-zero, pow-suc}
 use native.Mathlib.Omega.{arith}
-use lib.Dec.{lit<}
 use lib.Pow.{pow-add}
-use Rattle.gf2.specs.Operands.{maxWidth}
-use Rattle.gaussian.specs.Types.{modulus, maxType}
+use Rattle.gaussian.specs.Types.{modulus}
 use Rattle.gaussian.specs.Inner.{residues, Residue, Drawable}
-use Rattle.gaussian.specs.Statements.{ModulusFits}
 use Rattle.gaussian.proofs.Modulo.{mul-cong, mul-pow, pow-cong}
+use Rattle.gaussian.proofs.TypeBound.{modulus-small, modulus-fits}
 use Rattle.gaussian.proofs.Cosets.{at-least}
 
--- every modulus of the list fits, by the bounds of its types and widths
-pub modulus-small : {m t : ℕ} → t ≤ maxType → m ≤ maxWidth → modulus m t < residues
-modulus-small ht hm = omega (arith, mul-le-mul ht hm)
-
-pub modulus-fits : {p : ℕ} → p < residues → ModulusFits p
-modulus-fits h = record { held = omega arith; multiplied = lt-of-le-of-lt (mul-le-mul {n₂ = residues} {m₂ = residues} (omega arith) (omega arith)) (lit< tt) }
-
--- and so does the product of two residues
+-- 64 bits hold the product of two residues
 pub product-fits : {p a b : ℕ} → Residue p a → Residue p b → a * b < 2 ^ 64
 product-fits ra rb = lt-of-le-of-lt (mul-le-mul (omega (arith, ra .less)) (omega (arith, rb .less))) (modulus-fits (ra .small) .multiplied)
 
--- what is left modulo p, and what is less than a listed p, is a residue
+-- what is left modulo p is a residue, and so is what is less than the p of a width and type that can be drawn
 pub residue-of : {p a b : ℕ} (x : ℕ) → b ≡ x % p → Residue p a → Residue p b
 residue-of x e r = let h = r .above in record { above = h; small = r .small; less = rw e (mod-lt x (omega arith)) }
 
+pub drawable-small : {m t : ℕ} → Drawable m t → modulus m t < residues
+drawable-small d = modulus-small (d .small) (d .greatest)
+
 pub residue : {m t : ℕ} (x : ℕ) → Drawable m t → x < modulus m t → Residue (modulus m t) x
-residue x d h = record { above = d .isType .0 .0; small = modulus-small (d .small) (d .greatest); less = h }
+residue x d h = record { above = d .isType .0 .0; small = drawable-small d; less = h }
 
 -- 2 is a residue
 pub two-less : {m t : ℕ} → Drawable m t → 2 < modulus m t
 two-less {m} {t} d = let h = d .least in omega (arith, at-least m t (d .least) (d .isType))
 
--- what is p itself, and what is less
+-- nothing is left of p itself, and a lesser number is left whole
 pub rest-none : (s p : ℕ) → s ≡ p → 0 ≡ s % p
 rest-none s p e = rw e (sym (mod-self p))
 

@@ -17,8 +17,7 @@ use Rattle.gaussian.proofs.Entries.{both, both-parts, every, at}
 use Rattle.gaussian.proofs.TypeTests.{entry, isType, noneBelow}
 use Rattle.gaussian.proofs.Soundness.{least}
 use Rattle.gaussian.proofs.Two.{eight}
-use Rattle.gaussian.proofs.TypeBound.{type-small}
-use Rattle.gaussian.proofs.ResidueLaws.{modulus-small, modulus-fits}
+use Rattle.gaussian.proofs.TypeBound.{type-small, modulus-small, modulus-fits}
 use Rattle.gaussian.proofs.RowLaws.{row-of, rows-table}
 
 passes : T (every entry 0 types)

@@ -12,7 +12,7 @@ use Rattle.gaussian.specs.Table.{rowsOf}
 abbrev pub residues : ℕ
 residues = maxType * maxWidth + 2
 
--- x is a residue modulo p, which is no greater than a listed type can give
+-- x is a residue modulo p, and p is no greater than a listed type can make it
 pub record Residue (p x : ℕ) : Type 0 where
   pub above : 1 < p
   pub small : p < residues

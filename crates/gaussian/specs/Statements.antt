@@ -21,7 +21,7 @@ pub record Listed (m t : ℕ) : Type 0 where
 abbrev pub TypeList : Type 0
 TypeList = (m : ℕ) → 2 ≤ m → m ≤ maxWidth → Listed m (typeOf m)
 
--- 32 bits hold the modulus p, and 64 the product of any two residues
+-- p "fits": 32 bits hold it, and 64 the product of any two residues modulo p
 pub record ModulusFits (p : ℕ) : Type 0 where
   pub held : p < 2 ^ 32
   pub multiplied : (p - 1) * (p - 1) < 2 ^ 64
