@@ -84,7 +84,7 @@ enum nb_fault {
     NB_ROW_PAIR = 5,         /* rows d, m-d differ: least d */
     NB_TRIPLE = 6,           /* triple differs: i, j; i is always 0 */
     NB_ROW_SUM = 7,          /* row sum wrong */
-    NB_TURN_COUNT = 8,       /* turn count m or more */
+    NB_TURN_COUNT = 8,       /* no longer given, and reserved: a turn takes every count */
     NB_INVERSE_OF_ZERO = 9,  /* inverse of zero */
     NB_TRACE_ONE = 10,       /* trace of c is 1 */
     NB_OUTPUT_SHORT = 11,    /* lent output shorter than needed */
@@ -129,7 +129,8 @@ uint64_t nb_zero(uint64_t width, uint8_t *result, size_t result_len);
 /* result: one, the operand with all m coordinates 1. Faults: 1; 2 result. Stack: 512. */
 uint64_t nb_one(uint64_t width, uint8_t *result, size_t result_len);
 
-/* result: a turned k places; k = 1 is the square. Faults: 1; 2 a, result; 3 in a; 8 where k is m or more. Stack: 1,024. */
+/* result: a turned k places, for every k: k is taken modulo m. So k = 1 is the square, k places are a to the power 2^k, and m places
+ * give a again. Faults: 1; 2 a, result; 3 in a. Stack: 1,024. */
 uint64_t nb_turn(uint64_t width, const uint8_t *a, size_t a_len, uint64_t k, uint8_t *result, size_t result_len);
 
 /* result: a + b, coordinate by coordinate modulo 2. Faults: 1; 2 a, b, result; 3 in a, b. Stack: 512. */

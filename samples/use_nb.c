@@ -1,5 +1,5 @@
-/* Takes in a table from its card, checks it, multiplies and inverts under it, writes its gate list and its card. Build and run, from
- * the project's root:
+/* Takes in a table from its card, checks it, multiplies, inverts and raises to a power under it, writes its gate list and its card.
+ * Build and run, from the project's root:
  *
  *     rt staticlib nb
  *     cc -std=c99 -Wall -Wextra -Iinclude samples/use_nb.c target/staticlib/libnb.a -o target/use_nb
@@ -12,6 +12,7 @@
  *     03 * 1d = 0e
  *     inverse of 03 = 16, 2 products
  *     03 * 16 = 1f
+ *     03 to the power 2^1001 = 06
  *     reduced list: 25 AND, 30 XOR, 172 words
  *     card: 16 bytes, as it was read
  *     a damaged table: fault 5, rows 1 and 4 differ
@@ -62,6 +63,11 @@ int main(void)
     if (refused("nb_product", nb_product(m, table, size, a, w, inverse, w, c, w)))
         return 1;
     printf("%02x * %02x = %02x\n", a[0], inverse[0], c[0]);
+
+    /* The power 2^k is the turn by k, whatever k is. */
+    if (refused("nb_turn", nb_turn(m, a, w, 1001, c, w)))
+        return 1;
+    printf("%02x to the power 2^1001 = %02x\n", a[0], c[0]);
 
     answer = nb_counts_reduced(m, table, size);
     if (refused("nb_counts_reduced", answer))

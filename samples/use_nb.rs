@@ -1,5 +1,5 @@
-// Takes in a table from its card, checks it, multiplies and inverts under it, writes its gate list and its card. Build and run, from
-// the project's root:
+// Takes in a table from its card, checks it, multiplies, inverts and raises to a power under it, writes its gate list and its card.
+// Build and run, from the project's root:
 //
 //     rt staticlib nb
 //     rustc --edition 2021 samples/use_nb.rs -L target/staticlib -l static=nb -o target/use_nb_rs
@@ -33,6 +33,7 @@ mod c {
             result: *mut u8,
             result_len: usize,
         ) -> u64;
+        pub fn nb_turn(width: u64, a: *const u8, a_len: usize, k: u64, result: *mut u8, result_len: usize) -> u64;
         pub fn nb_counts_reduced(width: u64, table: *const u8, table_len: usize) -> u64;
         pub fn nb_list_reduced(width: u64, table: *const u8, table_len: usize, out: *mut u32, out_len: usize) -> u64;
         pub fn nb_card_write(width: u64, table: *const u8, table_len: usize, out: *mut u8, out_len: usize) -> u64;
@@ -113,6 +114,10 @@ fn inverse(width: u64, table: &[u8], a: &[u8], result: &mut [u8]) -> Answer {
     })
 }
 
+fn turn(width: u64, a: &[u8], k: u64, result: &mut [u8]) -> Answer {
+    unpacked(unsafe { c::nb_turn(width, a.as_ptr(), a.len(), k, result.as_mut_ptr(), result.len()) })
+}
+
 fn counts_reduced(width: u64, table: &[u8]) -> Answer {
     unpacked(unsafe { c::nb_counts_reduced(width, table.as_ptr(), table.len()) })
 }
@@ -146,6 +151,9 @@ fn run() -> Result<(), (u64, u64, u64)> {
     println!("inverse of {:02x} = {:02x}, {} products", a[0], inverted[0], products);
     product(m, table, &a, &inverted, &mut c)?;
     println!("{:02x} * {:02x} = {:02x}", a[0], inverted[0], c[0]);
+    // The power 2^k is the turn by k, whatever k is.
+    turn(m, &a, 1001, &mut c)?;
+    println!("{:02x} to the power 2^1001 = {:02x}", a[0], c[0]);
 
     let (ands, xors) = counts_reduced(m, table)?;
     let mut list = vec![0; list_words(m as usize, ands as usize, xors as usize)];

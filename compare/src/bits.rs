@@ -92,12 +92,9 @@ pub fn one(m: usize, result: &mut [u8]) -> Answer<()> {
     constant(m, true, result)
 }
 
-/// The turn by k, on W bytes.
+/// The turn by k, whatever k is, on W bytes.
 pub fn turn(m: usize, a: &[u8], k: usize, result: &mut [u8]) -> Answer<()> {
     judge_operands(m, &[a], &[result.len()])?;
-    if k >= m {
-        return fault(8);
-    }
     result.copy_from_slice(&pack(&turned(&unpack(m, a), k)));
     Ok(())
 }

@@ -189,7 +189,7 @@ impl Maker {
             0 => n - 1,
             1 => n,
             2 => n + self.source.below(9),
-            3 => usize::MAX,
+            3 => [2 * n - 1, 2 * n, 1 << 32, usize::MAX][self.source.below(4)],
             _ => self.source.below(n),
         };
         vec![

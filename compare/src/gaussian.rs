@@ -118,7 +118,7 @@ impl Ieee1363 {
     }
 
     pub fn product(&self, a: &[bool], b: &[bool]) -> Bits {
-        let back = |x: &[bool], i: usize| turned(x, (self.m - i) % self.m);
+        let back = |x: &[bool], i: usize| turned(x, self.m - i);
         (0..self.m).map(|i| self.first(&back(a, i), &back(b, i))).collect()
     }
 }

@@ -78,7 +78,8 @@ fn limits() {
     let mut result = [0];
     assert_eq!(bits::turn(5, &[1], 4, &mut result), Ok(()));
     assert_eq!(result, [16]);
-    assert_eq!(number(bits::turn(5, &[1], 5, &mut result)), (8, 0, 0));
+    assert_eq!(bits::turn(5, &[1], 5, &mut result), Ok(()));
+    assert_eq!(result, [1]);
     assert_eq!(number(draw(8, &mut [0; 8])), (17, 0, 0));
 }
 

@@ -21,7 +21,7 @@ const NUMBERS: [(&str, &[u32]); 23] = [
     ("inverse", &[1, 2, 3, 9]),
     ("zero", &[1, 2]),
     ("one", &[1, 2]),
-    ("turn", &[1, 2, 3, 8]),
+    ("turn", &[1, 2, 3]),
     ("sum", &[1, 2, 3]),
     ("trace", &[1, 2, 3]),
     ("solve", &[1, 2, 3, 10]),
@@ -168,6 +168,24 @@ fn every_width() {
             }
             run.until(false, group, m);
         }
+    }
+    println!("{} calls", run.calls());
+}
+
+/// Turns by counts below, at and above the width, of every width. By m an operand stays as it is.
+#[test]
+fn turns_by_any_count() {
+    let mut run = Run::new(13, 0);
+    for width in 2..=MAX_WIDTH {
+        let mut bytes = || bits::pack(&run.maker.source().bits(width));
+        let (a, result) = (bytes(), bytes());
+        let counts = [0, 1, width - 1, width, width + 1, 2 * width - 1, 2 * width, 1 << 32, usize::MAX];
+        let calls = counts.map(|k| Call::turn { width, a: a.clone(), k, result: result.clone() });
+        let given = run.hold(calls.into());
+        assert!(given.iter().all(|(_, number)| *number == 0), "width {width}: {given:?}");
+        let mut same = result.clone();
+        proved::turn(width, &a, width, &mut same).unwrap();
+        assert_eq!(same, a, "width {width}");
     }
     println!("{} calls", run.calls());
 }

@@ -27,6 +27,14 @@ fn fits(call: &Call, greatest: usize) -> bool {
     call.is_linked() && !stated.is_some_and(|m| (greatest + 1..=MAX_WIDTH).contains(&m))
 }
 
+/// What a call is counted under: its name, where turns by m or more, which earlier libraries refuse with 8, go apart.
+fn kind(call: &Call) -> &'static str {
+    match call {
+        Call::turn { width, k, .. } if k >= width => "turn_round",
+        _ => call.name(),
+    }
+}
+
 fn main() {
     let mut arguments = std::env::args().skip(1);
     let greatest: usize = arguments.next().and_then(|text| text.parse().ok()).expect("usage: answers GREATEST [GROUP..]");
@@ -44,7 +52,7 @@ fn main() {
             maker.harm = harm;
             for (group, rounds) in &groups {
                 for mut call in (0..*rounds).flat_map(|_| group(&mut maker, width)).filter(|call| fits(call, greatest)) {
-                    let (count, digest) = digests.entry(call.name()).or_default();
+                    let (count, digest) = digests.entry(kind(&call)).or_default();
                     *count += 1;
                     call.proved().hash(digest);
                     call.hash(digest);

@@ -5,7 +5,7 @@
 //! Prints the lines of docs/benchmark.csv, in nanoseconds, the ratio proved / Rust last, and on standard error how long the product
 //! takes by definition. With the argument `growth` it prints how each cost grows from width 65 to 571 instead, with `calls` the times at
 //! 233, type 2, and at 571, type 10, those of accepting a list, and those of the check over more tables, which compare/before-after reads;
-//! an earlier library that doesn't take a width or has no such call is not timed there. Every time is of a whole call, with every
+//! an earlier library that doesn't take a width or a count, or has no such call, is not timed there. Every time is of a whole call, with every
 //! judgement in it; lent buffers are not cleared before a call.
 
 use compare::gates::{self, Method, ACCEPTED_GATES, ACCEPTED_WIDTH};
@@ -134,6 +134,9 @@ fn measure(case: &Case) -> Vec<(&'static str, f64, f64)> {
     #[cfg(constants)]
     row!("one", proved::one(m, &mut result), same::operands::nb_one(width, &mut result2));
     row!("turn", proved::turn(m, a, m / 3, &mut result), same::operands::nb_turn(width, a, width / 3, &mut result2));
+    if compare::proved::turn(m, a, usize::MAX, &mut result).is_ok() {
+        row!("turn by 2^64-1", proved::turn(m, a, usize::MAX, &mut result), same::operands::nb_turn(width, a, u64::MAX, &mut result2));
+    }
     row!("sum", proved::sum(m, a, b, &mut result), same::operands::nb_sum(width, a, b, &mut result2));
     row!("trace", proved::trace(m, a), same::operands::nb_trace(width, a));
     row!("solve", proved::solve(m, c, &mut result), same::operands::nb_solve(width, c, &mut result2));

@@ -1,5 +1,5 @@
 -- The tests of the definitions decide: each is true exactly when the proposition that it stands for holds.
--- Numbers: less, at most, equal. Widths. Bytes that are the same. Bits at the width and above, of an operand and of a table's rows.
+-- Numbers: less, equal. Widths. Bytes that are the same. Bits at the width and above, of an operand and of a table's rows.
 use mathlib.Core.Path.{_≡_, refl, sym, ap₂, _∙_}
 use mathlib.Core.Logic.{_↔_}
 use mathlib.Core.Bool.{Bool, true, false, not, _&&_, _||_, true≢false}
@@ -27,9 +27,6 @@ unless false n h = (λ e. h refl, λ p. refl)
 module _ (a b : ℕ) where
   pub less-decides : (ltb a b ≡ true) ↔ (a < b)
   less-decides = (ltb-true a b, lt-ltb a b)
-
-  pub most-decides : (leb a b ≡ true) ↔ (a ≤ b)
-  most-decides = (leb-true a b, le-leb a b)
 
   pub equal-decides : (eqb a b ≡ true) ↔ (a ≡ b)
   equal-decides = (eqb-true a b, eq-eqb a b)

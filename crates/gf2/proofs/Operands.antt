@@ -6,7 +6,7 @@ use mathlib.Core.Path.{_≡_, sym, ap, ap₂, _∙_}
 use mathlib.Core.List.{List}
 use mathlib.Core.Bool.{Bool, true, false, _||_}
 use Prim.Native.Nat.{ℕ, _+_, _-_, _*_, _%_, _<_, _≤_}
-use native.Mathlib.Nat.{add-comm, mod-lt, mod-eq-of-lt, add-mod-left, lt-of-le-of-lt}
+use native.Mathlib.Nat.{add-comm, mod-lt, mod-eq-of-lt, add-mod-left, mod-mod, lt-of-le-of-lt}
 use native.Mathlib.Decide.{decLt}
 use native.Mathlib.Omega.{arith}
 use lib.ListN.{length}
@@ -112,6 +112,15 @@ minus-below m i k h l =
 pub minus-round : (m i k : ℕ) → i < k → k < m → minus m i k ≡ i + (m - k)
 unfolding minus
 minus-round m i k h l = rw (mod-eq-of-lt l) (mod-eq-of-lt (omega arith))
+
+-- k may be taken modulo m first
+pub minus-modulo : (m i k : ℕ) → minus m i k ≡ minus m i (k % m)
+unfolding minus
+minus-modulo m i k = rw (mod-mod k m)
+
+pub turned-modulo : (m k : ℕ) (a : List ℕ) → turned m k a ≡ turned m (k % m) a
+unfolding turned minus
+turned-modulo m k a = rw (mod-mod k m)
 
 -- terms taken in turn from another place on
 pub sum-shift : (m i : ℕ) (f : ℕ → ℕ) → i < m → sum m (λ j. f (minus m j i)) ≡ sum m f

@@ -6,14 +6,14 @@ use Prim.Native.Nat.{ℕ, _-_, _*_, _<_, _≤_}
 use native.Mathlib.Nat.{mul-le-mul}
 use native.Mathlib.Omega.{arith}
 use lib.Dec.{leb, eqb}
-use borrow.Author.Tests.{leb-true, leb-false, le-leb, lt-leb, ltb-false, le-ltb, eqb-true, eq-eqb}
+use borrow.Author.Tests.{leb-true, le-leb, ltb-false, le-ltb, eqb-true, eq-eqb}
 use Rattle.gf2.specs.Sums.{every}
 use Rattle.gf2.specs.Operands.{maxWidth, bytesFor, carriedBytes, IsOperand, isClear, same}
 use Rattle.gf2.specs.Tables.{row}
 use Rattle.gf2.proofs.Parity.{and-both}
 use Rattle.gf2.proofs.Operands.{clear-of}
 use Rattle.gf2.proofs.Decisions.{same-decides}
-use Rattle.judging.specs.FaultTable.{badWidth, badLength, highBit, highBitInRow, turnTooFar, tooShort}
+use Rattle.judging.specs.FaultTable.{badWidth, badLength, highBit, highBitInRow, tooShort}
 
 pub not-not : (b : Bool) → not b ≡ false → b ≡ true
 not-not true e = refl
@@ -68,12 +68,6 @@ module _ (x y : List ℕ) where
 
   pub same-passes : x ≡ y → not (same x y) ≡ false
   same-passes e = rw (same-decides x y .1 e)
-
-pub below-width : (m k : ℕ) → turnTooFar m k .test ≡ false → k < m
-below-width m k e = leb-false m k e
-
-pub turn-passes : (m k : ℕ) → k < m → turnTooFar m k .test ≡ false
-turn-passes m k h = lt-leb m k h
 
 pub has-room : (given needed : ℕ) → tooShort given needed .test ≡ false → needed ≤ given
 has-room given needed e = ltb-false given needed e

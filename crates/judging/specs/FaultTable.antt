@@ -11,9 +11,9 @@ use Rattle.gf2.specs.Quadratic.{trace}
 use Rattle.gf2.specs.Tables.{row, basis}
 use Rattle.gf2.specs.Products.{product}
 use Rattle.gf2.specs.Check.{Rule4, Rule5, Rule6, Rule7, rowSum}
-use Rattle.gf2.proofs.Decisions.{width-decides, other-decides, less-decides, most-decides, equal-decides, high-decides, rows-decide, same-decides, unlike-decides}
+use Rattle.gf2.proofs.Decisions.{width-decides, other-decides, less-decides, equal-decides, high-decides, rows-decide, same-decides, unlike-decides}
 use Rattle.judging.specs.declared.fault.Fault.the-variants.{Width, Length, HighBit, RowZero, RowPair, Triple, RowSum, Call}
-use Rattle.judging.specs.declared.fault.CallFault.the-variants.{TurnCount, InverseOfZero, TraceOne, OutputShort}
+use Rattle.judging.specs.declared.fault.CallFault.the-variants.{InverseOfZero, TraceOne, OutputShort}
 use Rattle.judging.specs.Causes.{Cause, from}
 
 -- "width not 2..571"
@@ -101,10 +101,6 @@ rowSumWrong m table =
       fault = RowSum;
       numbered = refl;
     }
-
--- 8: "turn count m or more"
-abbrev pub turnTooFar : ℕ → ℕ → Cause
-turnTooFar m k = record { Holds = m ≤ k; test = leb m k; exact = most-decides m k; fault = Call TurnCount; numbered = refl }
 
 -- 9: "inverse of zero", of an operand of n bytes
 abbrev pub isZero : ℕ → ℕ → List ℕ → Cause

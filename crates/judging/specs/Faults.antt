@@ -4,7 +4,7 @@ use lib.Dec.{eqb}
 use Rattle.judging.specs.declared.fault.Fault.{Fault}
 use Rattle.judging.specs.declared.fault.Fault.the-variants.{None, Width, Length, HighBit, RowZero, RowPair, Triple, RowSum, Call, Card, List}
 use Rattle.judging.specs.declared.fault.CallFault.{CallFault}
-use Rattle.judging.specs.declared.fault.CallFault.the-variants.{TurnCount, InverseOfZero, TraceOne, OutputShort, NoType, BadGate}
+use Rattle.judging.specs.declared.fault.CallFault.the-variants.{InverseOfZero, TraceOne, OutputShort, NoType, BadGate}
 use Rattle.judging.specs.declared.fault.CardFault.{CardFault}
 use Rattle.judging.specs.declared.fault.CardFault.the-variants.{Ends, Number, Form, Place, Tail}
 use Rattle.judging.specs.declared.fault.ListFault.{ListFault}
@@ -13,7 +13,6 @@ use Rattle.judging.specs.declared.fault.FaultNumber.{FaultNumber}
 
 -- the columns Number and Returned of document 01's table of faults, of what a call finds wrong beside widths, lengths, bits and rules
 abbrev pub callNumberOf : CallFault → FaultNumber
-callNumberOf TurnCount = (8, 0, 0)
 callNumberOf InverseOfZero = (9, 0, 0)
 callNumberOf TraceOne = (10, 0, 0)
 callNumberOf OutputShort = (11, 0, 0)

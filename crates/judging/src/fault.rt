@@ -4,7 +4,6 @@ ghost use Rattle.judging.specs.Faults.{callNumberOf, cardNumberOf, listN
 
 // What a call finds wrong beside widths, lengths, bits and the rules of a table.
 pub enum CallFault {
-    TurnCount,
     InverseOfZero,
     TraceOne,
     OutputShort,
@@ -28,7 +27,7 @@ pub enum ListFault {
     Output(usize),
 }
 
-// A variant for each number of document 01's table and one for none. Those of a call, of a card and of a list to be accepted are enums of
+// A variant for each number of document 01's table and one for none; by document 02, (d), there is no 8. Those of a call, of a card and of a list to be accepted are enums of
 // their own: a match needs no proof of its own as long as an enum has at most a dozen variants.
 pub enum Fault {
     None,
@@ -51,7 +50,6 @@ fn call_number(c: CallFault) -> FaultNumber
     ensures { λ r. ⌜ (r .0 ≡ callNumberOf c .0) × (r .1 ≡ callNumberOf c .1) × (r .2 ≡ callNumberOf c .2) ⌝ }
 {
     match c {
-        CallFault::TurnCount => FaultNumber(8, 0, 0),
         CallFault::InverseOfZero => FaultNumber(9, 0, 0),
         CallFault::TraceOne => FaultNumber(10, 0, 0),
         CallFault::OutputShort => FaultNumber(11, 0, 0),

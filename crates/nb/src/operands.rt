@@ -23,7 +23,7 @@ pub extern "C" fn nb_one(width: u64, result: &mut [u8]) -> u64
 
 #[no_mangle]
 pub extern "C" fn nb_turn(width: u64, a: &[u8], k: u64, result: &mut [u8]) -> u64
-    ensures { λ r. ⌜ (r ≡ faultAnswer (turnBytesCauses width (now (a .entry)) k (now (result .entry))))
+    ensures { λ r. ⌜ (r ≡ faultAnswer (turnBytesCauses width (now (a .entry)) (now (result .entry))))
         × (now (result .exit) ≡ turnInto width (now (a .entry)) k (now (result .entry))) ⌝ }
 {
     packing::answer(

@@ -25,14 +25,14 @@ use Rattle.quadratic.proofs.QuadraticLimbs.{root-from}
 use Rattle.judging.specs.declared.fault.Fault.{Fault}
 use Rattle.judging.specs.Faults.{isNone}
 use Rattle.judging.specs.Causes.{Cause, faultOf}
-use Rattle.judging.specs.FaultTable.{badWidth, badLength, highBit, turnTooFar, traceIsOne}
-use Rattle.judging.proofs.CauseLaws.{same-head, head-fails, fine, judged, ends, ends-some}
-use Rattle.judging.proofs.Passed.{IsWidth, is-width, as-laid-down, is-clear, below-width, turn-passes}
+use Rattle.judging.specs.FaultTable.{badWidth, badLength, highBit, traceIsOne}
+use Rattle.judging.proofs.CauseLaws.{same-head, fine, judged, ends, ends-some}
+use Rattle.judging.proofs.Passed.{IsWidth, is-width, as-laid-down, is-clear}
 use Rattle.turns.specs.Moves.{rolled}
 use Rattle.turns.proofs.Turns.{rolled-turned, rolled-limbs}
 use Rattle.operand.specs.declared.Operand.{Operand}
 use Rattle.operand.specs.declared.OperandAnswer.{OperandAnswer}
-use Rattle.operand.specs.Causes.{operandCauses, turnCauses}
+use Rattle.operand.specs.Causes.{operandCauses}
 use Rattle.operand.specs.Calls.{noOperand, answer, traceAnswer}
 
 -- equal faults and, where these are none, equal bytes make equal answers
@@ -137,12 +137,13 @@ pub high-by : {m : ℕ} {a x : List ℕ} → HasBytes m a → x ≡ carriedBy a 
     → faultOf (highBit m x ∷ cs) ≡ faultOf (highBit m a ∷ ds)
 high-by {m} h e cs ds k = ap (λ z. faultOf (highBit m z ∷ cs)) e ∙ high-same h cs ds k
 
--- a turn whose width has passed, where its bits and its count do
-pub turn-made : (m k : ℕ) (x : List ℕ) {r : List ℕ} {f : Fault} {b : Bool} → m ≤ maxWidth → length x ≡ carriedBytes → f ≡ faultOf (highBit m x ∷ turnTooFar m k ∷ []) → b ≡ isNone f → b ≡ true
-    → r ≡ pack carriedBytes (rolled m k (coord x)) → r ≡ turned m k x
-turn-made m k x fits size e t q h =
-    let p = fine (highBit m x ∷ turnTooFar m k ∷ []) (judged (highBit m x ∷ turnTooFar m k ∷ []) [] e t q) in
-    h ∙ rolled-turned fits (below-width m k (p .1 .0)) x size (clear-at m x (is-clear m x (p .0)))
+-- a turn whose width and bits have passed
+pub turn-made : (a : Operand) (k : ℕ) {r : List ℕ} → length (a .bytes) ≡ carriedBytes → isNone (faultOf (operandCauses a)) ≡ true
+    → r ≡ pack carriedBytes (rolled (a .width) k (coord (a .bytes))) → r ≡ turned (a .width) k (a .bytes)
+turn-made a k size e h =
+    let p = fine (operandCauses a) e in
+    let w = is-width _ (p .0) in
+    h ∙ rolled-turned (w .greatest) (omega (arith, w .least)) k (a .bytes) size (clear-at _ _ (is-clear _ _ (p .1 .0)))
 
 no-bytes : replicate carriedBytes 0 ≡ pack carriedBytes (λ i. 0)
 unfolding pack tabulate value sum
@@ -194,11 +195,11 @@ unfolding ones
 one-out m h room p q = limbs-out (λ i. 1) h room p (q ∙ limbs-below carriedLimbs m _ (λ i. 1) (λ i k. ap (λ x. x % 2) (full-ones i (omega arith))))
 
 -- turn, sum and solution of W bytes, in limbs
-pub turn-out : {m n : ℕ} (k : ℕ) {a x l new : List ℕ} → HasBytes m a → isClear m a ≡ true → k < m → n ≡ bytesFor m → new ≡ pack n (limbCoord l) → x ≡ limbsOf a
+pub turn-out : {m n : ℕ} (k : ℕ) {a x l new : List ℕ} → IsWidth m → HasBytes m a → isClear m a ≡ true → n ≡ bytesFor m → new ≡ pack n (limbCoord l) → x ≡ limbsOf a
     → l ≡ packLimbs carriedLimbs (rolled m k (limbCoord x)) → new ≡ turned m k a
-turn-out {m} {n} k {a} {x} h clear less room p ex e =
+turn-out {m} {n} k {a} {x} w h clear room p ex e =
     written-out (h .greatest) (turned-is h k) room
-    (p ∙ ap (λ y. pack n (limbCoord y)) (e ∙ rolled-limbs (h .greatest) less (carriedBy a) (length-pack carriedBytes (coord a)) (clear-at m (carriedBy a) (clear-carried h ∙ clear)) x (slice-same a ex (short h) ∙ sym (same-coord h)))
+    (p ∙ ap (λ y. pack n (limbCoord y)) (e ∙ rolled-limbs (h .greatest) (omega (arith, w .least)) k (carriedBy a) (length-pack carriedBytes (coord a)) (clear-at m (carriedBy a) (clear-carried h ∙ clear)) x (slice-same a ex (short h) ∙ sym (same-coord h)))
     ∙ ap (pack n) (limbs-same (turned m k (carriedBy a)) refl (turned-size ∙ length-pack carriedBytes (coord a)))) (turned-carried h k)
   where
     turned-size : length (turned m k (carriedBy a)) ≡ length (carriedBy a)
@@ -250,12 +251,3 @@ pub trace-after : (m n : ℕ) (x : List ℕ) → m ≤ n → faultOf (highBit m 
 unfolding trace
 trace-after m n x h = same-head (highBit m x) (highBit m x) _ _ refl refl (λ q.
     same-head (traceIsOne n x) (traceIsOne m x) [] [] (ap (λ t. eqb t 1) (trace-bytes m n x h (is-clear m x q))) refl (λ p. refl))
-
--- a turn by one is never refused for its count
-pub square-fault : (a : Operand) → faultOf (turnCauses a 1) ≡ faultOf (operandCauses a)
-unfolding faultOf
-square-fault a =
-    let m = a .width in
-    let h = highBit m (a .bytes) in
-    same-head (badWidth m) (badWidth m) (h ∷ turnTooFar m 1 ∷ []) (h ∷ []) refl refl (λ w.
-    same-head h h (turnTooFar m 1 ∷ []) [] refl refl (λ q. head-fails (turnTooFar m 1) [] (turn-passes m 1 (is-width m w .least))))

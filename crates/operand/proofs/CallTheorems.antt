@@ -1,4 +1,4 @@
--- The proofs of `CallLaws` in specs/Statements.antt: when 10 is given, and the way to W bytes and back.
+-- The proofs of `CallLaws` in specs/Statements.antt: counts modulo the width, when 10 is given, and the way to W bytes and back.
 use mathlib.Core.Path.{_≡_, sym, ap, _∙_}
 use mathlib.Core.Bool.{true}
 use mathlib.Core.List.{List, [], _∷_}
@@ -12,7 +12,7 @@ use Rattle.gf2.specs.Coordinates.{coord, pack}
 use Rattle.gf2.specs.Operands.{bytesFor, carriedBytes, IsOperand}
 use Rattle.gf2.specs.Quadratic.{trace, root}
 use Rattle.gf2.proofs.Coordinates.{pack-eq, pack-byte, length-pack, coord-lt, coord-past}
-use Rattle.gf2.proofs.Operands.{from-operand, clear-at}
+use Rattle.gf2.proofs.Operands.{from-operand, turned-modulo, clear-at}
 use Rattle.gf2.proofs.Carrying.{coord-repacked}
 use Rattle.operand.specs.declared.Operand.{Operand}
 use Rattle.judging.specs.declared.fault.Fault.the-variants.{None, Call}
@@ -93,6 +93,7 @@ written-read m bytes old small e size =
 
 pub call-laws : CallLaws
 call-laws = record {
+  modulo = λ a k. ap (answer (faultOf (operandCauses a)) (a .width)) (turned-modulo (a .width) k (a .bytes));
   unsolvable = λ c h. (forth c h, back c h);
   readWritten = λ a old h size. read-written old (width h) (h .operand) size;
   writtenRead = written-read;

@@ -1,16 +1,16 @@
 -- What the calls answer for operands that have no fault: for callers that know so.
 use mathlib.Core.Path.{_≡_, refl}
 use mathlib.Core.List.{List}
-use Prim.Native.Nat.{ℕ, _<_}
+use Prim.Native.Nat.{ℕ}
 use Rattle.gf2.specs.Operands.{carriedBytes, IsOperand, turned, squared, added}
 use Rattle.judging.specs.declared.fault.Fault.the-variants.{None}
 use Rattle.judging.specs.Faults.{isNone}
 use Rattle.judging.specs.Causes.{faultOf}
 use Rattle.judging.proofs.CauseLaws.{none-given}
-use Rattle.judging.proofs.Passed.{IsWidth, width-passes, length-passes, operand-passes, turn-passes}
+use Rattle.judging.proofs.Passed.{IsWidth, width-passes, length-passes, operand-passes}
 use Rattle.operand.specs.declared.Operand.{Operand}
 use Rattle.operand.specs.declared.OperandAnswer.{OperandAnswer}
-use Rattle.operand.specs.Causes.{operandCauses, pairCauses, turnCauses}
+use Rattle.operand.specs.Causes.{operandCauses, pairCauses}
 use Rattle.operand.specs.Calls.{answer, turnCall, squareCall, sumCall}
 
 -- the operand of width m with these bytes
@@ -24,9 +24,9 @@ module _ {m : ℕ} {x : List ℕ} (w : IsWidth m) (o : IsOperand carriedBytes m 
   pub operand-none : faultOf (operandCauses (carry m x)) ≡ None
   operand-none = none-given (operandCauses (carry m x)) (width-passes m w, (operand-passes m x o, tt))
 
-  pub turn-done : (k : ℕ) → k < m → turnCall (carry m x) k ≡ done m (turned m k x)
+  pub turn-done : (k : ℕ) → turnCall (carry m x) k ≡ done m (turned m k x)
   unfolding answer isNone
-  turn-done k h = rw (none-given (turnCauses (carry m x) k) (width-passes m w, (operand-passes m x o, (turn-passes m k h, tt))))
+  turn-done k = rw operand-none
 
   pub square-done : squareCall (carry m x) ≡ done m (squared m x)
   unfolding answer isNone

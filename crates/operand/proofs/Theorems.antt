@@ -4,6 +4,7 @@ use mathlib.Core.Path.{_≡_, refl, sym, subst, ap, fun-ext, _∙_}
 use mathlib.Core.Bool.{Bool, true, false}
 use mathlib.Core.List.{List}
 use Prim.Native.Nat.{ℕ, zero, suc, _+_, _-_, _*_, _%_, _<_, _≤_}
+use native.Mathlib.Nat.{add-mod-left}
 use native.Mathlib.Omega.{arith}
 use Rattle.gf2.specs.Coordinates.{coord}
 use Rattle.gf2.specs.Operands.{minus, IsOperand, zeroes, added, turned, squared}
@@ -13,7 +14,7 @@ use Rattle.gf2.proofs.Parity.{odd, bits, _⊕_, xor-self, xor-cancel, xor-comm,
 use Rattle.gf2.proofs.Index.{at, _⊖_, o, num-at, add-sub, at-add}
 use Rattle.gf2.proofs.IndexSums.{Σ, Σ-plus, Σ-shift, odd-Σ}
 use Rattle.gf2.proofs.Vector.{Vec, turn, add, zeros, add-comm, add-assoc, add-zeros, add-self, turn-turn, turn-z, turn-suc, turn-all, turn-add, fixed}
-use Rattle.gf2.proofs.Operands.{coord-from, from-operand, operand-ext, minus-lt, minus-below, minus-round, turned-operand, added-operand, coord-turned, coord-added}
+use Rattle.gf2.proofs.Operands.{coord-from, from-operand, operand-ext, minus-lt, minus-below, minus-round, turned-operand, turned-modulo, added-operand, coord-turned, coord-added}
 use Rattle.gf2.proofs.OperandVectors.{vec, bytes, operand-vec, vec-bytes, zeroes-vec, added-bytes, turned-bytes, bytes-inj}
 use Rattle.quadratic.proofs.QuadraticLimbs.{root-sum}
 use Rattle.operand.specs.Statements.{times, TurnLaws, SumLaws, quadratic, QuadraticLaws, OperandLaws}
@@ -48,10 +49,13 @@ module _ (n p : ℕ) (fits : suc p ≤ 8 * n) where
 
   turn-laws : TurnLaws n (suc p)
   turn-laws = record {
+    modulo = turned-modulo (suc p);
     twice = λ j k. each (λ a. turned (suc p) k (turned (suc p) j a) ≡ turned (suc p) (j + k) a) (λ v. rw (turned-b j v, turned-b k (turn (at j) v), turned-b (j + k) v, turn-turn, at-add));
     none = each (λ a. turned (suc p) 0 a ≡ a) (λ v. rw (turned-b 0 v, turn-z));
+    whole = each (λ a. turned (suc p) (suc p) a ≡ a) (λ v. rw (turned-b (suc p) v, turn-all));
     round = each (λ a. times (suc p) (turned (suc p) 1) a ≡ a) (λ v. rw (rounds (suc p) v, turn-all));
     square = λ a. unfold squared in refl;
+    oneMore = λ a. unfold squared in turned-modulo (suc p) (suc p + 1) a ∙ ap (λ k. turned (suc p) k a) (add-mod-left (suc p) 1) ∙ sym (turned-modulo (suc p) 1 a);
   }
 
   sum-laws : SumLaws n (suc p)

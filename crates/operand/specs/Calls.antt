@@ -13,7 +13,7 @@ use Rattle.judging.specs.FaultTable.{badWidth}
 use Rattle.operand.specs.declared.Operand.{Operand}
 use Rattle.operand.specs.declared.OperandAnswer.{OperandAnswer}
 use Rattle.operand.specs.declared.TraceAnswer.{TraceAnswer}
-use Rattle.operand.specs.Causes.{operandCauses, pairCauses, turnCauses, solveCauses, bytesCauses, roomCauses, constantCauses, turnBytesCauses, solveBytesCauses, sumBytesCauses}
+use Rattle.operand.specs.Causes.{operandCauses, pairCauses, solveCauses, bytesCauses, roomCauses, constantCauses, turnBytesCauses, solveBytesCauses, sumBytesCauses}
 
 -- the operand of width 0, which stands beside a fault and which every call refuses with 1
 abbrev pub noOperand : Operand
@@ -35,9 +35,9 @@ zeroCall m = answer (faultOf (badWidth m ∷ [])) m (zeroes carriedBytes m)
 abbrev pub oneCall : ℕ → OperandAnswer
 oneCall m = answer (faultOf (badWidth m ∷ [])) m (ones carriedBytes m)
 
--- "Turning an operand yields a new operand"; "Counts k from 0 to m-1 are allowed"
+-- "Turning an operand yields a new operand"; by document 02, (d), "Let a turn take every count, meaning the count modulo m"
 abbrev pub turnCall : Operand → ℕ → OperandAnswer
-turnCall a k = answer (faultOf (turnCauses a k)) (a .width) (turned (a .width) k (a .bytes))
+turnCall a k = answer (faultOf (operandCauses a)) (a .width) (turned (a .width) k (a .bytes))
 
 -- "Squaring means the turn by one"
 abbrev pub squareCall : Operand → OperandAnswer
@@ -75,7 +75,7 @@ abbrev pub oneInto : ℕ → List ℕ → List ℕ
 oneInto m old = written (faultOf (constantCauses m old)) (ones (bytesFor m) m) old
 
 abbrev pub turnInto : ℕ → List ℕ → ℕ → List ℕ → List ℕ
-turnInto m a k old = written (faultOf (turnBytesCauses m a k old)) (turned m k a) old
+turnInto m a k old = written (faultOf (turnBytesCauses m a old)) (turned m k a) old
 
 abbrev pub sumInto : ℕ → List ℕ → List ℕ → List ℕ → List ℕ
 sumInto m a b old = written (faultOf (sumBytesCauses m a b old)) (added m a b) old

@@ -4,7 +4,7 @@ use mathlib.Core.List.{List, [], _∷_}
 use Prim.Native.Nat.{ℕ}
 use Rattle.gf2.specs.Operands.{bytesFor}
 use Rattle.judging.specs.Causes.{Cause}
-use Rattle.judging.specs.FaultTable.{badWidth, badLength, notW, highBit, turnTooFar, traceIsOne}
+use Rattle.judging.specs.FaultTable.{badWidth, badLength, notW, highBit, traceIsOne}
 use Rattle.operand.specs.declared.Operand.{Operand}
 
 -- a carried operand
@@ -20,10 +20,6 @@ pairCauses a b =
     ∷ highBit (a .width) (a .bytes)
     ∷ highBit (b .width) (b .bytes)
     ∷ []
-
--- "Counts k from 0 to m-1 are allowed"
-abbrev pub turnCauses : Operand → ℕ → List Cause
-turnCauses a k = badWidth (a .width) ∷ highBit (a .width) (a .bytes) ∷ turnTooFar (a .width) k ∷ []
 
 -- 10: "trace of c is 1"
 abbrev pub solveCauses : Operand → List Cause
@@ -42,9 +38,9 @@ roomCauses a size =
 abbrev pub constantCauses : ℕ → List ℕ → List Cause
 constantCauses m result = badWidth m ∷ notW m result ∷ []
 
--- an operand and a result, then 8
-abbrev pub turnBytesCauses : ℕ → List ℕ → ℕ → List ℕ → List Cause
-turnBytesCauses m a k result = badWidth m ∷ notW m a ∷ notW m result ∷ highBit m a ∷ turnTooFar m k ∷ []
+-- an operand and a result: by document 02, (d), no count is refused
+abbrev pub turnBytesCauses : ℕ → List ℕ → List ℕ → List Cause
+turnBytesCauses m a result = badWidth m ∷ notW m a ∷ notW m result ∷ highBit m a ∷ []
 
 -- an operand and a result, then 10
 abbrev pub solveBytesCauses : ℕ → List ℕ → List ℕ → List Cause

@@ -30,15 +30,16 @@ pub fn one_into(width: usize, result: &mut [u8]) -> Fault
     fault
 }
 
+// The count is taken modulo the width.
 pub fn turn_into(width: usize, a: &[u8], k: usize, result: &mut [u8]) -> Fault
-    ensures { λ r. ⌜ (r ≡ faultOf (turnBytesCauses width (now (a .entry)) k (now (result .entry))))
+    ensures { λ r. ⌜ (r ≡ faultOf (turnBytesCauses width (now (a .entry)) (now (result .entry))))
         × (now (result .exit) ≡ turnInto width (now (a .entry)) k (now (result .entry))) ⌝ }
 {
     let sizes = judging::judge_sizes(width, a.len(), result.len());
     if !is_none(sizes) {
         return sizes;
     }
-    let fault = judge::judge_turn(a, width, k);
+    let fault = judging::judge_high_of(a, width);
     if is_none(fault) {
         limbs::store(turns::rolled_limbs(limbs::slice_limbs(a), width, k), result);
     }

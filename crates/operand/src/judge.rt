@@ -5,7 +5,7 @@ ghost use mathlib.Core.List.{[], _∷_};
 ghost use Prim.Native.Nat.{_*_};
 ghost use lib.ListN.{length};
 ghost use Rattle.judging.specs.Causes.{faultOf};
-ghost use Rattle.judging.specs.FaultTable.{highBit, turnTooFar, traceIsOne};
+ghost use Rattle.judging.specs.FaultTable.{highBit, traceIsOne};
 ghost use Rattle.operand.specs.Causes.{operandCauses, pairCauses};
 use crate::Operand;
 use judging::CallFault;
@@ -38,20 +38,6 @@ pub(crate) fn judge_pair(a: Operand, b: Operand) -> Fault
         return widths;
     }
     judging::judge_both_high(x, m, y, n)
-}
-
-// The bits of an operand, carried or in W bytes, then a turn's count.
-pub(crate) fn judge_turn(a: &[u8], m: usize, k: usize) -> Fault
-    ensures { λ r. ⌜ r ≡ faultOf (highBit m (now (a .entry)) ∷ turnTooFar m k ∷ []) ⌝ }
-{
-    let first = judging::judge_high_of(a, m);
-    if !is_none(first) {
-        return first;
-    }
-    if m <= k {
-        return Fault::Call(CallFault::TurnCount);
-    }
-    Fault::None
 }
 
 // The bits of an operand, then its trace, over all bits: that is the operand's where none is set at its width or above.

@@ -89,20 +89,13 @@ impl Operand {
         answered(judge_width(width), width, limbs::cleared(full, width))
     }
 
+    // The count is taken modulo the width.
     pub fn turn(self, k: usize) -> OperandAnswer
         ensures { λ r. ⌜ r ≡ turnCall self k ⌝ }
     {
         let m = self.width as usize;
         let x = self.bytes;
-        let first = judge_width(m);
-        if !is_none(first) {
-            return refused(first);
-        }
-        let fault = judge::judge_turn(&x, m, k);
-        if !is_none(fault) {
-            return refused(fault);
-        }
-        answered(fault, m, turns::rolled(x, m, k))
+        answered(judge::judge_operand(self), m, turns::rolled(x, m, k))
     }
 
     // The Frobenius map, which is the turn by one.

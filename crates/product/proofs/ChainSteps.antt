@@ -71,20 +71,20 @@ module _ (m : ℕ) (t a : List ℕ) where
   digits-fine n (suc u) s h = digits-fine n u _ (adding-fine _ _ (product-operand m t _ _ (turned-length m (s .k) (s .t) ∙ h .size)))
 
 -- x turned k places, and what it gives as a factor
-module _ {m : ℕ} {x : Operand} (s : Sound m x) (k : ℕ) (h : k < m) {r : OperandAnswer} (e : r ≡ turnCall x k) where
+module _ {m : ℕ} {x : Operand} (s : Sound m x) (k : ℕ) {r : OperandAnswer} (e : r ≡ turnCall x k) where
   pub turned-sound : Sound m (r .value)
-  turned-sound = made-sound s _ (turn-made s k h e)
+  turned-sound = made-sound s _ (turn-made s k e)
 
   pub turned-times : (t y : List ℕ) {p : Operand} → p ≡ operandOf m (product m t (r .value .bytes) y) → p ≡ operandOf m (product m t (turned m k (x .bytes)) y)
-  turned-times t y q = q ∙ ap (λ (o : Operand). operandOf m (product m t (o .bytes) y)) (turn-value s k h e)
+  turned-times t y q = q ∙ ap (λ (o : Operand). operandOf m (product m t (o .bytes) y)) (turn-value s k e)
 
 -- the last state of the chain, reached from s with u digits unread
 abbrev lastFrom : ℕ → List ℕ → Operand → ℕ → Chain → State
 lastFrom m t a u s = stateOf m (digits m t (a .bytes) (m - 1) u s)
 
 module _ {m : ℕ} {t : List ℕ} {a : Operand} {s : State} {u d : ℕ} (w : Underway m t a s u d) where
-  pub k-small : s .k < m
-  k-small = omega (arith, w .reached, w .base .least, shr-le (m - 1) u)
+  pub k-small : s .k < maxWidth
+  k-small = omega (arith, w .reached, w .base .least, w .base .greatest, shr-le (m - 1) u)
 
   pub none-left : u ≡ 0 → s ≡ lastFrom m t a u (chainOf s)
   unfolding digits
@@ -167,7 +167,7 @@ module _ {m : ℕ} (t : List ℕ) {a : Operand} (sa : Sound m a) {s : State} (e 
 
   pub last-turned : {r : OperandAnswer} → r ≡ turnCall (s .t) 1 → r .value ≡ operandOf m (inverse m t (a .bytes))
   unfolding inverse
-  last-turned q = turn-value last-sound 1 (sa .least) q ∙ ap (λ (z : State). operandOf m (turned m 1 (z .t .bytes))) e
+  last-turned q = turn-value last-sound 1 q ∙ ap (λ (z : State). operandOf m (turned m 1 (z .t .bytes))) e
 
   pub last-count : s .count ≡ productsMade m t (a .bytes)
   unfolding productsMade

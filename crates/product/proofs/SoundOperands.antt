@@ -32,14 +32,14 @@ module _ {m : ℕ} {a : Operand} (s : Sound m a) where
   pub made-sound : {r : Operand} (f : ℕ → ℕ) → r ≡ made m f → Sound m r
   made-sound f e = rw e (record { least = s .least; greatest = s .greatest; width = refl; operand = from-operand carriedBytes m f })
 
-  pub turn-value : (k : ℕ) → k < m → {r : OperandAnswer} → r ≡ turnCall a k → r .value ≡ operandOf m (turned m k (a .bytes))
+  pub turn-value : (k : ℕ) → {r : OperandAnswer} → r ≡ turnCall a k → r .value ≡ operandOf m (turned m k (a .bytes))
   unfolding valueOf
-  turn-value k h e = ap valueOf (e ∙ ap (λ x. turnCall x k) is-carried ∙ turn-done (record { least = s .least; greatest = s .greatest }) (s .operand) k h)
+  turn-value k e = ap valueOf (e ∙ ap (λ x. turnCall x k) is-carried ∙ turn-done (record { least = s .least; greatest = s .greatest }) (s .operand) k)
 
-  pub turn-made : (k : ℕ) → k < m → {r : OperandAnswer} → r ≡ turnCall a k → r .value ≡ made m (λ i. coord (a .bytes) (minus m i k))
+  pub turn-made : (k : ℕ) → {r : OperandAnswer} → r ≡ turnCall a k → r .value ≡ made m (λ i. coord (a .bytes) (minus m i k))
   unfolding turned
-  turn-made k h e =
-      turn-value k h e
+  turn-made k e =
+      turn-value k e
       ∙ ap (λ n. operandOf m (fromCoords n m (λ i. coord (a .bytes) (minus m i k)))) (s .operand .size)
 
 pub sum-parts : {a b : ℕ} (c d : ℕ) → a ≡ c % 2 → b ≡ d % 2 → (a + b) % 2 ≡ (c + d) % 2

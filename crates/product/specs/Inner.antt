@@ -127,7 +127,7 @@ stateOf m c = record { t = operandOf m (c .t); k = c .k; count = c .count }
 pub record Ready (m : ℕ) (table : List ℕ) (s : State) (g : List ℕ) : Type 0 where
   pub shaped : Shaped m table
   pub power : Sound m (s .t)
-  pub short : s .k < m
+  pub small : s .k < maxWidth
   pub few : s .count < maxWidth
   pub there : HasSlots g
 

@@ -7,7 +7,7 @@ use Rattle.judging.specs.Faults.{isNone}
 use Rattle.judging.specs.Causes.{Cause, faultOf}
 use Rattle.judging.specs.FaultTable.{badWidth}
 use Rattle.judging.proofs.CauseLaws.{none-true, exact}
-use Rattle.operand.specs.Causes.{operandCauses, pairCauses, turnCauses, solveCauses}
+use Rattle.operand.specs.Causes.{operandCauses, pairCauses, solveCauses}
 use Rattle.operand.specs.Calls.{answer, traceAnswer}
 use Rattle.product.specs.Causes.{productCauses, reducedCauses, inverseCauses}
 use Rattle.runner.specs.Causes.{runCauses}
@@ -27,7 +27,7 @@ unfolding answer traceAnswer
 carried-calls = record {
   zero = λ m. gives (badWidth m ∷ []) m _;
   one = λ m. gives (badWidth m ∷ []) m _;
-  turn = λ a k. gives (turnCauses a k) (a .width) _;
+  turn = λ a k. gives (operandCauses a) (a .width) _;
   square = λ a. gives (operandCauses a) (a .width) _;
   sum = λ a b. gives (pairCauses a b) (a .width) _;
   trace = λ a. gives-number (operandCauses a) _;

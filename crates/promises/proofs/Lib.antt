@@ -2,7 +2,7 @@
 -- CauseLaws: the cases of a fault. CardTests: reading a card decides its causes.
 -- NoFaults: calls that give no fault.
 -- AnswerLaws: what comes out of an answer, and what a lent buffer holds. CarriedCalls, Reports: the parts of demand 1 of these names.
--- Demand1, Demand2, Demand3: the demands. Acceptance: which gate lists from elsewhere are accepted.
+-- Demand1, Demand2, Demand3: the demands. Acceptance: which gate lists from elsewhere are accepted. Turns: turns by any count.
 pub mod CauseLaws
 pub mod CardTests
 pub mod AnswerLaws
@@ -13,3 +13,4 @@ pub mod Demand1
 pub mod Demand2
 pub mod Demand3
 pub mod Acceptance
+pub mod Turns

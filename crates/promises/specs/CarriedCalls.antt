@@ -15,7 +15,7 @@ use Rattle.judging.specs.Causes.{Cause, faultOf, Exact}
 use Rattle.judging.specs.FaultTable.{badWidth}
 use Rattle.operand.specs.declared.Operand.{Operand}
 use Rattle.operand.specs.declared.OperandAnswer.{OperandAnswer}
-use Rattle.operand.specs.Causes.{operandCauses, pairCauses, turnCauses, solveCauses}
+use Rattle.operand.specs.Causes.{operandCauses, pairCauses, solveCauses}
 use Rattle.operand.specs.Calls.{noOperand, zeroCall, oneCall, turnCall, squareCall, sumCall, traceCall, solveCall}
 use Rattle.product.specs.Causes.{productCauses, reducedCauses, inverseCauses}
 use Rattle.product.specs.Calls.{productCall, reducedCall, inverseCall}
@@ -45,7 +45,7 @@ pub record Runs (m : ℕ) (list : List ℕ) (a b : Operand) (result wires : List
 pub record CarriedCalls : Type 0 where
   pub zero : (m : ℕ) → Gives (badWidth m ∷ []) (zeroCall m) m (zeroes carriedBytes m)
   pub one : (m : ℕ) → Gives (badWidth m ∷ []) (oneCall m) m (ones carriedBytes m)
-  pub turn : (a : Operand) (k : ℕ) → Gives (turnCauses a k) (turnCall a k) (a .width) (turned (a .width) k (a .bytes))
+  pub turn : (a : Operand) (k : ℕ) → Gives (operandCauses a) (turnCall a k) (a .width) (turned (a .width) k (a .bytes))
   pub square : (a : Operand) → Gives (operandCauses a) (squareCall a) (a .width) (squared (a .width) (a .bytes))
   pub sum : (a b : Operand) → Gives (pairCauses a b) (sumCall a b) (a .width) (added (a .width) (a .bytes) (b .bytes))
   pub trace : (a : Operand) → GivesNumber (operandCauses a) (traceCall a .fault) (traceCall a .trace) (trace (a .width) (a .bytes))

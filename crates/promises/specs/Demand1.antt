@@ -86,7 +86,7 @@ pub record Demand1 : Type 0 where
   pub one : (m : ℕ) (old : List ℕ) →
       Fills (constantCauses m old) (faultAnswer (constantCauses m old)) 0 0 (oneInto m old) old (oneOperand (bytesFor m) m)
   pub turn : (m : ℕ) (a : List ℕ) (k : ℕ) (old : List ℕ) →
-      Fills (turnBytesCauses m a k old) (faultAnswer (turnBytesCauses m a k old)) 0 0 (turnInto m a k old) old (turned m k a)
+      Fills (turnBytesCauses m a old) (faultAnswer (turnBytesCauses m a old)) 0 0 (turnInto m a k old) old (turned m k a)
   pub sum : (m : ℕ) (a b old : List ℕ) →
       Fills (sumBytesCauses m a b old) (faultAnswer (sumBytesCauses m a b old)) 0 0 (sumInto m a b old) old (added m a b)
   pub trace : (m : ℕ) (a : List ℕ) → Asks (bytesCauses m a) (traceAnswer m a) (trace m a) 0

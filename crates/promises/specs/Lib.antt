@@ -5,7 +5,7 @@
 -- Demand1: every call answers every input, with its result or with the fault of the first cause.
 -- Demand2: products, drawn tables and cards are what document 01 says.
 -- Demand3: the check is exact; under an accepted table every product, list, count and inverse is right.
--- Acceptance: which gate lists from elsewhere are accepted, document 02, (b).
+-- Acceptance: which gate lists from elsewhere are accepted, document 02, (b). Turns: turns by any count, document 02, (d).
 pub mod CardCauses
 pub mod Answers
 pub mod CarriedCalls
@@ -14,3 +14,4 @@ pub mod Demand1
 pub mod Demand2
 pub mod Demand3
 pub mod Acceptance
+pub mod Turns

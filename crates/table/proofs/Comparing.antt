@@ -131,7 +131,7 @@ mirror-turned {m} {t} s d least h l e q =
     let o = s .isTable .rows (m - d) (omega arith) in
     let has = has-bytes (s .greatest) o in
     let x = carried-operand {n = bytesFor m} (omega (arith, s .greatest)) o in
-    q ∙ rolled-limbs (s .greatest) h (carriedRow m t (m - d)) (x .size) (x .clear) l (slice-same (row m t (m - d)) e (omega (arith, s .greatest, o .size)) ∙ sym (same-coord has))
+    q ∙ rolled-limbs (s .greatest) (omega (arith, s .least)) d (carriedRow m t (m - d)) (x .size) (x .clear) l (slice-same (row m t (m - d)) e (omega (arith, s .greatest, o .size)) ∙ sym (same-coord has))
 
 -- rule 5 of one row
 module _ {m : ℕ} {t : List ℕ} (s : Shaped m t) (d : ℕ) (l : 1 ≤ d) (h : d < m) {x : List ℕ} (e : x ≡ limbsOf (turned m d (carriedRow m t (m - d)))) where

@@ -19,7 +19,7 @@ use Rattle.gf2.proofs.Sums.{sum-ext, every-at}
 use Rattle.gf2.proofs.Coordinates.{length-pack}
 use Rattle.gf2.proofs.Operands.{minus-lt, coord-from, from-operand, from-ext, turned-operand, coord-turned}
 use Rattle.gf2.proofs.Parity.{bits, odd-mul}
-use Rattle.gf2.proofs.Index.{Ix, at, o, _⊖_, at-minus, z-add, sub-add}
+use Rattle.gf2.proofs.Index.{Ix, at, o, _⊖_, at-minus, at-neg, z-add, sub-add}
 use Rattle.gf2.proofs.IndexSums.{Σ-ext, odd-Σ}
 use Rattle.gf2.proofs.Vector.{Vec, turn, β, lin, turn-turn, turn-z, turn-β}
 use Rattle.gf2.proofs.VectorProduct.{_·_ as mul, pair, turn-mul, mul-ββ, mul-o, pair-o, mul-comm, Symmetric as Symmetricᵛ}
@@ -84,10 +84,10 @@ module _ (p : ℕ) (t : List ℕ) (s : Shaped (suc p) t) where
   left-vec y i j = turn-mul T j (β o) _ ∙ rw (turn-β, z-add, turn-turn, sub-add, turn-z, mul-comm T y, mul-ββ, pair-o)
 
   left-rows : Symmetric (suc p) t → (i j : ℕ) → i < suc p → j < suc p →
-      turned (suc p) j (rowsAt (suc p) t (turned (suc p) (minus (suc p) 0 j) (carriedRow (suc p) t i))) ≡ carriedBy (leftProduct (suc p) t i j)
+      turned (suc p) j (rowsAt (suc p) t (turned (suc p) (suc p - j) (carriedRow (suc p) t i))) ≡ carriedBy (leftProduct (suc p) t i j)
   left-rows y i j li lj =
       ap (λ u. turned (suc p) j (rowsAt (suc p) t u)) (turned-row _ i li) ∙ ap (turned (suc p) j) (at-ones _) ∙ turned-bytes p carriedBytes room j _
-      ∙ ap x (ap (λ k. turn (at j) (β o · turn k (T (at i)))) (at-minus 0 j) ∙ left-vec (symmetric p t (s .isTable) (s .least) .0 y) (at i) (at j))
+      ∙ ap x (ap (λ k. turn (at j) (β o · turn k (T (at i)))) (at-neg j (omega arith)) ∙ left-vec (symmetric p t (s .isTable) (s .least) .0 y) (at i) (at j))
       ∙ sym (basis-products i j li lj .0)
 
   right-rows : (i j : ℕ) → i < suc p → j < suc p → rowsAt (suc p) t (turned (suc p) i (carriedRow (suc p) t (minus (suc p) j i))) ≡ carriedBy (rightProduct (suc p) t i j)
@@ -110,7 +110,7 @@ module _ (p : ℕ) (t : List ℕ) (s : Shaped (suc p) t) where
       ∙ sym (basis-products 0 j (omega arith) l .0)
 
 pub left-sum : {m : ℕ} {t : List ℕ} → Shaped m t → Symmetric m t → (i j : ℕ) → i < m → j < m →
-    turned m j (rowsAt m t (turned m (minus m 0 j) (carriedRow m t i))) ≡ carriedBy (leftProduct m t i j)
+    turned m j (rowsAt m t (turned m (m - j) (carriedRow m t i))) ≡ carriedBy (leftProduct m t i j)
 left-sum {m = zero} {t} s y i j li lj = absurd (omega arith)
 left-sum {m = suc p} {t} s y i j li lj = left-rows p t s y i j li lj
 

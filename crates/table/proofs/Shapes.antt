@@ -94,8 +94,8 @@ module _ {m : ℕ} {t : List ℕ} (s : Shaped m t) (d : ℕ) (l : d < m) where
   row-operand = let g = s .greatest in carried-operand (omega arith) (s .isTable .rows d l)
 
   -- it may be turned
-  pub row-turns : {x : List ℕ} → x ≡ carriedRow m t d → (k : ℕ) → k < m → (2 ≤ m) × (m ≤ maxWidth) × IsOperand carriedBytes m x × (k < m)
-  row-turns e k h = (s .least, s .greatest, rw e row-operand, h)
+  pub row-turns : {x : List ℕ} → x ≡ carriedRow m t d → (2 ≤ m) × (m ≤ maxWidth) × IsOperand carriedBytes m x
+  row-turns e = (s .least, s .greatest, rw e row-operand)
 
 -- the fault of shape, row after row
 module _ (m : ℕ) (t : List ℕ) where

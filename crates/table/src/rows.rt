@@ -57,7 +57,7 @@ pub fn judge_shape(width: usize, table: &[u8]) -> Fault
 
 // x turned k places, where no judgement can fail.
 pub(crate) fn turned(width: usize, x: [u8; limbs::BYTES], k: usize) -> [u8; limbs::BYTES]
-    requires { ⌜ (2 ≤ width) × (width ≤ maxWidth) × (IsOperand carriedBytes width x) × (k < width) ⌝ }
+    requires { ⌜ (2 ≤ width) × (width ≤ maxWidth) × (IsOperand carriedBytes width x) ⌝ }
     ensures { λ r. ⌜ r ≡ turned width k x ⌝ }
 {
     turns::rolled(x, width, k)

@@ -21,8 +21,7 @@ fn left_product(width: usize, table: &[u8], i: usize, j: usize) -> [u8; limbs::B
     requires { ⌜ (Shaped width (now table)) × (Symmetric width (now table)) × (i < width) × (j < width) ⌝ }
     ensures { λ r. ⌜ r ≡ carriedBy (leftProduct width (now (table .entry)) i j) ⌝ }
 {
-    let back = sums::wrapped(width - j, width);
-    let factor = rows::turned(width, rows::row_bytes(width, table, i), back);
+    let factor = rows::turned(width, rows::row_bytes(width, table, i), width - j);
     rows::turned(width, sums::times_first(width, table, factor), j)
 }
 

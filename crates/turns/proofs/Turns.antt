@@ -4,7 +4,7 @@ use mathlib.Core.Path.{_≡_, refl, sym, ap, ap₂, fun-ext, _∙_}
 use mathlib.Core.Bool.{Bool, true, false}
 use mathlib.Core.List.{List, [], _∷_}
 use Prim.Native.Nat.{ℕ, _+_, _-_, _*_, _/_, _%_, _^_, _<_, _≤_}
-use native.Mathlib.Nat.{add-zero, mod-one, mod-eq-of-lt, mod-mod, mod-le, zero-div, lt-of-le-of-lt}
+use native.Mathlib.Nat.{add-zero, mod-one, mod-lt, mod-eq-of-lt, mod-mod, mod-le, zero-div, lt-of-le-of-lt}
 use native.Mathlib.Decide.{decLt, ℕ-discrete}
 use native.Mathlib.Omega.{arith}
 use lib.Arith.{mod-mul}
@@ -16,7 +16,7 @@ use Rattle.gf2.specs.Coordinates.{coord, value, tabulate, pack}
 use Rattle.gf2.specs.Operands.{maxWidth, carriedBytes, minus, choose, below, fromCoords, turned}
 use Rattle.gf2.proofs.Coordinates.{value-ext, value-eq, length-tabulate, getD-tabulate, tabulate-ext, coord-pack, mod-bit, mod-bit-out, xor-bit}
 use Rattle.gf2.proofs.Loops.{Filled, filled-more, filled-reach}
-use Rattle.gf2.proofs.Operands.{below-in, below-out, from-ext, minus-below, minus-round}
+use Rattle.gf2.proofs.Operands.{below-in, below-out, from-ext, minus-below, minus-round, minus-modulo}
 use Rattle.limbs.specs.Limbs.{carriedLimbs, reach, endsAt, limbCoord, packLimbs, limbsOf, raised}
 use Rattle.limbs.proofs.Reach.{reach-most, reach-least, reach-room, ends-true, ends-false}
 use Rattle.limbs.proofs.LimbCoords.{limb-lt, limb-digit, limb-pack, limbs-of, limbs-ext, limbs-eq, limbs-below}
@@ -209,14 +209,14 @@ pub rolled-wide : {m : ℕ} (k : ℕ) (f : ℕ → ℕ) → maxWidth < m → rol
 unfolding rolled
 rolled-wide {m} k f wide = rw (lt-leb m maxWidth wide)
 
-pub rolled-far : {m k : ℕ} (f : ℕ → ℕ) → m ≤ maxWidth → m ≤ k → rolled m k f ≡ f
+pub rolled-none : {m : ℕ} (k : ℕ) (f : ℕ → ℕ) → m ≤ maxWidth → m ≤ 0 → rolled m k f ≡ f
 unfolding rolled
-rolled-far {m} {k} f fits far = rw (le-leb m maxWidth fits, le-ltb k m far)
+rolled-none {m} k f fits none = rw (le-leb m maxWidth fits, le-ltb 0 m none)
 
-module _ {m k : ℕ} (fits : m ≤ maxWidth) (less : k < m) where
-  pub rolled-both : (f : ℕ → ℕ) → rolled m k f ≡ bothMoves m k f
+module _ {m : ℕ} (fits : m ≤ maxWidth) (some : 0 < m) (k : ℕ) where
+  pub rolled-both : (f : ℕ → ℕ) → rolled m k f ≡ bothMoves m (k % m) f
   unfolding rolled
-  rolled-both f = rw (le-leb m maxWidth fits, lt-ltb k m less)
+  rolled-both f = rw (le-leb m maxWidth fits, lt-ltb 0 m some)
 
   module _ (x : List ℕ) (size : length x ≡ carriedBytes) (clear : (i : ℕ) → m ≤ i → coord x i ≡ 0) where
     kept-all : kept m (coord x) ≡ coord x
@@ -226,17 +226,18 @@ module _ {m k : ℕ} (fits : m ≤ maxWidth) (less : k < m) where
     ])
 
     -- of the two moved operands, one has the coordinate that comes to place i and the other has 0 there
-    shifted : (i : ℕ) → i < m → raised k (coord x) i + coord x (i + (m - k)) ≡ coord x (minus m i k)
-    shifted i l = elim (decLt i k) [
-      | yes h ↦ rw (raised-out k (coord x) i h, minus-round m i k h less) (omega arith)
-      | no h ↦ rw (raised-in k (coord x) i (omega arith), clear (i + (m - k)) (omega arith), minus-below m i k (omega arith) l) (omega arith)
+    shifted : (j i : ℕ) → j < m → i < m → raised j (coord x) i + coord x (i + (m - j)) ≡ coord x (minus m i j)
+    shifted j i less l = elim (decLt i j) [
+      | yes h ↦ rw (raised-out j (coord x) i h, minus-round m i j h less) (omega arith)
+      | no h ↦ rw (raised-in j (coord x) i (omega arith), clear (i + (m - j)) (omega arith), minus-below m i j (omega arith) l) (omega arith)
     ]
 
     pub rolled-turned : pack carriedBytes (rolled m k (coord x)) ≡ turned m k x
     unfolding bothMoves turned fromCoords
     rolled-turned =
         ap (pack carriedBytes) (rolled-both (coord x))
-        ∙ from-ext carriedBytes m _ _ (λ i l. ap (λ y. y % 2) (ap (λ f. raised k f i + f (i + (m - k))) kept-all ∙ shifted i l))
+        ∙ from-ext carriedBytes m _ _ (λ i l.
+        ap (λ y. y % 2) (ap (λ f. raised (k % m) f i + f (i + (m - k % m))) kept-all ∙ shifted (k % m) i (mod-lt k some) l ∙ ap (coord x) (sym (minus-modulo m i k))))
         ∙ ap (λ s. fromCoords s m (λ i. coord x (minus m i k))) (sym size)
 
     -- the same in limbs

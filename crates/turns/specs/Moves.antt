@@ -1,5 +1,5 @@
 -- The two moves of which a turn is made, of any coordinates: where those at the width and above are 0 their sum is the turn.
-use Prim.Native.Nat.{ℕ, _+_, _-_, _*_}
+use Prim.Native.Nat.{ℕ, _+_, _-_, _*_, _%_}
 use lib.Dec.{leb, ltb}
 use Rattle.gf2.specs.Operands.{maxWidth, choose, below}
 use Rattle.limbs.specs.Limbs.{reach, raised}
@@ -12,6 +12,6 @@ kept m f = below (64 * reach m) f
 unfoldable pub bothMoves : ℕ → ℕ → (ℕ → ℕ) → ℕ → ℕ
 bothMoves m k f = below m (λ i. raised k (kept m f) i + kept m f (i + (m - k)))
 
--- the same where k is below m and m a width that is carried, else what was given
+-- the same by a count of any size, modulo m, where m is a width that is carried, else what was given
 unfoldable pub rolled : ℕ → ℕ → (ℕ → ℕ) → ℕ → ℕ
-rolled m k f = choose (leb m maxWidth) (choose (ltb k m) (bothMoves m k f) f) f
+rolled m k f = choose (leb m maxWidth) (choose (ltb 0 m) (bothMoves m (k % m) f) f) f

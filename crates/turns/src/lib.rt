@@ -1,6 +1,6 @@
 // The turn of a carried operand, in limbs and in bytes: its coordinates moved up, and those that leave at the width moved to the front.
 ghost use mathlib.Core.Path.{_≡_};
-ghost use Prim.Native.Nat.{_+_, _<_, _≤_};
+ghost use Prim.Native.Nat.{_+_, _%_, _<_, _≤_};
 ghost use Rattle.gf2.specs.Coordinates.{coord, pack};
 ghost use Rattle.gf2.specs.Operands.{maxWidth, carriedBytes, below};
 ghost use Rattle.limbs.specs.Limbs.{carriedLimbs, limbCoord, packLimbs};
@@ -35,13 +35,24 @@ fn both_moves(x: [u64; limbs::LIMBS], m: usize, k: usize) -> [u64; limbs::LIMBS]
     merged(raise(x, k, m), lower(x, back, m), m)
 }
 
-// The turn by k of an operand of width m, whose bits at m and above are 0. Total: what is no turn leaves x as it is.
+// A count modulo the width. A remainder is made only where the count is as great as the width.
+fn within(k: usize, m: usize) -> usize
+    requires { ⌜ 0 < m ⌝ }
+    ensures { λ r. ⌜ r ≡ k % m ⌝ }
+{
+    if k < m {
+        return k;
+    }
+    k % m
+}
+
+// The turn of an operand of width m, whose bits at m and above are 0, by any count k. Total: what no turn can be made of stays as it is.
 pub fn rolled_limbs(x: [u64; limbs::LIMBS], m: usize, k: usize) -> [u64; limbs::LIMBS]
     ensures { λ r. ⌜ r ≡ packLimbs carriedLimbs (rolled m k (limbCoord x)) ⌝ }
 {
     if m <= limbs::MAX_WIDTH {
-        if k < m {
-            return both_moves(x, m, k);
+        if 0 < m {
+            return both_moves(x, m, within(k, m));
         }
     }
     x

@@ -1,6 +1,7 @@
 // Each function runs one example of document 01 and prints what its calls answer.
 ghost use mathlib.Core.Path.{_≡_};
 ghost use Prim.Native.Nat.{_<_, _≤_};
+ghost use Rattle.gf2.specs.Operands.{maxWidth};
 ghost use Rattle.judging.specs.Faults.{numberOf};
 ghost use Rattle.card_writer.specs.Calls.{writeCard};
 use operand::Operand;
@@ -24,18 +25,36 @@ pub(crate) fn widths(width: usize)
     printing::line(b"width #: zero #, one #\n", [width, zero, one, 0]);
 }
 
-// "Turn m-1 passes, m gives 8", for one.
-pub(crate) fn turns(width: usize)
-    requires { ⌜ 0 < width ⌝ }
+// A turn of the operand whose only coordinate is 0, and whether it is the turn by the count modulo m.
+fn turned(width: usize, k: usize)
+    requires { ⌜ (0 < width) × (width ≤ maxWidth) ⌝ }
     ensures { λ _. ⊤ₛ }
 {
-    let one = Operand::one(width);
-    let last = fault_of(one.value.turn(width - 1));
-    let whole = fault_of(one.value.turn(width));
+    let mut bytes = [0u8; Operand::BYTES];
+    bytes[0] = 1;
+    let first = Operand {
+        bytes,
+        width: width as u16,
+    };
+    let given = first.turn(k);
+    let least = first.turn(k % width);
+    let x = given.value.bytes;
+    let y = least.value.bytes;
+    let same = check::same(&x, &y) as usize;
     printing::line(
-        b"width # turned by m-1: #, by m: #\n",
-        [width, last, whole, 0],
+        b"width # turned by #: #, as by the count modulo m #\n",
+        [width, k, fault_of(given), same],
     );
+}
+
+// "Turn m-1 passes", and by document 02, (d), m and every other count: m is the turn by 0. The greatest count is 2^64 - 1.
+pub(crate) fn turns(width: usize)
+    requires { ⌜ (0 < width) × (width ≤ maxWidth) ⌝ }
+    ensures { λ _. ⊤ₛ }
+{
+    turned(width, width - 1);
+    turned(width, width);
+    turned(width, 18446744073709551615);
 }
 
 // "Drawing 8: 17"; "drawing a table returns its type T". A row of these widths is a byte.

@@ -63,7 +63,7 @@ module _ (t : ℕ) where
   add-adding-step-requires c κs =
       let p = c .before .before .before .before .pre .1 in
       let w = p .0 in
-      (record { shaped = w .shaped; power = w .power; short = k-small w; few = omega (arith, w .few, c .before .if1 .left); there = p .1 }, w .base)
+      (record { shaped = w .shaped; power = w .power; small = k-small w; few = omega (arith, w .few, c .before .if1 .left); there = p .1 }, w .base)
 
   add-double-requires-2 : add-lts.Need-double-requires-2 add-calls add-at add.Post
   add-double-requires-2 c κs =
@@ -84,7 +84,7 @@ module _ (t : ℕ) where
   double-doubling-step-requires c κs =
       let p = c .before .before .before .before .pre .1 in
       let w = p .0 in
-      record { shaped = w .shaped; power = w .power; short = k-small w; few = omega (arith, w .few, c .before .if1 .left); there = p .1 }
+      record { shaped = w .shaped; power = w .power; small = k-small w; few = omega (arith, w .few, c .before .if1 .left); there = p .1 }
 
   double-add-requires : double-lts.Need-add-requires double-calls double-at double.Post
   double-add-requires c κs =

@@ -11,7 +11,7 @@ times-requires : tie.Need-times-requires
 times-requires c κs =
     let t = c .before .before .before .before .before in
     let p = t .before .before .before .before .pre in
-    (p .shaped, turned-sound (p .power) _ (p .short) (t .turn .ensures), p .power, c .before .before .before .clear .ensures ∙ ap (λ (n : ℕ). replicate {A = ℕ} n 0) (p .there))
+    (p .shaped, turned-sound (p .power) _ (t .turn .ensures), p .power, c .before .before .before .clear .ensures ∙ ap (λ (n : ℕ). replicate {A = ℕ} n 0) (p .there))
 
 returns : tie.Need-returns
 returns c =
@@ -19,7 +19,7 @@ returns c =
     let t = m .before .before .before .before .before .before in
     let s = t .before .before .before .before in
     ap (λ t. record { t = t; k = 2 * s .args .s .k; count = s .args .s .count + 1 })
-    (turned-times (s .pre .power) _ (s .pre .short) (t .turn .ensures) _ _ (m .times .ensures))
+    (turned-times (s .pre .power) _ (t .turn .ensures) _ _ (m .times .ensures))
 
 pub doubling-step-spec : {M : Type 1} → statement M
 doubling-step-spec = tie.close (tie.spec (λ c κs. search needs) (λ c κs. search needs) times-requires (λ c. search needs) (λ c. search needs)

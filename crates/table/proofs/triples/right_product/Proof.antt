@@ -17,7 +17,7 @@ within : (c : tie.After-wrapped) → c .wrapped .result < c .before .before .arg
 within c = rw (c .wrapped .ensures) (mod-lt _ (omega (arith, c .before .before .pre .0 .least)))
 
 turned-requires : tie.Need-turned-requires
-turned-requires c κs = let p = c .before .before .before .pre in row-turns (p .0) _ (within (c .before)) (c .row-bytes .ensures) _ (p .1)
+turned-requires c κs = let p = c .before .before .before .pre in row-turns (p .0) _ (within (c .before)) (c .row-bytes .ensures)
 
 -- row j-i turned i places
 factor : (c : tie.After-turned) → let a = c .before .before .before .before .args in
