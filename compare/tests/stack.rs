@@ -54,7 +54,7 @@ fn on_operands(most: &mut Most, m: usize, a: &[u8], b: &[u8], x: &mut [u8]) {
         "nb_trace" nb::trace(m, a);
         "nb_solve" nb::solve(m, a, x);
     }
-    for k in [0, 1, m / 3, m.wrapping_sub(1), m] {
+    for k in [0, 1, m / 3, m.wrapping_sub(1), m, usize::MAX] {
         take! { most, "nb_turn" nb::turn(m, a, k, x); }
     }
 }

@@ -102,6 +102,8 @@ rowSumWrong m table =
       numbered = refl;
     }
 
+-- 8 has no cause: "Number 8 is never given any more", by document 02, (d)
+
 -- 9: "inverse of zero", of an operand of n bytes
 abbrev pub isZero : ℕ → ℕ → List ℕ → Cause
 isZero n m a =

@@ -27,8 +27,8 @@ pub enum ListFault {
     Output(usize),
 }
 
-// A variant for each number of document 01's table and one for none; by document 02, (d), there is no 8. Those of a call, of a card and of a list to be accepted are enums of
-// their own: a match needs no proof of its own as long as an enum has at most a dozen variants.
+// A variant for each number of document 01's table and one for none; document 02, (d), took 8 out. Those of a call, of a card and of a list
+// to be accepted are enums of their own: a match needs no proof of its own as long as an enum has at most a dozen variants.
 pub enum Fault {
     None,
     Width,

@@ -35,7 +35,7 @@ fn both_moves(x: [u64; limbs::LIMBS], m: usize, k: usize) -> [u64; limbs::LIMBS]
     merged(raise(x, k, m), lower(x, back, m), m)
 }
 
-// A count modulo the width. A remainder is made only where the count is as great as the width.
+// A count modulo the width. The remainder is made only of a count that is the width or more.
 fn within(k: usize, m: usize) -> usize
     requires { ⌜ 0 < m ⌝ }
     ensures { λ r. ⌜ r ≡ k % m ⌝ }

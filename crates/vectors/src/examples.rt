@@ -47,14 +47,14 @@ fn turned(width: usize, k: usize)
     );
 }
 
-// "Turn m-1 passes", and by document 02, (d), m and every other count: m is the turn by 0. The greatest count is 2^64 - 1.
+// "Turn m-1 passes", and by document 02, (d), m, which is the turn by 0, and every other count, to 2^64 - 1.
 pub(crate) fn turns(width: usize)
     requires { ⌜ (0 < width) × (width ≤ maxWidth) ⌝ }
     ensures { λ _. ⊤ₛ }
 {
     turned(width, width - 1);
     turned(width, width);
-    turned(width, 18446744073709551615);
+    turned(width, usize::MAX);
 }
 
 // "Drawing 8: 17"; "drawing a table returns its type T". A row of these widths is a byte.
