@@ -125,10 +125,10 @@ module _ {m : ℕ} {x : List ℕ} {f : ℕ → ℕ} {w : ℕ} (done : AgreeTo m 
         sym (limb-digit x w j l) ∙ eqb-true _ _ (every-at m (λ i. eqb (limbCoord x i) (f i)) e (w * 64 + j) (omega arith)) ∙ sym (bits j l (omega arith))))))
 
 -- the limbs of row m-d, turned d places
-pub mirror-turned : {m : ℕ} {t : List ℕ} → Shaped m t → (d : ℕ) → 1 ≤ d → d < m → (l : List ℕ) {r : List ℕ} → l ≡ limbsOf (row m t (m - d)) → r ≡ packLimbs carriedLimbs (rolled m d (limbCoord l))
+pub mirror-turned : {m : ℕ} {t : List ℕ} → Shaped m t → (d : ℕ) → 1 ≤ d → (l : List ℕ) {r : List ℕ} → l ≡ limbsOf (row m t (m - d)) → r ≡ packLimbs carriedLimbs (rolled m d (limbCoord l))
     → r ≡ limbsOf (turned m d (carriedRow m t (m - d)))
-mirror-turned {m} {t} s d least h l e q =
-    let o = s .isTable .rows (m - d) (omega arith) in
+mirror-turned {m} {t} s d least l e q =
+    let o = s .isTable .rows (m - d) (omega (arith, s .least)) in
     let has = has-bytes (s .greatest) o in
     let x = carried-operand {n = bytesFor m} (omega (arith, s .greatest)) o in
     q ∙ rolled-limbs (s .greatest) (omega (arith, s .least)) d (carriedRow m t (m - d)) (x .size) (x .clear) l (slice-same (row m t (m - d)) e (omega (arith, s .greatest, o .size)) ∙ sym (same-coord has))

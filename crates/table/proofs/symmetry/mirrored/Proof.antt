@@ -29,7 +29,7 @@ mirror c =
     let b = c .before .before .before in
     let s = b .before .before in
     let a = s .args in
-    mirror-turned (s .pre .0) (a .d) (s .pre .1) (s .pre .2) (c .before .slice-limbs .result)
+    mirror-turned (s .pre .0) (a .d) (s .pre .1) (c .before .slice-limbs .result)
     (c .before .slice-limbs .ensures ∙ ap limbsOf (row-part (a .width) (a .table .now) (a .width - a .d) (b .bytes-for .ensures))) (c .rolled-limbs .ensures)
 
 agrees-requires : tie.Need-agrees-requires
