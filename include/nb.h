@@ -129,8 +129,8 @@ uint64_t nb_zero(uint64_t width, uint8_t *result, size_t result_len);
 /* result: one, the operand with all m coordinates 1. Faults: 1; 2 result. Stack: 512. */
 uint64_t nb_one(uint64_t width, uint8_t *result, size_t result_len);
 
-/* result: a turned k places, for every k: k is taken modulo m. So k = 1 is the square, k places are a to the power 2^k, and m places
- * give a again. Faults: 1; 2 a, result; 3 in a. Stack: 1,024. */
+/* result: a turned k places, for every k: k is taken modulo m, so that m places give a again. k = 1 is the square; under an accepted
+ * table k places are a to the power 2^k. Faults: 1; 2 a, result; 3 in a. Stack: 1,024. */
 uint64_t nb_turn(uint64_t width, const uint8_t *a, size_t a_len, uint64_t k, uint8_t *result, size_t result_len);
 
 /* result: a + b, coordinate by coordinate modulo 2. Faults: 1; 2 a, b, result; 3 in a, b. Stack: 512. */
