@@ -5,8 +5,8 @@
 //! Prints the lines of docs/benchmark.csv, in nanoseconds, the ratio proved / Rust last, and on standard error how long the product
 //! takes by definition. With the argument `growth` it prints how each cost grows from width 65 to 571 instead, with `calls` the times at
 //! 233, type 2, and at 571, type 10, those of accepting a list, and those of the check over more tables, which compare/before-after reads;
-//! an earlier library that doesn't take a width or a count, or has no such call, is not timed there. Every time is of a whole call, with every
-//! judgement in it; lent buffers are not cleared before a call.
+//! an earlier library that doesn't take a width or a count, or has no such call, is not timed there. Every time is of a whole call, with
+//! every judgement in it; lent buffers are not cleared before a call.
 
 use compare::gates::{self, Method, ACCEPTED_GATES, ACCEPTED_WIDTH};
 use compare::inputs::{accepted, changed_pair, dense, with_unused, Source};

@@ -3,8 +3,8 @@
 use mathlib.Core.Path.{_≡_, refl, sym, ap, ap₂, _∙_}
 use mathlib.Core.Bool.{Bool, true, false, not}
 use mathlib.Core.List.{List, [], _∷_, _++_}
-use Prim.Native.Nat.{ℕ, zero, suc, _+_, _-_, _*_, _/_, _%_, _^_, _<_, _≤_}
-use native.Mathlib.Nat.{mod-mod, add-zero}
+use Prim.Native.Nat.{ℕ, suc, _+_, _-_, _*_, _/_, _%_, _^_, _<_, _≤_}
+use native.Mathlib.Nat.{mod-mod}
 use native.Mathlib.Decide.{decLt}
 use native.Mathlib.Omega.{arith}
 use lib.ListN.{length, replicate, getD-replicate}
@@ -15,9 +15,9 @@ use Rattle.gf2.specs.Coordinates.{coord, value, tabulate, pack}
 use Rattle.gf2.specs.Operands.{maxWidth, bytesFor, carriedBytes, choose, IsOperand, isClear, carriedBy, below, fromCoords, zeroes, ones, added, turned}
 use Rattle.gf2.specs.Quadratic.{trace, rootCoord, root}
 use Rattle.gf2.proofs.Sums.{sum-clear, every-at}
-use Rattle.gf2.proofs.Coordinates.{coord-past, coord-pack, pack-ext, pack-byte, length-pack}
-use Rattle.gf2.proofs.Operands.{below-in, below-out, coord-from, from-ext, from-eq, from-operand, length-from, clear-at, clear-pack}
-use Rattle.gf2.proofs.Carrying.{HasBytes, has-bytes, same-coord, clear-carried, coord-repacked, written-carried, turned-carried, turned-is}
+use Rattle.gf2.proofs.Coordinates.{pack-ext, length-pack}
+use Rattle.gf2.proofs.Operands.{below-in, below-out, from-ext, length-from, clear-at, clear-pack}
+use Rattle.gf2.proofs.Carrying.{HasBytes, has-bytes, same-coord, clear-carried, written-carried, turned-carried, turned-is}
 use Rattle.limbs.specs.Limbs.{carriedLimbs, reach, limbCoord, packLimbs, limbsOf}
 use Rattle.limbs.proofs.Reach.{reach-room}
 use Rattle.limbs.proofs.LimbCoords.{limb-pack, limbs-ext, limbs-zero, limbs-below, slice-same, limbs-same}

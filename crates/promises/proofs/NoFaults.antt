@@ -1,4 +1,4 @@
--- Calls that give no fault: on operands of W bytes under a table of the right shape, with buffers of the lengths laid down.
+-- Calls that give no fault: on operands of W bytes, with buffers of the lengths laid down; all but the turn under a table of the right shape.
 use mathlib.Core.Path.{_≡_, refl}
 use mathlib.Core.Bool.{Bool, true, false}
 use mathlib.Core.List.{List, [], _∷_}
@@ -12,7 +12,8 @@ use Rattle.judging.specs.Causes.{faultOf}
 use Rattle.judging.specs.FaultTable.{tooShort, isZero, shapeCauses, ruleCauses, symmetryCauses}
 use Rattle.judging.proofs.CauseLaws.{Fine, none-given, none-fine}
 use Rattle.judging.proofs.Searches.{fine-append, fine-parts}
-use Rattle.judging.proofs.Passed.{length-passes, operand-passes, room-passes}
+use Rattle.judging.proofs.Passed.{IsWidth, width-passes, length-passes, operand-passes, room-passes}
+use Rattle.operand.specs.Causes.{turnBytesCauses}
 use Rattle.table.specs.Rows.{Shaped}
 use Rattle.table.specs.Judgements.{symmetryFault}
 use Rattle.table.proofs.Shapes.{shape-passes}
@@ -26,6 +27,10 @@ nonzero m a n = go (same a (zeroes (bytesFor m) m)) refl
     go : (b : Bool) → same a (zeroes (bytesFor m) m) ≡ b → b ≡ false
     go true e = absurd (n (same-decides a (zeroes (bytesFor m) m) .0 e))
     go false e = refl
+
+pub turn-none : {m : ℕ} → IsWidth m → (a old : List ℕ) → Op m a → length old ≡ bytesFor m → faultOf (turnBytesCauses m a old) ≡ None
+turn-none {m} w a old x room =
+    none-given (turnBytesCauses m a old) (width-passes m w, (length-passes _ _ (x .size), (length-passes _ _ room, (operand-passes m a x, tt))))
 
 -- a table of the right shape under rules 4 and 5
 pub record Passed (m : ℕ) (table : List ℕ) : Type 0 where

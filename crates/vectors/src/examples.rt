@@ -25,7 +25,7 @@ pub(crate) fn widths(width: usize)
     printing::line(b"width #: zero #, one #\n", [width, zero, one, 0]);
 }
 
-// A turn of the operand whose only coordinate is 0, and whether it is the turn by the count modulo m.
+// A turn of the operand whose only coordinate is 0, and whether that of the result is k modulo m.
 fn turned(width: usize, k: usize)
     requires { ⌜ (0 < width) × (width ≤ maxWidth) ⌝ }
     ensures { λ _. ⊤ₛ }
@@ -36,15 +36,14 @@ fn turned(width: usize, k: usize)
         bytes,
         width: width as u16,
     };
-    let given = first.turn(k);
-    let least = first.turn(k % width);
-    let x = given.value.bytes;
-    let y = least.value.bytes;
-    let same = check::same(&x, &y) as usize;
-    printing::line(
-        b"width # turned by #: #, as by the count modulo m #\n",
-        [width, k, fault_of(given), same],
-    );
+    let answer = first.turn(k);
+    let place = k % width;
+    let mut wanted = [0u8; Operand::BYTES];
+    wanted[place / 8] = 1u8 << (place % 8);
+    let x = answer.value.bytes;
+    let alone = check::same(&x, &wanted) as usize;
+    printing::line(b"width # turned by #: #,", [width, k, fault_of(answer), 0]);
+    printing::line(b" coordinate # alone: #\n", [place, alone, 0, 0]);
 }
 
 // "Turn m-1 passes", and by document 02, (d), m, which is the turn by 0, and every other count, to 2^64 - 1.
