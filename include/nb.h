@@ -169,11 +169,13 @@ uint64_t nb_run(uint64_t width, const uint32_t *list, size_t list_len, const uin
  * other products than the ai·bj for which βi·βj has coordinate r. Stack: 69,632. */
 uint64_t nb_accept(uint64_t width, const uint8_t *table, size_t table_len, const uint32_t *list, size_t list_len);
 
-/* first: the least type T of a Gaussian normal basis of the width. Faults: 1; 17 where 8 divides the width, which has none.
- * Not a call of document 01: nb_draw's answer without the table. Stack: 1,024. */
+/* first: the type T of the width's Gaussian normal basis, by ANSI X9.62's choice: 2 where it is a type of the width, else 1 where that
+ * is one, else the least. It is the least but at widths 2, 18, 210 and 378, which have types 1 and 2 both. Faults: 1; 17 where 8 divides
+ * the width, which has none. Not a call of document 01: nb_draw's answer without the table. Stack: 1,024. */
 uint64_t nb_type(uint64_t width);
 
-/* table, of exactly m·W bytes: the table of the width's Gaussian normal basis. first: its type T.
+/* table, of exactly m·W bytes: the table of the width's Gaussian normal basis of the type that nb_type gives. first: that T. Tables of
+ * other types, as those of type 1 at widths 18, 210 and 378, are taken in as any other: nb_check and the calls above don't know types.
  * Faults: 1; 2 table; 17 where 8 divides the width. Stack: 57,344. */
 uint64_t nb_draw(uint64_t width, uint8_t *table, size_t table_len);
 

@@ -5,7 +5,7 @@ use crate::bits::{self, bytes_for, MAX_WIDTH};
 use crate::card;
 use crate::field::{self, judge, Table};
 use crate::gates::{self, List, Method, ACCEPTED_WIDTH};
-use crate::gaussian;
+use crate::gaussian::{self, drawn, least_type};
 use crate::inputs::{
     all_accepted, change_in_form, change_word, damaged, dense, drawable, operand, some_card, sparse_symmetric, symmetric, table,
     with_detour, with_unused, wrong_lengths, Source,
@@ -211,6 +211,19 @@ impl Maker {
     pub fn dense(&mut self, width: usize) -> Vec<Call> {
         let n = self.near(width).min(MAX_WIDTH);
         let table = dense(&mut self.source, n, &self.accepted[n]);
+        self.with_table(width, table)
+    }
+
+    /// The calls on the table of the least type, which was drawn before X9.62's choice, where that is another type.
+    pub fn earlier(&mut self, width: usize) -> Vec<Call> {
+        match gaussian::type_of(width) {
+            Ok(t) if t != least_type(width) => self.with_table(width, drawn(width, least_type(width))),
+            _ => vec![],
+        }
+    }
+
+    /// The calls on a table, but for those on lists of gates.
+    fn with_table(&mut self, width: usize, table: Vec<u8>) -> Vec<Call> {
         let (a, b, result) = (self.operand(width), self.operand(width), self.result(width));
         vec![
             Call::check { width, table: table.clone() },

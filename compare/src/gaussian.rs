@@ -1,4 +1,4 @@
-//! Types, drawn tables by the rule of document 01, and the product by IEEE 1363's own way: the sequence F(n) and the sum over k.
+//! Types and the choice among them, drawn tables by the rule of document 01, and the product by IEEE 1363's own way: the sequence F(n) and the sum over k.
 
 use crate::bits::{bytes_for, judge_lengths, judge_width, pack, turned, Bits};
 use crate::{fault, Answer};
@@ -30,21 +30,26 @@ pub fn is_type(m: usize, t: usize) -> bool {
     p > 2 && prime(p) && gcd(t * m / order_of_two(p), m) == 1
 }
 
-/// The least type, or 0 where 8 divides the width.
+/// The least type of a width that has one.
+pub fn least_type(m: usize) -> usize {
+    (1..).find(|&t| is_type(m, t)).unwrap()
+}
+
+/// ANSI X9.62's choice: 2 where it is a type, else 1 where that is one, else the least.
 pub fn type_of(m: usize) -> Answer<usize> {
     judge_width(m)?;
     if m % 8 == 0 {
         return fault(17);
     }
-    Ok((1..).find(|&t| is_type(m, t)).unwrap())
+    Ok([2, 1].into_iter().chain(3..).find(|&t| is_type(m, t)).unwrap())
 }
 
 fn power(u: usize, e: usize, p: usize) -> usize {
     (0..e).fold(1, |x, _| x * u % p)
 }
 
-/// Rows by the rule: K is the set of u with u^T = 1; row d sums βs where 1 + 2^d·w lies in 2^s·K, over w in K.
-pub fn rows(m: usize, t: usize) -> Vec<Bits> {
+/// Rows by the rule of document 01: K is the set of u with u^T = 1; row d sums βs where 1 + 2^d·w lies in 2^s·K, over w in K.
+fn rows(m: usize, t: usize) -> Vec<Bits> {
     let p = t * m + 1;
     let k: Vec<_> = (1..p).filter(|&u| power(u, t, p) == 1).collect();
     let mut class = vec![m; p];
@@ -70,12 +75,16 @@ pub fn rows(m: usize, t: usize) -> Vec<Bits> {
     (0..m).map(row).collect()
 }
 
+/// The table of a width and any of its types, as bytes.
+pub fn drawn(m: usize, t: usize) -> Vec<u8> {
+    rows(m, t).iter().flat_map(|r| pack(r)).collect()
+}
+
 pub fn draw(m: usize, table: &mut [u8]) -> Answer<usize> {
     judge_width(m)?;
     judge_lengths(&[(table.len(), m * bytes_for(m))])?;
     let t = type_of(m)?;
-    let bytes: Vec<u8> = rows(m, t).iter().flat_map(|r| pack(r)).collect();
-    table.copy_from_slice(&bytes);
+    table.copy_from_slice(&drawn(m, t));
     Ok(t)
 }
 

@@ -3,7 +3,7 @@
 use compare::bits::{added, pack, turned, unpack, Bits};
 use compare::field::{check, inverse, judge, ones, product, product_reduced};
 use compare::gates::{counts, run, write, Method};
-use compare::gaussian::{draw, is_type, rows, type_of, Ieee1363};
+use compare::gaussian::{draw, drawn, is_type, type_of, Ieee1363};
 use compare::inputs::METERS;
 use compare::{bits, card, Fault};
 
@@ -185,8 +185,7 @@ fn published_points() {
         };
         let (a, b) = (constant(fields[3]), constant(fields[4]));
         let (x, y) = (hexadecimal(m, fields[5]), hexadecimal(m, fields[6]));
-        let bytes: Vec<u8> = rows(m, t).iter().flat_map(|r| pack(r)).collect();
-        let table = judge(m, &bytes, &[], &[]).unwrap();
+        let table = judge(m, &drawn(m, t), &[], &[]).unwrap();
         let square = |v: &Bits| turned(v, 1);
         let left = added(&square(&y), &table.product(&x, &y));
         let right = added(&added(&table.product(&square(&x), &x), &table.product(&a, &square(&x))), &b);

@@ -44,6 +44,9 @@ fn main() {
     if is_named("dense") {
         groups.push((Maker::dense, 1));
     }
+    if is_named("earlier") {
+        groups.push((Maker::earlier, ROUNDS));
+    }
     assert!(!groups.is_empty(), "no group of the names {named:?}");
     let mut maker = Maker::new(1, 0);
     for width in (0..=greatest).chain(BEYOND) {

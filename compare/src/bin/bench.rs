@@ -40,8 +40,9 @@ fn time(runs: u64, call: &mut impl FnMut()) -> f64 {
 /// The widths whose drawn tables stand for all: what is timed by definition, and what compare/before-after shows of every call.
 const TYPED: [usize; 2] = [233, 571];
 
-/// The other widths whose drawing compare/before-after shows: odd and even types, and the greatest p, that of 477.
-const DRAWN: [usize; 8] = [65, 130, 163, 255, 283, 409, 477, 540];
+/// The other widths whose drawing compare/before-after shows: odd and even types, and the greatest p, that of 477; 18, 210 and 378, which
+/// an earlier library draws by type 1.
+const DRAWN: [usize; 11] = [18, 65, 130, 163, 210, 255, 283, 378, 409, 477, 540];
 
 /// How often each of two calls is timed in a pass, and how many passes there are over all of them; the least time counts.
 const TRIES: usize = 5;

@@ -18,7 +18,7 @@ use Rattle.gaussian.specs.Causes.{typeZero, drawCauses}
 use Rattle.gaussian.specs.Calls.{answer, drawFault, drawCall}
 use Rattle.gaussian.specs.Inner.{Drawable}
 use Rattle.gaussian.proofs.TypeBound.{type-small}
-use Rattle.gaussian.proofs.Theorems.{type-list}
+use Rattle.gaussian.proofs.Theorems.{type-list, type-orders}
 
 abbrev pub given : Fault → ℕ → TypeAnswer
 given f t = record { fault = f; t = t }
@@ -64,7 +64,7 @@ module _ (m size : ℕ) where
   drawable d = record {
     least = d .least;
     greatest = d .greatest;
-    isType = type-list m (d .least) (d .greatest) .least (d .typed) .0;
+    isType = type-orders .isType m (typeOf m) (type-list m (d .least) (d .greatest) .chosen (d .typed));
     small = type-small m (d .least) (d .greatest);
   }
 

@@ -1,4 +1,4 @@
--- A test of types that is passed says what the definitions say: prime, a type, no type, the least type.
+-- A test of types that is passed says what the definitions say: prime, a type, no type, X9.62's choice.
 use mathlib.Core.Path.{_≡_, sym, ap, _∙_}
 use mathlib.Core.Logic.{_≢_, _⊎_, inl, inr}
 use mathlib.Core.Bool.{Bool, true, false}
@@ -6,21 +6,25 @@ use Prim.Native.Nat.{ℕ, zero, suc, _+_, _*_, _/_, _%_, _^_, _≤_, _<_, _∣_}
 use native.Mathlib.Nat.{zero-mul, mul-comm, mul-assoc, le-refl, le-trans, le-of-lt, lt-irrefl, mul-le-mul, mul-pos, mul-one, dvd-of-mod-eq-zero, mod-eq-zero-of-dvd, mul-div-cancel', dvd-mul-left-of-dvd, dvd-mul-right, mul-mod-left, div-eq-of-eq-mul-left, le-of-dvd, pos-of-dvd-of-pos, lt-of-mul-lt-mul-left, le-step}
 use native.Mathlib.Decide.{ℕ-discrete, decLe}
 use native.Mathlib.Omega.{arith}
-use lib.Dec.{T, eqb, ltb, eqb→eq, ltb→lt}
+use lib.Dec.{T, eqb, ltb, eqb→eq, ltb→lt, lit<}
 use borrow.Author.Tests.{eq-eqb}
-use Rattle.gaussian.specs.Types.{Prime, IsOrder, IsType, LeastType}
+use Rattle.gaussian.specs.Types.{Prime, IsOrder, IsType, AnsiType}
 use Rattle.gaussian.proofs.Entries.{both, both-parts}
 use Rattle.gaussian.proofs.Modulo.{order-divides, order-exists, pow-one}
-use Rattle.gaussian.proofs.TypeTests.{noDiv, divisor, hits, noHit, hit, isType, refutes, refutes′, noType, noneBelow}
+use Rattle.gaussian.proofs.TypeTests.{noDiv, divisor, hits, noHit, hit, isType, refutes, refutes′, noType, noneBelow, leastAbove, notTwo, ansiType}
 
 -- the tests by cases
 unless : (a b : Bool) → T (elim a [ true ↦ false | false ↦ b ]) → (T a → ⊥) × T b
 unless true b t = absurd t
 unless false b t = (λ x. x, t)
 
-else : (a b : Bool) → T (elim a [ true ↦ true | false ↦ b ]) → T a ⊎ T b
+pub else : (a b : Bool) → T (elim a [ true ↦ true | false ↦ b ]) → T a ⊎ T b
 else true b t = inl tt
 else false b t = inr t
+
+pub cases : (a b c : Bool) → T (elim a [ true ↦ b | false ↦ c ]) → (T a × T b) ⊎ ((T a → ⊥) × T c)
+cases true b c t = inl (tt, t)
+cases false b c t = inr (λ x. x, t)
 
 noDiv-sound : (f d p : ℕ) → T (noDiv f d p) → (e : ℕ) → d ≤ e → e * e ≤ p → p % e ≢ 0
 noDiv-sound zero d p t e h h′ z = t
@@ -80,7 +84,7 @@ module _ (m t : ℕ) (hm : 0 < m) where
         rw (eq-eqb (m % d) 0 (mod-eq-zero-of-dvd d h′), eq-eqb (2 ^ (e / d) % p) 1 (ap (λ x. 2 ^ x % p) at ∙ pow-one 2 p k (e / k / d) above (o .1))) tt
 
   -- the test of a type
-  type : 0 < t → T (isType m t) → IsType m t
+  pub type : 0 < t → T (isType m t) → IsType m t
   type ht s =
       let q = both-parts (noDiv p 2 p) (both (eqb (2 ^ e % p) 1) (noHit m e p m)) s in
       let r = both-parts (eqb (2 ^ e % p) 1) (noHit m e p m) (q .1) in
@@ -111,7 +115,7 @@ module _ (m t : ℕ) (hm : 0 < m) where
       let all = ty .1 .2 n (rw q (dvd-mul-right n (e / n / k))) d in
       omega arith
 
-  no-type : T (noType m t) → ¬ IsType m t
+  pub no-type : T (noType m t) → ¬ IsType m t
   no-type s ty =
       let d = divisor p 2 p in
       let n = hit m e p m in
@@ -140,8 +144,24 @@ none-below m (suc t) hm r s h ty = elim (else (eqb t 0) (both (noType m t) (none
   ]
 ]
 
-pub least : (m t : ℕ) → 0 < m → T (both (ltb 0 t) (both (isType m t) (noneBelow m t))) → LeastType m t
-least m t hm s =
-    let q = both-parts (ltb 0 t) (both (isType m t) (noneBelow m t)) s in
-    let r = both-parts (isType m t) (noneBelow m t) (q .1) in
-    (type m t hm (ltb→lt 0 t (q .0)) (r .0), none-below m t hm (r .1))
+-- the test of X9.62's choice: the least type above 2, 1, and 2
+module _ (m t : ℕ) (hm : 0 < m) where
+  least-above : T (leastAbove m t) → AnsiType m t
+  least-above s =
+      let q = both-parts (ltb 2 t) (both (isType m t) (noneBelow m t)) s in
+      let r = both-parts (isType m t) (noneBelow m t) (q .1) in
+      let above = ltb→lt 2 t (q .0) in
+      let none = none-below m t hm (r .1) in
+      inr (inr (none 2 above, none 1 (omega arith), (type m t hm (omega arith) (r .0), none)))
+
+  not-two : T (notTwo m t) → AnsiType m t
+  not-two s = elim (cases (eqb t 1) (both (noType m 2) (isType m 1)) (leastAbove m t) s) [
+    | inl q ↦ let r = both-parts (noType m 2) (isType m 1) (q .1) in inr (inl (no-type m 2 hm (r .0), type m 1 hm (lit< tt) (r .1), eqb→eq t 1 (q .0)))
+    | inr q ↦ least-above (q .1)
+  ]
+
+  pub ansi-type : T (ansiType m t) → AnsiType m t
+  ansi-type s = elim (cases (eqb t 2) (isType m 2) (notTwo m t) s) [
+    | inl q ↦ inl (type m 2 hm (lit< tt) (q .1), eqb→eq t 2 (q .0))
+    | inr q ↦ not-two (q .1)
+  ]

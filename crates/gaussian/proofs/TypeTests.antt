@@ -1,7 +1,9 @@
--- The tests of types that antt computes: a type, no type, no lesser type, an entry of the list.
+-- The tests of types that antt computes: a type, no type, no lesser type, X9.62's choice, an entry of the list, a width with types 1 and 2.
 use mathlib.Core.Bool.{Bool, true, false}
+use mathlib.Core.List.{List, [], _∷_}
 use Prim.Native.Nat.{ℕ, zero, suc, _+_, _*_, _/_, _%_, _^_}
 use lib.Dec.{eqb, ltb}
+use Rattle.gaussian.specs.Statements.{bothTypes}
 use Rattle.gaussian.proofs.Entries.{both}
 
 -- no divisor of p from d on, up to its square root
@@ -50,6 +52,31 @@ abbrev pub noneBelow : ℕ → ℕ → Bool
 noneBelow m zero = true
 noneBelow m (suc t) = elim (eqb t 0) [ true ↦ true | false ↦ both (noType m t) (noneBelow m t) ]
 
+-- t is the least type of m, and above 2
+abbrev pub leastAbove : ℕ → ℕ → Bool
+leastAbove m t = both (ltb 2 t) (both (isType m t) (noneBelow m t))
+
+-- t is 1, and a type of m where 2 is none; or it is the least, above 2
+abbrev pub notTwo : ℕ → ℕ → Bool
+notTwo m t = elim (eqb t 1) [ true ↦ both (noType m 2) (isType m 1) | false ↦ leastAbove m t ]
+
+-- t is X9.62's choice for m
+abbrev pub ansiType : ℕ → ℕ → Bool
+ansiType m t = elim (eqb t 2) [ true ↦ isType m 2 | false ↦ notTwo m t ]
+
 -- the entry x of the width k + 2
 abbrev pub entry : ℕ → ℕ → Bool
-entry k x = elim (eqb ((k + 2) % 8) 0) [ true ↦ eqb x 0 | false ↦ both (ltb 0 x) (both (isType (k + 2) x) (noneBelow (k + 2) x)) ]
+entry k x = elim (eqb ((k + 2) % 8) 0) [ true ↦ eqb x 0 | false ↦ ansiType (k + 2) x ]
+
+-- x stands in a list
+abbrev pub among : ℕ → List ℕ → Bool
+among x [] = false
+among x (y ∷ ys) = elim (eqb x y) [ true ↦ true | false ↦ among x ys ]
+
+-- 1 or 2 is no type of m
+abbrev pub oneMissing : ℕ → Bool
+oneMissing m = elim (noType m 1) [ true ↦ true | false ↦ noType m 2 ]
+
+-- 1 and 2 both are types of m, if it is one of the widths of which this is said; else one of them is none
+abbrev pub hasBoth : ℕ → Bool
+hasBoth m = elim (among m bothTypes) [ true ↦ both (isType m 1) (isType m 2) | false ↦ oneMissing m ]

@@ -1,17 +1,18 @@
--- What is proved of the list of types and of drawn tables: the statements alone.
+-- What is proved of the list of types, of the two orders in which a type is chosen and of drawn tables: the statements alone.
 use mathlib.Core.Path.{_≡_}
-use mathlib.Core.Logic.{_↔_}
+use mathlib.Core.Logic.{_↔_, _⊎_}
+use mathlib.Core.List.{List, [], _∷_}
 use Prim.Native.Nat.{ℕ, _-_, _*_, _^_, _∣_, _<_, _≤_}
 use Rattle.gf2.specs.Operands.{maxWidth, bytesFor, fromCoords}
 use Rattle.gf2.specs.Tables.{IsTable, row}
 use Rattle.table.specs.Carried.{carried2, carried3, carried4, carried5}
-use Rattle.gaussian.specs.Types.{modulus, IsType, LeastType, typeOf}
+use Rattle.gaussian.specs.Types.{modulus, IsType, LeastType, AnsiType, typeOf}
 use Rattle.gaussian.specs.Table.{rowCoord, drawn}
 
 -- what the list's entry t says of the width m
 pub record Listed (m t : ℕ) : Type 0 where
-  -- "the least T"
-  pub least : ¬ (t ≡ 0) → LeastType m t
+  -- document 02, (e): "The fixed list follows that order."
+  pub chosen : ¬ (t ≡ 0) → AnsiType m t
   -- "or 0 exactly where 8 divides m"
   pub none : (t ≡ 0) ↔ (8 ∣ m)
   -- and there no T at all is a type
@@ -20,6 +21,31 @@ pub record Listed (m t : ℕ) : Type 0 where
 -- "A fixed list holds the type of each width 2 to 571"
 abbrev pub TypeList : Type 0
 TypeList = (m : ℕ) → 2 ≤ m → m ≤ maxWidth → Listed m (typeOf m)
+
+-- X9.62's choice s for the width m beside the least type t: they differ exactly where 1 and 2 both are types, and there they are 2 and 1
+pub record Choices (m s t : ℕ) : Type 0 where
+  pub differ : (¬ (s ≡ t)) ↔ (IsType m 1 × IsType m 2)
+  pub values : ¬ (s ≡ t) → (s ≡ 2) × (t ≡ 1)
+
+-- x stands in a list
+abbrev pub Among : ℕ → List ℕ → Type 0
+Among x [] = ⊥
+Among x (y ∷ ys) = (x ≡ y) ⊎ Among x ys
+
+-- the widths of the list that have both types
+abbrev pub bothTypes : List ℕ
+bothTypes = 2 ∷ 18 ∷ 210 ∷ 378 ∷ []
+
+-- the two orders of choice, for widths of any size
+pub record TypeOrders : Type 0 where
+  -- X9.62's order chooses a type, and one alone
+  pub isType : (m t : ℕ) → AnsiType m t → IsType m t
+  pub only : (m s t : ℕ) → AnsiType m s → AnsiType m t → s ≡ t
+  pub choices : (m s t : ℕ) → AnsiType m s → LeastType m t → Choices m s t
+  -- from 2 to 571 they differ at these four widths and nowhere else
+  pub both : (m : ℕ) → 2 ≤ m → m ≤ maxWidth → (IsType m 1 × IsType m 2) ↔ Among m bothTypes
+  -- at width 2 the types give one table
+  pub same : drawn 2 1 ≡ drawn 2 2
 
 -- p "fits": 32 bits hold it, and 64 the product of any two residues modulo p
 pub record ModulusFits (p : ℕ) : Type 0 where

@@ -1,5 +1,6 @@
--- Types of Gaussian normal bases, and the fixed list of the type of each width.
+-- Types of Gaussian normal bases, the two orders in which one is chosen, and the fixed list of the type of each width.
 use mathlib.Core.Path.{_≡_}
+use mathlib.Core.Logic.{_⊎_}
 use mathlib.Core.List.{List, [], _∷_}
 use Prim.Native.Nat.{ℕ, _+_, _-_, _*_, _/_, _%_, _^_, _<_, _∣_}
 use lib.ListN.{getD}
@@ -28,12 +29,19 @@ IsType m t = Prime (modulus m t) × ((k : ℕ) × IsOrder k 2 (modulus m t) × C
 abbrev pub LeastType : ℕ → ℕ → Type 0
 LeastType m t = IsType m t × ((s : ℕ) → s < t → ¬ IsType m s)
 
--- "A fixed list holds the type of each width 2 to 571": the least T, or 0
+-- document 02, (e), ANSI X9.62's choice as document 002 reports it: "type 2 where one exists, then type 1, then the least T"
+abbrev pub AnsiType : ℕ → ℕ → Type 0
+AnsiType m t =
+    (IsType m 2 × (t ≡ 2))
+    ⊎ ((¬ IsType m 2) × IsType m 1 × (t ≡ 1))
+    ⊎ ((¬ IsType m 2) × (¬ IsType m 1) × LeastType m t)
+
+-- "A fixed list holds the type of each width 2 to 571", "The fixed list follows that order": X9.62's choice, or 0
 abbrev pub types : List ℕ
 types =
-    1 ∷ 2 ∷ 1 ∷ 2 ∷ 2 ∷ 4
+    2 ∷ 2 ∷ 1 ∷ 2 ∷ 2 ∷ 4
     ∷ 0 ∷ 2 ∷ 1 ∷ 2 ∷ 1 ∷ 4 ∷ 2 ∷ 4
-    ∷ 0 ∷ 6 ∷ 1 ∷ 10 ∷ 3 ∷ 10 ∷ 3 ∷ 2
+    ∷ 0 ∷ 6 ∷ 2 ∷ 10 ∷ 3 ∷ 10 ∷ 3 ∷ 2
     ∷ 0 ∷ 4 ∷ 2 ∷ 6 ∷ 1 ∷ 2 ∷ 2 ∷ 10
     ∷ 0 ∷ 2 ∷ 9 ∷ 2 ∷ 1 ∷ 4 ∷ 6 ∷ 2
     ∷ 0 ∷ 2 ∷ 5 ∷ 4 ∷ 9 ∷ 4 ∷ 3 ∷ 6
@@ -57,7 +65,7 @@ types =
     ∷ 0 ∷ 8 ∷ 2 ∷ 6 ∷ 5 ∷ 2 ∷ 10 ∷ 2
     ∷ 0 ∷ 4 ∷ 2 ∷ 6 ∷ 1 ∷ 18 ∷ 22 ∷ 4
     ∷ 0 ∷ 8 ∷ 6 ∷ 12 ∷ 3 ∷ 4 ∷ 3 ∷ 4
-    ∷ 0 ∷ 2 ∷ 1 ∷ 10 ∷ 5 ∷ 4 ∷ 3 ∷ 6
+    ∷ 0 ∷ 2 ∷ 2 ∷ 10 ∷ 5 ∷ 4 ∷ 3 ∷ 6
     ∷ 0 ∷ 6 ∷ 5 ∷ 4 ∷ 3 ∷ 2 ∷ 10 ∷ 12
     ∷ 0 ∷ 22 ∷ 1 ∷ 24 ∷ 9 ∷ 12 ∷ 2 ∷ 2
     ∷ 0 ∷ 2 ∷ 5 ∷ 4 ∷ 3 ∷ 10 ∷ 7 ∷ 2
@@ -78,7 +86,7 @@ types =
     ∷ 0 ∷ 14 ∷ 2 ∷ 6 ∷ 3 ∷ 10 ∷ 10 ∷ 2
     ∷ 0 ∷ 30 ∷ 5 ∷ 4 ∷ 3 ∷ 24 ∷ 22 ∷ 6
     ∷ 0 ∷ 10 ∷ 6 ∷ 2 ∷ 1 ∷ 4 ∷ 3 ∷ 2
-    ∷ 0 ∷ 14 ∷ 1 ∷ 12 ∷ 5 ∷ 8 ∷ 6 ∷ 12
+    ∷ 0 ∷ 14 ∷ 2 ∷ 12 ∷ 5 ∷ 8 ∷ 6 ∷ 12
     ∷ 0 ∷ 6 ∷ 2 ∷ 4 ∷ 1 ∷ 24 ∷ 3 ∷ 6
     ∷ 0 ∷ 2 ∷ 9 ∷ 6 ∷ 11 ∷ 6 ∷ 2 ∷ 12
     ∷ 0 ∷ 8 ∷ 5 ∷ 16 ∷ 3 ∷ 4 ∷ 6 ∷ 8

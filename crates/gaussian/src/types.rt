@@ -10,9 +10,10 @@ const LISTED: usize = limbs::MAX_WIDTH - 1;
 // The greatest type of the list.
 pub(crate) const MAX_TYPE: usize = 46;
 
-// The least type of each width from 2 on, or 0 where 8 divides the width.
+// The type of each width from 2 on by ANSI X9.62's choice: 2 where it is one, else 1 where it is, else the least. 0 where 8 divides the
+// width, which has none.
 const TYPES: [u8; LISTED] = [
-    1,
+    2,
     2,
     1,
     2,
@@ -28,7 +29,7 @@ const TYPES: [u8; LISTED] = [
     4,
     0,
     6,
-    1,
+    2,
     10,
     3,
     10,
@@ -220,7 +221,7 @@ const TYPES: [u8; LISTED] = [
     4,
     0,
     2,
-    1,
+    2,
     10,
     5,
     4,
@@ -388,7 +389,7 @@ const TYPES: [u8; LISTED] = [
     2,
     0,
     14,
-    1,
+    2,
     12,
     5,
     8,

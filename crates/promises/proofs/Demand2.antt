@@ -45,7 +45,7 @@ drawn-by m old e =
     let w = wide (no .0) in
     let t = drawn-table m (typeOf m) in
     rw (call .buffer .written e) (record {
-      least = type-list m (w .0) (w .1) .least (no .1 .1 .0);
+      chosen = type-list m (w .0) (w .1) .chosen (no .1 .1 .0);
       isTable = t .isTable;
       rows = λ d l. rw (t .rows d l) (record {
         operand = from-operand (bytesFor m) m _;

@@ -3,6 +3,7 @@
 -- NoFaults: calls that give no fault.
 -- AnswerLaws: what comes out of an answer, and what a lent buffer holds. CarriedCalls, Reports: the parts of demand 1 of these names.
 -- Demand1, Demand2, Demand3: the demands. Acceptance: which gate lists from elsewhere are accepted. Turns: turns by any count.
+-- TypeChoice: the type that is chosen for a width.
 pub mod CauseLaws
 pub mod CardTests
 pub mod AnswerLaws
@@ -14,3 +15,4 @@ pub mod Demand2
 pub mod Demand3
 pub mod Acceptance
 pub mod Turns
+pub mod TypeChoice

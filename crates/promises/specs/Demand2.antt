@@ -8,7 +8,7 @@ use Rattle.gf2.specs.Coordinates.{coord}
 use Rattle.gf2.specs.Operands.{maxWidth, bytesFor, minus, IsOperand}
 use Rattle.gf2.specs.Tables.{IsTable, row, pairProduct}
 use Rattle.judging.specs.declared.fault.Fault.the-variants.{None}
-use Rattle.gaussian.specs.Types.{modulus, IsType, LeastType, typeOf}
+use Rattle.gaussian.specs.Types.{modulus, IsType, AnsiType, typeOf}
 use Rattle.gaussian.specs.Table.{rowCoord}
 use Rattle.gaussian.specs.Calls.{drawFault, drawnInto}
 use Rattle.card.specs.Calls.{readCall}
@@ -34,9 +34,9 @@ pub record HasCoords (m : ℕ) (bytes : List ℕ) (f : ℕ → ℕ) : Type 0 whe
   pub operand : IsOperand (bytesFor m) m bytes
   pub coords : (r : ℕ) → r < m → coord bytes r ≡ f r
 
--- a table that was drawn: by the least T that is a type, row by row
+-- a table that was drawn: by the T that ANSI X9.62 chooses (document 02, (e): "Drawn tables are compared with this choice"), row by row
 pub record DrawnBy (m t : ℕ) (table : List ℕ) : Type 0 where
-  pub least : LeastType m t
+  pub chosen : AnsiType m t
   pub isTable : IsTable m table
   -- "Row d is the sum over w in K of βs where 1 + 2^d·w lies in 2^s·K; .."
   pub rows : (d : ℕ) → d < m → HasCoords m (row m table d) (λ s. rowCoord (modulus m t) t d s % 2)

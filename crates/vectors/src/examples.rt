@@ -1,4 +1,4 @@
-// Each function runs one example of document 01 and prints what its calls answer.
+// Each function runs one example of document 01, as document 02 changes them, and prints what its calls answer.
 ghost use mathlib.Core.Path.{_≡_};
 ghost use Prim.Native.Nat.{_<_, _≤_};
 ghost use Rattle.gf2.specs.Operands.{maxWidth};
@@ -56,14 +56,14 @@ pub(crate) fn turns(width: usize)
     turned(width, usize::MAX);
 }
 
-// "Drawing 8: 17"; "drawing a table returns its type T". A row of these widths is a byte.
+// "Drawing 8: 17"; "drawing a table returns its type T"; "Width 18 .. now draws type 2".
 pub(crate) fn drawn(width: usize)
-    requires { ⌜ width ≤ 8 ⌝ }
+    requires { ⌜ width ≤ 18 ⌝ }
     ensures { λ _. ⊤ₛ }
 {
-    let mut buffer = [238u8; 8];
+    let mut buffer = [238u8; 54];
     let whole: &mut [u8] = &mut buffer;
-    let table = &mut whole[..width];
+    let table = &mut whole[..width * limbs::bytes_for(width)];
     let answer = gaussian::draw(width, table);
     let fault = answer.fault;
     let number = judging::number(fault);

@@ -39,6 +39,7 @@ fn main() {
     examples::drawn(3);
     examples::drawn(4);
     examples::drawn(5);
+    examples::drawn(18);
     lists();
     cards();
 }

@@ -1,0 +1,101 @@
+-- ANSI X9.62's choice of type: the laws of crate gaussian, told of the calls.
+use mathlib.Core.Path.{_≡_, refl, sym, ap, _∙_}
+use mathlib.Core.Logic.{_↔_, inl, inr}
+use mathlib.Core.List.{List}
+use Prim.Native.Nat.{ℕ, _*_, _∣_, _≤_}
+use native.Mathlib.Decide.{ℕ-discrete}
+use native.Mathlib.Omega.{arith}
+use lib.Dec.{lit≤}
+use lib.ListN.{length}
+use Rattle.gf2.specs.Operands.{maxWidth, bytesFor}
+use Rattle.gf2.proofs.Decisions.{equal-unless}
+use Rattle.judging.specs.declared.fault.Fault.the-variants.{None, Width, Length, Call}
+use Rattle.judging.specs.declared.fault.CallFault.the-variants.{NoType}
+use Rattle.judging.specs.Faults.{numberOf}
+use Rattle.judging.specs.Causes.{First, faultOf}
+use Rattle.gaussian.specs.Types.{IsType, LeastType, AnsiType, typeOf}
+use Rattle.gaussian.specs.Table.{drawn}
+use Rattle.gaussian.specs.Causes.{typeCauses, drawCauses}
+use Rattle.gaussian.specs.Calls.{drawFault, drawnInto}
+use Rattle.gaussian.specs.Statements.{Among, bothTypes, Choices}
+use Rattle.gaussian.proofs.Theorems.{type-list, type-orders}
+use Rattle.promises.specs.TypeChoice.{TypeChoice}
+use Rattle.promises.proofs.CauseLaws.{wide}
+use Rattle.promises.proofs.Demand1.{demand1}
+
+no-type : ¬ (Call NoType ≡ None)
+no-type e = omega (arith, ap (λ f. numberOf f .0) e)
+
+no-width : ¬ (Call NoType ≡ Width)
+no-width e = omega (arith, ap (λ f. numberOf f .0) e)
+
+no-length : ¬ (Call NoType ≡ Length)
+no-length e = omega (arith, ap (λ f. numberOf f .0) e)
+
+module _ (m : ℕ) where
+  chosen : faultOf (typeCauses m) ≡ None → AnsiType m (typeOf m)
+  chosen e =
+      let no = demand1 .typed m .exact .none .0 e in
+      let w = wide (no .0) in
+      type-list m (w .0) (w .1) .chosen (no .1 .0)
+
+  module _ (least : 2 ≤ m) (greatest : m ≤ maxWidth) where
+    -- a width that has a type has a choice
+    typed : (t : ℕ) → IsType m t → AnsiType m (typeOf m)
+    typed t ty = let l = type-list m least greatest in l .chosen (λ z. l .never (l .none .0 z) t ty)
+
+    choices : (t : ℕ) → LeastType m t → Choices m (typeOf m) t
+    choices t l = type-orders .choices m (typeOf m) t (typed t (l .0)) l
+
+    differs : (t : ℕ) → LeastType m t → (¬ (typeOf m ≡ t)) ↔ Among m bothTypes
+    differs t l =
+        let d = choices t l .differ in
+        let b = type-orders .both m least greatest in
+        (λ n. b .0 (d .0 n), λ a. d .1 (b .1 a))
+
+    eight : (typeOf m ≡ 0) ↔ (8 ∣ m)
+    eight = type-list m least greatest .none
+
+  seventeen : (faultOf (typeCauses m) ≡ Call NoType) ↔ ((2 ≤ m) × (m ≤ maxWidth) × (8 ∣ m))
+  seventeen =
+      let given = demand1 .typed m .exact .given (Call NoType) no-type in
+      (λ e. to (given .0 e), λ h. given .1 (inr (λ b. b (h .0, h .1), inl (eight (h .0) (h .1) .1 (h .2), refl))))
+    where
+      to : First (typeCauses m) (Call NoType) → (2 ≤ m) × (m ≤ maxWidth) × (8 ∣ m)
+      to (inl c) = absurd (no-width (c .1))
+      to (inr (n, inl c)) = let w = wide n in (w .0, w .1, eight (w .0) (w .1) .0 (c .0))
+      to (inr (n, inr c)) = absurd (c .1)
+
+  drawSeventeen : (old : List ℕ) → (drawFault m (length old) ≡ Call NoType) ↔ ((2 ≤ m) × (m ≤ maxWidth) × (length old ≡ m * bytesFor m) × (8 ∣ m))
+  drawSeventeen old =
+      let given = demand1 .draw m old .exact .given (Call NoType) no-type in
+      (λ e. to (given .0 e), λ h. given .1 (inr (λ b. b (h .0, h .1), inr (λ n. n (h .2), inl (eight (h .0) (h .1) .1 (h .3), refl)))))
+    where
+      to : First (drawCauses m (length old)) (Call NoType) → (2 ≤ m) × (m ≤ maxWidth) × (length old ≡ m * bytesFor m) × (8 ∣ m)
+      to (inl c) = absurd (no-width (c .1))
+      to (inr (n, inl c)) = absurd (no-length (c .1))
+      to (inr (n, inr (l, inl c))) = let w = wide n in (w .0, w .1, equal-unless _ _ l, eight (w .0) (w .1) .0 (c .0))
+      to (inr (n, inr (l, inr c))) = absurd (c .1)
+
+-- a width and a type T that is the list's
+draws : (m t : ℕ) → 2 ≤ m → m ≤ maxWidth → typeOf m ≡ t → ¬ (t ≡ 0) → (old : List ℕ) → length old ≡ m * bytesFor m →
+    (drawFault m (length old) ≡ None) × (drawnInto m old ≡ drawn m t)
+draws m t l h e n old size =
+    let call = demand1 .draw m old in
+    let none = call .exact .none .1 (λ b. b (l, h), (λ u. u size, (λ z. n (sym e ∙ z), tt))) in
+    (none, call .buffer .written none ∙ ap (drawn m) e)
+
+pub type-choice : TypeChoice
+unfolding typeOf
+type-choice = record {
+  chosen = chosen;
+  only = λ m t e a. type-orders .only m t (typeOf m) a (chosen m e);
+  differs = λ m t l h. differs m l h t;
+  values = λ m t l h least. choices m l h t least .values;
+  both18 = type-orders .both 18 (lit≤ tt) (lit≤ tt) .1 (inr (inl refl));
+  type18 = refl;
+  draws18 = draws 18 2 (lit≤ tt) (lit≤ tt) refl (λ z. omega (arith, z));
+  draws2 = λ old size. let d = draws 2 2 (lit≤ tt) (lit≤ tt) refl (λ z. omega (arith, z)) old size in (d .0, d .1 ∙ sym (type-orders .same));
+  seventeen = seventeen;
+  drawSeventeen = drawSeventeen;
+}
