@@ -144,8 +144,14 @@ none-below m (suc t) hm r s h ty = elim (else (eqb t 0) (both (noType m t) (none
   ]
 ]
 
--- the test of X9.62's choice: the least type above 2, 1, and 2
+-- the test of X9.62's choice: 2 where it is a type, 1, and the least type above 2
 module _ (m t : ℕ) (hm : 0 < m) where
+  two : t ≡ 2 → T (isType m 2) → AnsiType m t
+  two eq s = inl (type m 2 hm (lit< tt) s, eq)
+
+  one : t ≡ 1 → T (both (noType m 2) (isType m 1)) → AnsiType m t
+  one eq s = let q = both-parts (noType m 2) (isType m 1) s in inr (inl (no-type m 2 hm (q .0), type m 1 hm (lit< tt) (q .1), eq))
+
   least-above : T (leastAbove m t) → AnsiType m t
   least-above s =
       let q = both-parts (ltb 2 t) (both (isType m t) (noneBelow m t)) s in
@@ -156,12 +162,12 @@ module _ (m t : ℕ) (hm : 0 < m) where
 
   not-two : T (notTwo m t) → AnsiType m t
   not-two s = elim (cases (eqb t 1) (both (noType m 2) (isType m 1)) (leastAbove m t) s) [
-    | inl q ↦ let r = both-parts (noType m 2) (isType m 1) (q .1) in inr (inl (no-type m 2 hm (r .0), type m 1 hm (lit< tt) (r .1), eqb→eq t 1 (q .0)))
+    | inl q ↦ one (eqb→eq t 1 (q .0)) (q .1)
     | inr q ↦ least-above (q .1)
   ]
 
   pub ansi-type : T (ansiType m t) → AnsiType m t
   ansi-type s = elim (cases (eqb t 2) (isType m 2) (notTwo m t) s) [
-    | inl q ↦ inl (type m 2 hm (lit< tt) (q .1), eqb→eq t 2 (q .0))
+    | inl q ↦ two (eqb→eq t 2 (q .0)) (q .1)
     | inr q ↦ not-two (q .1)
   ]
