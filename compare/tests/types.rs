@@ -44,6 +44,18 @@ fn where_the_choice_is_not_the_least() {
     assert_eq!(differ, BOTH);
 }
 
+/// Either basis is optimal, with 2m-1 ones. That of type 1 has a row of ones, so that its common list is the shorter one.
+#[test]
+fn lists_of_both_types() {
+    for m in BOTH {
+        let tables = [1, 2].map(|t| drawn(m, t));
+        assert_eq!(tables.each_ref().map(|table| proved::ones(m, table)), [Ok((2 * m - 1, 0)); 2], "width {m}");
+        let common = tables.each_ref().map(|table| proved::counts_common(m, table));
+        let of_type_2 = if m == 2 { 3 } else { 2 * m * (m - 1) };
+        assert_eq!(common, [Ok((m * m, m * m - 1)), Ok((m * m, of_type_2))], "width {m}");
+    }
+}
+
 /// The tables of type 1 of these widths: both versions accept them and answer every call on them alike, and the products are IEEE 1363's
 /// for type 1.
 #[test]

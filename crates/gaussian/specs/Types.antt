@@ -25,7 +25,7 @@ modulus m t = t * m + 1
 abbrev pub IsType : ℕ → ℕ → Type 0
 IsType m t = Prime (modulus m t) × ((k : ℕ) × IsOrder k 2 (modulus m t) × Coprime (t * m / k) m)
 
--- "the least T"
+-- "the least T": document 01's choice, and the last of X9.62's
 abbrev pub LeastType : ℕ → ℕ → Type 0
 LeastType m t = IsType m t × ((s : ℕ) → s < t → ¬ IsType m s)
 
