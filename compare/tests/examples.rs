@@ -102,6 +102,8 @@ fn drawn_tables() {
         draw(m, &mut table).unwrap();
         assert_eq!(table, carried(m));
     }
+    assert!(is_type(18, 1) && is_type(18, 2));
+    assert_eq!(type_of(18), Ok(2));
     for m in (2..=40).chain(METERS) {
         if m % 8 == 0 {
             assert!((1..40).all(|t| !is_type(m, t)));

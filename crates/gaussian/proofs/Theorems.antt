@@ -17,7 +17,7 @@ use Rattle.gaussian.proofs.Entries.{every, at}
 use Rattle.gaussian.proofs.TypeTests.{entry, ansiType}
 use Rattle.gaussian.proofs.Soundness.{cases, zero-type, ansi-type}
 use Rattle.gaussian.proofs.Two.{eight}
-use Rattle.gaussian.proofs.TypeOrders.{ansi-is-type, ansi-only, choices, both-types}
+use Rattle.gaussian.proofs.TypeOrders.{ansi-is-type, ansi-only, same, other, both-types}
 use Rattle.gaussian.proofs.TypeBound.{type-small, modulus-small, modulus-fits}
 use Rattle.gaussian.proofs.RowLaws.{row-of, rows-table}
 
@@ -61,7 +61,7 @@ type-list m h h′ = subst (λ (y : ℕ). Listed y (getD types (m - 2) 0)) back 
 
 pub type-orders : TypeOrders
 unfolding sum value tabulate pack below fromCoords some inK inCoset gives term rowCoord rowsOf drawn
-type-orders = record { isType = ansi-is-type; only = ansi-only; choices = choices; both = both-types; same = refl }
+type-orders = record { isType = ansi-is-type; only = ansi-only; same = same; other = other; both = both-types; table2 = refl }
 
 pub moduli-fit : ModuliFit
 moduli-fit m h h′ = modulus-fits (modulus-small (type-small m h h′) h′)

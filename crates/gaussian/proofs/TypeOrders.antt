@@ -1,15 +1,15 @@
--- The two orders in which a type is chosen, X9.62's and the least: each chooses one type; where their choices differ.
+-- The two orders in which a type is chosen, X9.62's and the least: each chooses one type; where the first isn't the least.
 use mathlib.Core.Path.{_≡_, sym, _∙_, subst}
 use mathlib.Core.Logic.{_↔_, inl, inr}
 use mathlib.Core.Bool.{Bool, true, false}
 use mathlib.Core.List.{List, [], _∷_}
-use Prim.Native.Nat.{ℕ, _+_, _-_, _<_, _≤_}
-use native.Mathlib.Decide.{ℕ-discrete, decLt}
+use Prim.Native.Nat.{ℕ, zero, suc, _+_, _-_, _<_, _≤_}
+use native.Mathlib.Decide.{decLt}
 use native.Mathlib.Omega.{arith}
 use lib.Dec.{T, eqb, eqb→eq, eqb-refl, lit<}
 use Rattle.gf2.specs.Operands.{maxWidth}
 use Rattle.gaussian.specs.Types.{IsType, LeastType, AnsiType, types}
-use Rattle.gaussian.specs.Statements.{Choices, Among, bothTypes}
+use Rattle.gaussian.specs.Statements.{Among, bothTypes}
 use Rattle.gaussian.proofs.Entries.{both, both-parts, at}
 use Rattle.gaussian.proofs.TypeTests.{isType, noType, among, oneMissing, hasBoth}
 use Rattle.gaussian.proofs.Soundness.{else, cases, type, no-type, zero-type}
@@ -20,7 +20,7 @@ module _ (m : ℕ) where
   ansi-is-type t (inr (inl c)) = rw (c .2) (c .1)
   ansi-is-type t (inr (inr c)) = c .2 .0
 
-  -- the least type is one alone, and 1 is the least where it is a type
+  -- the least type is one alone; it is 1 where that is a type, and 2 where that is and 1 isn't
   least-only : (s t : ℕ) → LeastType m s → LeastType m t → s ≡ t
   least-only s t a b = elim (decLt s t) [
     | yes l ↦ absurd (b .1 s l (a .0))
@@ -44,28 +44,23 @@ module _ (m : ℕ) where
   ansi-only s t (inr (inr a)) (inr (inl b)) = absurd (a .1 (b .1))
   ansi-only s t (inr (inr a)) (inr (inr b)) = least-only s t (a .2) (b .2)
 
-  -- where 2 is a type, the least is 1 or 2
-  below-two : (t : ℕ) → IsType m 2 → LeastType m t → ¬ (2 ≡ t) → t ≡ 1
-  below-two t two l n = elim (decLt 2 t) [
-    | yes h ↦ absurd (l .1 2 h two)
-    | no h ↦ elim (ℕ-discrete t 0) [
-      | yes z ↦ absurd (zero-type m (rw z at (l .0)))
-      | no z ↦ omega arith
-    ]
-  ]
-
-  pub choices : (s t : ℕ) → AnsiType m s → LeastType m t → Choices m s t
-  choices s t (inl a) l = record {
-    differ = (λ n. let e = one n in (rw e at (l .0), a .0), λ b e. let q = least-only 1 t (one-least (b .0)) l in omega (arith, a .1, e, q));
-    values = λ n. (a .1, one n);
-  }
+  two-least : IsType m 2 → ¬ IsType m 1 → LeastType m 2
+  two-least two n = (two, none)
     where
-      one : ¬ (s ≡ t) → t ≡ 1
-      one n = below-two t (a .0) l (λ e. n (a .1 ∙ e))
-  choices s t (inr (inl a)) l = let e = a .2 ∙ least-only 1 t (one-least (a .1)) l in
-      record { differ = (λ n. absurd (n e), λ b. absurd (a .0 (b .1))); values = λ n. absurd (n e) }
-  choices s t (inr (inr a)) l = let e = least-only s t (a .2) l in
-      record { differ = (λ n. absurd (n e), λ b. absurd (a .0 (b .1))); values = λ n. absurd (n e) }
+      none : (s : ℕ) → s < 2 → ¬ IsType m s
+      none zero h ty = zero-type m ty
+      none (suc zero) h ty = n ty
+      none (suc (suc s)) h ty = absurd (omega arith)
+
+  pub same : (t : ℕ) → AnsiType m t → ¬ (IsType m 1 × IsType m 2) → LeastType m t
+  same t (inl c) n = rw (c .1) (two-least (c .0) (λ one. n (one, c .0)))
+  same t (inr (inl c)) n = rw (c .2) (one-least (c .1))
+  same t (inr (inr c)) n = c .2
+
+  pub other : (t : ℕ) → AnsiType m t → IsType m 1 × IsType m 2 → (t ≡ 2) × LeastType m 1
+  other t (inl c) b = (c .1, one-least (b .0))
+  other t (inr (inl c)) b = absurd (c .0 (b .1))
+  other t (inr (inr c)) b = absurd (c .0 (b .1))
 
 -- a test of a list's members is passed by those alone
 first : (a b : Bool) → T a → T (elim a [ true ↦ true | false ↦ b ])

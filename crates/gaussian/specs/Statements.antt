@@ -22,11 +22,6 @@ pub record Listed (m t : ℕ) : Type 0 where
 abbrev pub TypeList : Type 0
 TypeList = (m : ℕ) → 2 ≤ m → m ≤ maxWidth → Listed m (typeOf m)
 
--- X9.62's choice s for the width m beside the least type t: they differ exactly where 1 and 2 both are types, and there they are 2 and 1
-pub record Choices (m s t : ℕ) : Type 0 where
-  pub differ : (¬ (s ≡ t)) ↔ (IsType m 1 × IsType m 2)
-  pub values : ¬ (s ≡ t) → (s ≡ 2) × (t ≡ 1)
-
 -- x stands in a list
 abbrev pub Among : ℕ → List ℕ → Type 0
 Among x [] = ⊥
@@ -36,16 +31,18 @@ Among x (y ∷ ys) = (x ≡ y) ⊎ Among x ys
 abbrev pub bothTypes : List ℕ
 bothTypes = 2 ∷ 18 ∷ 210 ∷ 378 ∷ []
 
--- the two orders of choice, for widths of any size
+-- the two orders of choice
 pub record TypeOrders : Type 0 where
-  -- X9.62's order chooses a type, and one alone
+  -- for widths of any size X9.62's order chooses a type, and one alone
   pub isType : (m t : ℕ) → AnsiType m t → IsType m t
   pub only : (m s t : ℕ) → AnsiType m s → AnsiType m t → s ≡ t
-  pub choices : (m s t : ℕ) → AnsiType m s → LeastType m t → Choices m s t
-  -- from 2 to 571 they differ at these four widths and nowhere else
+  -- it is the least but where 1 and 2 both are types, and there it is 2 and the least is 1
+  pub same : (m t : ℕ) → AnsiType m t → ¬ (IsType m 1 × IsType m 2) → LeastType m t
+  pub other : (m t : ℕ) → AnsiType m t → IsType m 1 × IsType m 2 → (t ≡ 2) × LeastType m 1
+  -- from 2 to 571 these are four widths
   pub both : (m : ℕ) → 2 ≤ m → m ≤ maxWidth → (IsType m 1 × IsType m 2) ↔ Among m bothTypes
-  -- at width 2 the types give one table
-  pub same : drawn 2 1 ≡ drawn 2 2
+  -- at width 2 the two types give one table
+  pub table2 : drawn 2 1 ≡ drawn 2 2
 
 -- p "fits": 32 bits hold it, and 64 the product of any two residues modulo p
 pub record ModulusFits (p : ℕ) : Type 0 where

@@ -12,11 +12,11 @@ use Rattle.judging.specs.declared.fault.Fault.the-variants.{None, Width, Length
 use Rattle.judging.specs.declared.fault.CallFault.the-variants.{NoType}
 use Rattle.judging.specs.Faults.{numberOf}
 use Rattle.judging.specs.Causes.{First, faultOf}
-use Rattle.gaussian.specs.Types.{IsType, LeastType, AnsiType, typeOf}
+use Rattle.gaussian.specs.Types.{LeastType, AnsiType, typeOf}
 use Rattle.gaussian.specs.Table.{drawn}
 use Rattle.gaussian.specs.Causes.{typeCauses, drawCauses}
 use Rattle.gaussian.specs.Calls.{drawFault, drawnInto}
-use Rattle.gaussian.specs.Statements.{Among, bothTypes, Choices}
+use Rattle.gaussian.specs.Statements.{Among, bothTypes}
 use Rattle.gaussian.proofs.Theorems.{type-list, type-orders}
 use Rattle.promises.specs.TypeChoice.{TypeChoice}
 use Rattle.promises.proofs.CauseLaws.{wide}
@@ -31,6 +31,14 @@ no-width e = omega (arith, ap (λ f. numberOf f .0) e)
 no-length : ¬ (Call NoType ≡ Length)
 no-length e = omega (arith, ap (λ f. numberOf f .0) e)
 
+-- the four widths are widths of the list
+among-width : (m : ℕ) → Among m bothTypes → (2 ≤ m) × (m ≤ maxWidth)
+among-width m (inl e) = (omega arith, omega arith)
+among-width m (inr (inl e)) = (omega arith, omega arith)
+among-width m (inr (inr (inl e))) = (omega arith, omega arith)
+among-width m (inr (inr (inr (inl e)))) = (omega arith, omega arith)
+among-width m (inr (inr (inr (inr n)))) = absurd n
+
 module _ (m : ℕ) where
   chosen : faultOf (typeCauses m) ≡ None → AnsiType m (typeOf m)
   chosen e =
@@ -38,22 +46,20 @@ module _ (m : ℕ) where
       let w = wide (no .0) in
       type-list m (w .0) (w .1) .chosen (no .1 .0)
 
-  module _ (least : 2 ≤ m) (greatest : m ≤ maxWidth) where
-    -- a width that has a type has a choice
-    typed : (t : ℕ) → IsType m t → AnsiType m (typeOf m)
-    typed t ty = let l = type-list m least greatest in l .chosen (λ z. l .never (l .none .0 z) t ty)
+  same : faultOf (typeCauses m) ≡ None → ¬ Among m bothTypes → LeastType m (typeOf m)
+  same e n =
+      let w = wide (demand1 .typed m .exact .none .0 e .0) in
+      type-orders .same m (typeOf m) (chosen e) (λ b. n (type-orders .both m (w .0) (w .1) .0 b))
 
-    choices : (t : ℕ) → LeastType m t → Choices m (typeOf m) t
-    choices t l = type-orders .choices m (typeOf m) t (typed t (l .0)) l
+  other : Among m bothTypes → (typeOf m ≡ 2) × LeastType m 1
+  other a =
+      let w = among-width m a in
+      let b = type-orders .both m (w .0) (w .1) .1 a in
+      let l = type-list m (w .0) (w .1) in
+      type-orders .other m (typeOf m) (l .chosen (λ z. l .never (l .none .0 z) 1 (b .0))) b
 
-    differs : (t : ℕ) → LeastType m t → (¬ (typeOf m ≡ t)) ↔ Among m bothTypes
-    differs t l =
-        let d = choices t l .differ in
-        let b = type-orders .both m least greatest in
-        (λ n. b .0 (d .0 n), λ a. d .1 (b .1 a))
-
-    eight : (typeOf m ≡ 0) ↔ (8 ∣ m)
-    eight = type-list m least greatest .none
+  eight : 2 ≤ m → m ≤ maxWidth → (typeOf m ≡ 0) ↔ (8 ∣ m)
+  eight l h = type-list m l h .none
 
   seventeen : (faultOf (typeCauses m) ≡ Call NoType) ↔ ((2 ≤ m) × (m ≤ maxWidth) × (8 ∣ m))
   seventeen =
@@ -89,12 +95,12 @@ unfolding typeOf
 type-choice = record {
   chosen = chosen;
   only = λ m t e a. type-orders .only m t (typeOf m) a (chosen m e);
-  differs = λ m t l h. differs m l h t;
-  values = λ m t l h least. choices m l h t least .values;
+  same = same;
+  other = other;
   both18 = type-orders .both 18 (lit≤ tt) (lit≤ tt) .1 (inr (inl refl));
   type18 = refl;
   draws18 = draws 18 2 (lit≤ tt) (lit≤ tt) refl (λ z. omega (arith, z));
-  draws2 = λ old size. let d = draws 2 2 (lit≤ tt) (lit≤ tt) refl (λ z. omega (arith, z)) old size in (d .0, d .1 ∙ sym (type-orders .same));
+  draws2 = λ old size. let d = draws 2 2 (lit≤ tt) (lit≤ tt) refl (λ z. omega (arith, z)) old size in (d .0, d .1 ∙ sym (type-orders .table2));
   seventeen = seventeen;
   drawSeventeen = drawSeventeen;
 }

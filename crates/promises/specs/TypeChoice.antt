@@ -19,9 +19,9 @@ pub record TypeChoice : Type 0 where
   -- its T is this choice, and no other number is
   pub chosen : (m : ℕ) → faultOf (typeCauses m) ≡ None → AnsiType m (typeOf m)
   pub only : (m t : ℕ) → faultOf (typeCauses m) ≡ None → AnsiType m t → t ≡ typeOf m
-  -- it isn't the least T at these four widths and nowhere else, and there it is 2 and the least is 1
-  pub differs : (m t : ℕ) → 2 ≤ m → m ≤ maxWidth → LeastType m t → (¬ (typeOf m ≡ t)) ↔ Among m bothTypes
-  pub values : (m t : ℕ) → 2 ≤ m → m ≤ maxWidth → LeastType m t → ¬ (typeOf m ≡ t) → (typeOf m ≡ 2) × (t ≡ 1)
+  -- it is the least T, which was the choice before, at all widths but 2, 18, 210 and 378; there it is 2, and the least is 1
+  pub same : (m : ℕ) → faultOf (typeCauses m) ≡ None → ¬ Among m bothTypes → LeastType m (typeOf m)
+  pub other : (m : ℕ) → Among m bothTypes → (typeOf m ≡ 2) × LeastType m 1
   -- "Width 18 has both types 1 and 2"
   pub both18 : IsType 18 1 × IsType 18 2
   -- "and now draws type 2."
