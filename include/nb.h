@@ -175,7 +175,7 @@ uint64_t nb_accept(uint64_t width, const uint8_t *table, size_t table_len, const
 uint64_t nb_type(uint64_t width);
 
 /* table, of exactly m·W bytes: the table of the width's Gaussian normal basis of the type that nb_type gives. first: that T. Tables of
- * other types, as those of type 1 at widths 18, 210 and 378, are taken in as any other: nb_check and the calls above don't know types.
+ * other types, as those of type 1 at widths 18, 210 and 378, are taken in as any other: no call but these two knows types.
  * Faults: 1; 2 table; 17 where 8 divides the width. Stack: 57,344. */
 uint64_t nb_draw(uint64_t width, uint8_t *table, size_t table_len);
 

@@ -222,7 +222,7 @@ impl Maker {
         }
     }
 
-    /// The calls on a table, but for those on lists of gates.
+    /// The check, the ones, the counts, the products and the inverse under a table.
     fn with_table(&mut self, width: usize, table: Vec<u8>) -> Vec<Call> {
         let (a, b, result) = (self.operand(width), self.operand(width), self.result(width));
         vec![

@@ -1,4 +1,5 @@
-//! Types and the choice among them, drawn tables by the rule of document 01, and the product by IEEE 1363's own way: the sequence F(n) and the sum over k.
+//! Types and the choice among them, drawn tables by the rule of document 01, and the product by IEEE 1363's own way: the sequence F(n)
+//! and the sum over k.
 
 use crate::bits::{bytes_for, judge_lengths, judge_width, pack, turned, Bits};
 use crate::{fault, Answer};

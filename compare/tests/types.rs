@@ -56,8 +56,8 @@ fn lists_of_both_types() {
     }
 }
 
-/// The tables of type 1 of these widths: both versions accept them and answer every call on them alike, and the products are IEEE 1363's
-/// for type 1.
+/// The tables of type 1 of these widths: both versions accept them and answer the calls of `earlier` alike, and the products are
+/// IEEE 1363's for type 1.
 #[test]
 fn tables_of_the_least_type_stay_valid() {
     let (mut maker, mut source) = (Maker::new(15, 0), Source::new(16));

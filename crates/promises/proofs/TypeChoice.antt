@@ -1,35 +1,30 @@
 -- ANSI X9.62's choice of type: the laws of crate gaussian, told of the calls.
 use mathlib.Core.Path.{_≡_, refl, sym, ap, _∙_}
 use mathlib.Core.Logic.{_↔_, inl, inr}
-use mathlib.Core.List.{List}
+use mathlib.Core.List.{List, [], _∷_}
 use Prim.Native.Nat.{ℕ, _*_, _∣_, _≤_}
 use native.Mathlib.Omega.{arith}
 use lib.Dec.{lit≤}
 use lib.ListN.{length}
 use Rattle.gf2.specs.Operands.{maxWidth, bytesFor}
 use Rattle.gf2.proofs.Decisions.{equal-unless}
-use Rattle.judging.specs.declared.fault.Fault.the-variants.{None, Width, Length, Call}
+use Rattle.judging.specs.declared.fault.Fault.the-variants.{None, Call}
 use Rattle.judging.specs.declared.fault.CallFault.the-variants.{NoType}
 use Rattle.judging.specs.Faults.{numberOf}
-use Rattle.judging.specs.Causes.{First, faultOf}
+use Rattle.judging.specs.Causes.{faultOf}
+use Rattle.judging.specs.FaultTable.{badWidth, badLength}
 use Rattle.gaussian.specs.Types.{LeastType, AnsiType, typeOf}
 use Rattle.gaussian.specs.Table.{drawn}
-use Rattle.gaussian.specs.Causes.{typeCauses, drawCauses}
+use Rattle.gaussian.specs.Causes.{typeZero, typeCauses}
 use Rattle.gaussian.specs.Calls.{drawFault, drawnInto}
 use Rattle.gaussian.specs.Statements.{Among, bothTypes}
 use Rattle.gaussian.proofs.Theorems.{type-list, type-orders}
 use Rattle.promises.specs.TypeChoice.{TypeChoice}
-use Rattle.promises.proofs.CauseLaws.{wide}
+use Rattle.promises.proofs.CauseLaws.{last-first, wide}
 use Rattle.promises.proofs.Demand1.{demand1}
 
 no-type : ¬ (Call NoType ≡ None)
 no-type e = omega (arith, ap (λ f. numberOf f .0) e)
-
-no-width : ¬ (Call NoType ≡ Width)
-no-width e = omega (arith, ap (λ f. numberOf f .0) e)
-
-no-length : ¬ (Call NoType ≡ Length)
-no-length e = omega (arith, ap (λ f. numberOf f .0) e)
 
 -- the four widths are widths of the list
 among-width : (m : ℕ) → Among m bothTypes → (2 ≤ m) × (m ≤ maxWidth)
@@ -61,26 +56,25 @@ module _ (m : ℕ) where
   eight : 2 ≤ m → m ≤ maxWidth → (typeOf m ≡ 0) ↔ (8 ∣ m)
   eight l h = type-list m l h .none
 
+  -- 17 is the last cause of both calls
   seventeen : (faultOf (typeCauses m) ≡ Call NoType) ↔ ((2 ≤ m) × (m ≤ maxWidth) × (8 ∣ m))
   seventeen =
       let given = demand1 .typed m .exact .given (Call NoType) no-type in
-      (λ e. to (given .0 e), λ h. given .1 (inr (λ b. b (h .0, h .1), inl (eight (h .0) (h .1) .1 (h .2), refl))))
-    where
-      to : First (typeCauses m) (Call NoType) → (2 ≤ m) × (m ≤ maxWidth) × (8 ∣ m)
-      to (inl c) = absurd (no-width (c .1))
-      to (inr (n, inl c)) = let w = wide n in (w .0, w .1, eight (w .0) (w .1) .0 (c .0))
-      to (inr (n, inr c)) = absurd (c .1)
+      let last = last-first (badWidth m ∷ []) (typeZero m) (λ e. omega arith, tt) in (
+        λ e. let q = last .0 (given .0 e) in let w = wide (q .0 .0) in (w .0, w .1, eight (w .0) (w .1) .0 (q .1)),
+        λ h. given .1 (last .1 ((λ b. b (h .0, h .1), tt), eight (h .0) (h .1) .1 (h .2))),
+      )
 
   drawSeventeen : (old : List ℕ) → (drawFault m (length old) ≡ Call NoType) ↔ ((2 ≤ m) × (m ≤ maxWidth) × (length old ≡ m * bytesFor m) × (8 ∣ m))
   drawSeventeen old =
       let given = demand1 .draw m old .exact .given (Call NoType) no-type in
-      (λ e. to (given .0 e), λ h. given .1 (inr (λ b. b (h .0, h .1), inr (λ n. n (h .2), inl (eight (h .0) (h .1) .1 (h .3), refl)))))
-    where
-      to : First (drawCauses m (length old)) (Call NoType) → (2 ≤ m) × (m ≤ maxWidth) × (length old ≡ m * bytesFor m) × (8 ∣ m)
-      to (inl c) = absurd (no-width (c .1))
-      to (inr (n, inl c)) = absurd (no-length (c .1))
-      to (inr (n, inr (l, inl c))) = let w = wide n in (w .0, w .1, equal-unless _ _ l, eight (w .0) (w .1) .0 (c .0))
-      to (inr (n, inr (l, inr c))) = absurd (c .1)
+      let last = last-first (badWidth m ∷ badLength (length old) (m * bytesFor m) ∷ []) (typeZero m) (λ e. omega arith, (λ e. omega arith, tt)) in (
+        λ e.
+            let q = last .0 (given .0 e) in
+            let w = wide (q .0 .0) in
+            (w .0, w .1, equal-unless _ _ (q .0 .1 .0), eight (w .0) (w .1) .0 (q .1)),
+        λ h. given .1 (last .1 ((λ b. b (h .0, h .1), (λ n. n (h .2), tt)), eight (h .0) (h .1) .1 (h .3))),
+      )
 
 -- a width and a type T that is the list's
 draws : (m t : ℕ) → 2 ≤ m → m ≤ maxWidth → typeOf m ≡ t → ¬ (t ≡ 0) → (old : List ℕ) → length old ≡ m * bytesFor m →
