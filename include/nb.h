@@ -83,7 +83,7 @@ enum nb_fault {
     NB_ROW_ZERO = 4,         /* row 0 wrong */
     NB_ROW_PAIR = 5,         /* rows d, m-d differ: least d */
     NB_TRIPLE = 6,           /* triple differs: i, j; i is always 0 */
-    NB_ROW_SUM = 7,          /* row sum wrong */
+    NB_ROW_SUM = 7,          /* no longer given, and reserved: the check ends with 6 */
     NB_TURN_COUNT = 8,       /* no longer given, and reserved: a turn takes every count */
     NB_INVERSE_OF_ZERO = 9,  /* inverse of zero */
     NB_TRACE_ONE = 10,       /* trace of c is 1 */
@@ -101,8 +101,8 @@ enum nb_fault {
 };
 
 /* The check. Success exactly when the operands of the width form a field under the table whose square is the turn by one.
- * Faults: 1; 2 table; 3 in a row; 4; 5 with d; 6 with i, j (i is always 0: under rules 4 and 5 a triple differs at i = 0 first); 7 (which
- * never comes: rules 4, 5 and 6 entail rule 7). Takes as many sums of rows as the table has ones. Stack: 1,536. */
+ * Faults: 1; 2 table; 3 in a row; 4; 5 with d; 6 with i, j (i is always 0: under rules 4 and 5 a triple differs at i = 0 first).
+ * Takes as many sums of rows as the table has ones. Stack: 1,536. */
 uint64_t nb_check(uint64_t width, const uint8_t *table, size_t table_len);
 
 /* first: C, the number of ones in the table. Faults: 1; 2 table; 3 in a row. Stack: 256. */

@@ -96,7 +96,7 @@ impl Table {
         }
     }
 
-    /// 4 to 7.
+    /// 4 to 6.
     pub fn check(&self) -> Answer<()> {
         let m = self.m;
         self.symmetric()?;
@@ -109,12 +109,7 @@ impl Table {
                 }
             }
         }
-        let total = self.rows.iter().fold(vec![false; m], |s, r| added(&s, r));
-        if total == basis(m, 0) {
-            Ok(())
-        } else {
-            fault(7)
-        }
+        Ok(())
     }
 }
 

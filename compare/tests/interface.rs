@@ -11,8 +11,7 @@ use compare::{field, proved, Answer, Pair};
 use std::collections::{BTreeMap, BTreeSet};
 use std::env;
 
-/// The numbers each call can give beside 0. The check can't give 7: rules 4, 5 and 6 imply rule 7, by theorem C of
-/// crates/gf2/specs/Statements.antt.
+/// The numbers each call can give beside 0. 7 and 8 are given by none.
 const NUMBERS: [(&str, &[u32]); 23] = [
     ("check", &[1, 2, 3, 4, 5, 6]),
     ("ones", &[1, 2, 3]),

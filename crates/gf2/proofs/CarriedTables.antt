@@ -1,5 +1,5 @@
 -- The rules of the check as a test that computes, and the four carried tables, which pass it.
--- shapeTest, rulesTest: the shape of a table, and rules 4, 5 and 6; passes-sound: what passes is a table and is accepted.
+-- shapeTest, rulesTest: the shape of a table, and rules 4, 5 and, for i = 0, 6; passes-sound: what passes is a table and is accepted.
 -- carried: the tables of widths 2, 3, 4 and 5, so no statement about accepted tables is empty.
 use mathlib.Core.Path.{_≡_, refl, sym, ap₂}
 use mathlib.Core.List.{List, [], _∷_}
@@ -19,7 +19,7 @@ use Rattle.gf2.specs.Check.{Rule5, Rule6, Symmetric, Accepted}
 use Rattle.gf2.proofs.Parity.{and-both}
 use Rattle.gf2.proofs.Sums.{every-at}
 use Rattle.gf2.proofs.Operands.{clear-at}
-use Rattle.gf2.proofs.Theorems.{theoremC}
+use Rattle.gf2.proofs.Theorems.{theoremF}
 
 unfoldable pub same : List ℕ → List ℕ → Bool
 same [] [] = true
@@ -50,20 +50,20 @@ module _ (m : ℕ) where
   }
 
   module _ (table : List ℕ) where
-    -- rule 5 for row d + 1, and rule 6
+    -- rule 5 for row d + 1, and rule 6 for i = 0, which implies the rest
     unfoldable pub rule5Test : ℕ → Bool
     rule5Test d = same (row m table (suc d)) (turned m (suc d) (row m table (m - suc d)))
 
-    unfoldable pub rule6Test : ℕ → ℕ → Bool
-    rule6Test i j = same
-        (product m table (product m table (basis m 0) (basis m i)) (basis m j))
-        (product m table (basis m 0) (product m table (basis m i) (basis m j)))
+    unfoldable pub rule6Test : ℕ → Bool
+    rule6Test j = same
+        (product m table (product m table (basis m 0) (basis m 0)) (basis m j))
+        (product m table (basis m 0) (product m table (basis m 0) (basis m j)))
 
     unfoldable pub shapeTest : Bool
     shapeTest = eqb (length table) (m * bytesFor m) && every m (λ d. operandTest (row m table d))
 
     unfoldable pub rulesTest : Bool
-    rulesTest = same (row m table 0) (basis m 1) && every (m - 1) rule5Test && every m (λ i. every m (rule6Test i))
+    rulesTest = same (row m table 0) (basis m 1) && every (m - 1) rule5Test && every m rule6Test
 
     shape-sound : shapeTest ≡ true → IsTable m table
     unfolding shapeTest
@@ -72,9 +72,9 @@ module _ (m : ℕ) where
 
     rules-sound : 2 ≤ m → IsTable m table → rulesTest ≡ true → Accepted m table
     unfolding rulesTest rule5Test rule6Test
-    rules-sound two is e = record { symmetric = symmetric; rule6 = six; rule7 = theoremC m table two is symmetric six }
+    rules-sound two is e = record { symmetric = symmetric; rule6 = theoremF m table two is symmetric six }
       where
-        h : (same (row m table 0) (basis m 1) && every (m - 1) rule5Test ≡ true) × (every m (λ i. every m (rule6Test i)) ≡ true)
+        h : (same (row m table 0) (basis m 1) && every (m - 1) rule5Test ≡ true) × (every m rule6Test ≡ true)
         h = and-both _ _ e
 
         g : (same (row m table 0) (basis m 1) ≡ true) × (every (m - 1) rule5Test ≡ true)
@@ -87,8 +87,8 @@ module _ (m : ℕ) where
         symmetric : Symmetric m table
         symmetric = record { rule4 = same-eq _ _ (g .0); rule5 = five }
 
-        six : (i j : ℕ) → i < m → j < m → Rule6 m table i j
-        six i j li lj = same-eq _ _ (every-at m (rule6Test i) (every-at m (λ i. every m (rule6Test i)) (h .1) i li) j lj)
+        six : (j : ℕ) → j < m → Rule6 m table 0 j
+        six j l = same-eq _ _ (every-at m rule6Test (h .1) j l)
 
     pub passes-sound : 2 ≤ m → shapeTest && rulesTest ≡ true → IsTable m table × Accepted m table
     passes-sound two e = let h = and-both shapeTest rulesTest e in let is = shape-sound (h .0) in (is, rules-sound two is (h .1))

@@ -1,19 +1,21 @@
 -- The field of the operands of width m = p + 1 under a table, and that of the vectors under its rows.
--- laws, accepted: the rules that a table is accepted by, as rules on vectors and back.
+-- triples, laws: rule 6, and all that a table is accepted by, say the same of bytes and of vectors.
 -- from-unit, from-field, from-squares: what holds of vectors holds of operands; to-field, to-squares: and back.
 use mathlib.Core.Path.{_≡_, sym, _∙_, ap}
+use mathlib.Core.Logic.{_↔_}
 use mathlib.Core.List.{List}
 use Prim.Native.Nat.{ℕ, suc, _*_, _<_, _≤_}
 use Rattle.gf2.specs.Operands.{bytesFor}
 use Rattle.gf2.specs.Tables.{IsTable}
 use Rattle.gf2.specs.Products.{product}
-use Rattle.gf2.specs.Check.{Rule6, Symmetric, Accepted}
+use Rattle.gf2.specs.Check.{Rule6, Accepted}
 use Rattle.gf2.specs.Field.{Op, IsUnit, Field, Squares}
-use Rattle.gf2.proofs.Index.{Ix, at, at-num}
-use Rattle.gf2.proofs.Vector.{Vec}
-use Rattle.gf2.proofs.VectorField.{Laws, Check, Field as Fieldᵛ, Squares as Squaresᵛ}
+use Rattle.gf2.proofs.Index.{Ix, at, at-num, o}
+use Rattle.gf2.proofs.Vector.{Vec, β}
+use Rattle.gf2.proofs.VectorProduct.{_·_ as mul}
+use Rattle.gf2.proofs.VectorField.{Laws, Field as Fieldᵛ, Squares as Squaresᵛ}
 use Rattle.gf2.proofs.OperandVectors.{bytes-fit, vec, bytes, bytes-operand, operand-vec, zeroes-vec, bytes-inj, added-bytes, turned-bytes}
-use Rattle.gf2.proofs.TableVectors.{rows, product-bytes, symmetric, rule6, rule7}
+use Rattle.gf2.proofs.TableVectors.{rows, product-bytes, symmetric, rule6}
 
 module _ (p : ℕ) (t : List ℕ) (is : IsTable (suc p) t) where
   abbrev W : ℕ
@@ -28,23 +30,25 @@ module _ (p : ℕ) (t : List ℕ) (is : IsTable (suc p) t) where
   op : (v : Vec p) → Op (suc p) (bytes p W v)
   op = bytes-operand p W
 
+  infixl 70 _·_
+  abbrev _·_ : Vec p → Vec p → Vec p
+  a · b = mul T a b
+
   infixl 70 _∗_
   abbrev _∗_ : List ℕ → List ℕ → List ℕ
   a ∗ b = product (suc p) t a b
 
-  module _ (two : 1 < suc p) where
-    pub laws : Symmetric (suc p) t → ((i j : ℕ) → i < suc p → j < suc p → Rule6 (suc p) t i j) → Laws T
-    laws s six = record {
-      symmetric = symmetric p t is two .0 s;
-      rule6 = λ i j. simp at-num at (rule6 p t is (i .num) (j .num) (i .below) (j .below) .0 (six (i .num) (j .num) (i .below) (j .below)));
-    }
+  triples : ((i j : ℕ) → i < suc p → j < suc p → Rule6 (suc p) t i j) ↔ ((i j : Ix p) → (β o · β i) · β j ≡ β o · (β i · β j))
+  triples = (
+    λ h i j. simp at-num at (rule6 p t is (i .num) (j .num) (i .below) (j .below) .0 (h (i .num) (j .num) (i .below) (j .below))),
+    λ h i j li lj. rule6 p t is i j li lj .1 (h (at i) (at j)),
+  )
 
-    pub accepted : Check T → Accepted (suc p) t
-    accepted c = record {
-      symmetric = symmetric p t is two .1 (c .laws .symmetric);
-      rule6 = λ i j li lj. rule6 p t is i j li lj .1 (c .laws .rule6 (at i) (at j));
-      rule7 = rule7 p t is .1 (c .rule7);
-    }
+  pub laws : 1 < suc p → Accepted (suc p) t ↔ Laws T
+  laws two = (
+    λ k. record { symmetric = symmetric p t is two .0 (k .symmetric); rule6 = triples .0 (k .rule6) },
+    λ c. record { symmetric = symmetric p t is two .1 (c .symmetric); rule6 = triples .1 (c .rule6) },
+  )
 
   pub from-squares : Squaresᵛ T → Squares (suc p) t
   from-squares s = record { square = λ a ha. let h = fits in rw (operand-vec p ha) (simp (product-bytes, turned-bytes) (ap (bytes p W) (s (vec p a)))) }

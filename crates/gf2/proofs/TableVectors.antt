@@ -1,6 +1,6 @@
 -- Tables of width m = p + 1 as vectors.
 -- rows t: the rows of a table as vectors; pair-vec, product-vec: βi·βj and the product are those of VectorProduct.
--- symmetric, rule6, rule7: each rule of the check says the same of bytes and of vectors.
+-- symmetric, rule6: each rule of the check says the same of bytes and of vectors; rule7: the row sum of vectors is that of bytes.
 -- reduced-vec, distance-vec: the reduced product by pairs and by distances is the product of vectors.
 use mathlib.Core.Path.{_≡_, sym, _∙_, ap, ap₂, fun-ext}
 use mathlib.Core.Logic.{_↔_}
@@ -16,11 +16,12 @@ use Rattle.gf2.specs.Coordinates.{coord}
 use Rattle.gf2.specs.Operands.{bytesFor, minus, choose, turned}
 use Rattle.gf2.specs.Tables.{row, IsTable, basis, pairProduct}
 use Rattle.gf2.specs.Products.{product, reduced, pairsApart, byDistance}
-use Rattle.gf2.specs.Check.{Rule6, Rule7, Symmetric, rowSum}
+use Rattle.gf2.specs.Check.{Rule6, Symmetric}
+use Rattle.gf2.specs.Statements.{Rule7, rowSum}
 use Rattle.gf2.proofs.Monoid.{big, big-ext}
 use Rattle.gf2.proofs.Parity.{_⊕_, bits, bool-ext, odd, odd-zero, odd-one, odd-eq, odd-true, odd-add, odd-mul, odd-sum}
 use Rattle.gf2.proofs.Index.{Ix, at, at-mod, at-add, at-neg, o, _⊹_, _⊖_, add-c, add-sub, num-at, at-num, num-minus, sub-z}
-use Rattle.gf2.proofs.IndexSums.{Σ, Σ-ext, odd-Σ}
+use Rattle.gf2.proofs.IndexSums.{Σ-ext, odd-Σ}
 use Rattle.gf2.proofs.Vector.{Vec, turn, β, add, turn-z}
 use Rattle.gf2.proofs.VectorProduct.{_·_, pair, Symmetric as Symmetricᵛ}
 use Rattle.gf2.proofs.VectorField.{Rule7 as Rule7ᵛ}
@@ -76,16 +77,6 @@ module _ (p : ℕ) (t : List ℕ) (is : IsTable (suc p) t) where
   turned-row : (k d : ℕ) → d < suc p → turned (suc p) k (row (suc p) t d) ≡ bytes p W (turn (at k) (T (at d)))
   turned-row k d l = ap (turned (suc p) k) (row-vec d l) ∙ turned-bytes p W fits k (T (at d))
 
-  pub rule7 : Rule7 (suc p) t ↔ Rule7ᵛ T
-  unfolding rowSum rows vec
-  rule7 = (
-    λ e r. ap (λ v. v r) (bytes-inj p W fits _ _ (sym total ∙ e ∙ basis-vec p 0 (omega arith))),
-    λ e. total ∙ ap (bytes p W) (fun-ext e) ∙ sym (basis-vec p 0 (omega arith)),
-  )
-    where
-      total : rowSum (suc p) t ≡ bytes p W (λ r. Σ bits (λ d. T d r))
-      total = from-vec p W _ _ (λ r. odd-Σ p _)
-
   pub rule6 : (i j : ℕ) → i < suc p → j < suc p →
       Rule6 (suc p) t i j ↔ (_·_ T (_·_ T (β o) (β (at i))) (β (at j)) ≡ _·_ T (β o) (_·_ T (β (at i)) (β (at j))))
   rule6 i j li lj = (λ e. bytes-inj p W fits _ _ (sym left ∙ e ∙ right), λ e. left ∙ ap (bytes p W) e ∙ sym right)
@@ -116,6 +107,11 @@ module _ (p : ℕ) (t : List ℕ) (is : IsTable (suc p) t) where
           go zero l = sym (turn-z _ ∙ ap T (sub-z o))
           go (suc n) l = bytes-inj p W fits _ _ (sym (row-vec (suc n) l) ∙ s .rule5 (suc n) (omega arith) l ∙ turned-row (suc n) (suc p - suc n) (omega arith))
               ∙ ap (λ z. turn (at (suc n)) (T z)) (at-neg (suc n) (omega arith))
+
+  -- theorem C: the sum of all rows
+  pub rule7 : Rule7ᵛ T → Rule7 (suc p) t
+  unfolding rowSum rows vec
+  rule7 e = from-vec p W _ _ (λ r. odd-Σ p _) ∙ ap (bytes p W) (fun-ext e) ∙ sym (basis-vec p 0 (omega arith))
 
   -- theorem D: the diagonal term, by pairs, by distances
   diagonal : (a b : List ℕ) (r : Ix p) → odd (coord a (minus (suc p) (r .num) 1) * coord b (minus (suc p) (r .num) 1)) ≡ (vec p a (r ⊖ at 1) && vec p b (r ⊖ at 1))

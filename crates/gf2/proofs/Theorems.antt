@@ -1,5 +1,5 @@
 -- The proofs of Statements, each by the theorem of that name over vectors.
--- theoremA, theoremH, theoremB, theoremC, theoremF, theoremD, theoremE, theoremG.
+-- theoremA, theoremH, theoremB, theoremC, theoremI, theoremF, theoremD, theoremE, theoremG.
 use mathlib.Core.Path.{_≡_, sym, _∙_, ap, ap₂}
 use mathlib.Core.Bool.{true}
 use mathlib.Core.List.{List}
@@ -12,33 +12,32 @@ use Rattle.gf2.specs.Tables.{IsTable, row, pairProduct, onesIn}
 use Rattle.gf2.specs.Products.{product}
 use Rattle.gf2.specs.Check.{Accepted}
 use Rattle.gf2.specs.Inverse.{inverse}
-use Rattle.gf2.specs.Statements.{TheoremA, TheoremH, TheoremB, GivesInverse, TheoremC, TheoremD, TheoremE, CountsPairs, TheoremF, TheoremG, pairsWith, pairsBelow, pairsAbove}
+use Rattle.gf2.specs.Statements.{TheoremA, TheoremH, TheoremB, GivesInverse, TheoremC, TheoremI, TheoremD, TheoremE, CountsPairs, TheoremF, TheoremG, pairsWith, pairsBelow, pairsAbove}
 use Rattle.gf2.proofs.Monoid.{nats, big, big-ext, sum-big}
 use Rattle.gf2.proofs.Parity.{bit, bit-inj}
 use Rattle.gf2.proofs.Index.{Ix, ix-path, at, at-num, num-at, num-minus}
 use Rattle.gf2.proofs.IndexSums.{Σ-ext, sum-Σ}
 use Rattle.gf2.proofs.Vector.{Vec, turn}
 use Rattle.gf2.proofs.VectorProduct.{pair}
-use Rattle.gf2.proofs.VectorField.{Laws, field, field-unit, rule7 as rule7ᵛ, check-field, rule6-first, rows-differ, t, t-inverse, t-turn-pow, t-unique}
+use Rattle.gf2.proofs.VectorField.{Laws, field, field-unit, rule7 as rule7ᵛ, laws-field, rule6-first, rows-differ, t, t-inverse, t-turn-pow, t-unique}
 use Rattle.gf2.proofs.VectorCounts.{onesOf, halfPairs, count-pairs, diagonal-pair, count-swap, count-half, count-least}
 use Rattle.gf2.proofs.OperandVectors.{bit-coord, bytes-fit, vec, bytes, operand-vec, zeroes-vec, ones-vec, bytes-inj}
 use Rattle.gf2.proofs.TableVectors.{rows, row-vec, pair-odd, product-vec, product-bytes, reduced-vec, distance-vec, symmetric, rule6, rule7}
-use Rattle.gf2.proofs.FieldVectors.{laws, accepted, from-unit, from-field, from-squares, to-field, to-squares}
+use Rattle.gf2.proofs.FieldVectors.{laws, from-unit, from-field, from-squares, to-field, to-squares}
 use Rattle.gf2.proofs.Logarithm.{log2-bounds}
 use Rattle.gf2.proofs.Chain.{products-made, inverse-vec, power-vec}
 
 pub theoremA : TheoremA
 theoremA zero table two is = absurd (omega arith)
 theoremA (suc p) table two is = (
-  λ k. let h = check-field (rows p table) .0 (record { laws = laws p table is two (k .symmetric) (k .rule6); rule7 = rule7 p table is .0 (k .rule7) }) in
-      (from-field p table is (h .0), from-squares p table is (h .1)),
-  λ h. accepted p table is two (check-field (rows p table) .1 (to-field p table is (h .0), to-squares p table is (h .1))),
+  λ k. let h = laws-field (rows p table) .0 (laws p table is two .0 k) in (from-field p table is (h .0), from-squares p table is (h .1)),
+  λ h. laws p table is two .1 (laws-field (rows p table) .1 (to-field p table is (h .0), to-squares p table is (h .1))),
 )
 
 pub theoremH : TheoremH
 theoremH zero table two is k = absurd (omega arith)
 theoremH (suc p) table two is k =
-    let c = laws p table is two (k .symmetric) (k .rule6) in
+    let c = laws p table is two .0 k in
     rw (ones-vec p (bytesFor (suc p)), ← field-unit (rows p table) c) (from-unit p table is (field (rows p table) c))
 
 module _ (n p : ℕ) (table : List ℕ) (two : 1 < suc p) (fits : suc p ≤ 8 * n) (is : IsTable (suc p) table) (c : Laws (rows p table)) where
@@ -65,11 +64,15 @@ theoremB = record { inverses = given; products = λ m table a. products-made m t
     given : (n m : ℕ) (table a : List ℕ) → 2 ≤ m → m ≤ 8 * n → IsTable m table → Accepted m table → IsOperand n m a → GivesInverse n m table a
     given n zero table a two fits is k ha = absurd (omega arith)
     given n (suc p) table a two fits is k ha =
-        rw (operand-vec p ha) (inverses n p table two fits is (laws p table is two (k .symmetric) (k .rule6)) (vec p a))
+        rw (operand-vec p ha) (inverses n p table two fits is (laws p table is two .0 k) (vec p a))
 
+-- a power of β0 is one (t-all of VectorField, in document 02's words), so that β0 times one, which is the sum of all rows, is β0
 pub theoremC : TheoremC
 theoremC zero table two is s six = absurd (omega arith)
-theoremC (suc p) table two is s six = rule7 p table is .1 (rule7ᵛ (rows p table) (laws p table is two s six))
+theoremC (suc p) table two is s six = rule7 p table is (rule7ᵛ (rows p table) (laws p table is two .0 (record { symmetric = s; rule6 = six })))
+
+pub theoremI : TheoremI
+theoremI m table two is = (λ k. (k, theoremC m table two is (k .symmetric) (k .rule6)), λ h. h .0)
 
 pub theoremF : TheoremF
 theoremF zero table two is s first i j li lj = absurd (omega arith)
@@ -132,5 +135,5 @@ theoremE (suc p) table two is = counts p table is two
 pub theoremG : TheoremG
 theoremG zero table two is k = absurd (omega arith)
 theoremG (suc p) table two is k =
-    let f = field (rows p table) (laws p table is two (k .symmetric) (k .rule6)) in
-    omega (arith, ones-count p table is, count-least (rows p table) f (rule7 p table is .0 (k .rule7)))
+    let c = laws p table is two .0 k in
+    omega (arith, ones-count p table is, count-least (rows p table) (field (rows p table) c) (rule7ᵛ (rows p table) c))

@@ -1,8 +1,8 @@
 -- A table's rules are those of a field whose squaring is a turn.
--- Rules 4, 5 and 6 (Laws), with rule 7 (Check); Field and Squares.
+-- Rules 4, 5 and 6 (Laws); Field and Squares; document 01's rule 7.
 -- rule6-first: under rules 4 and 5, rule 6 for i = 0 is rule 6.
 -- t k a: the power of a with exponent 2^k - 1, by the chain of Itoh and Tsujii; t-add: one law for doubling and adding.
--- rule7: 4, 5 and 6 imply 7; check-field: Check and Field with Squares imply each other.
+-- t-all, rule7: 4, 5 and 6 imply 7; laws-field: Laws and Field with Squares imply each other.
 -- unique-inverse: in a field b is determined by a·b = one; rows-differ, rows-span: in a field no two rows are equal, and the rows span all vectors.
 use mathlib.Core.Path.{_≡_, refl, sym, _∙_, ap, fun-ext}
 use mathlib.Core.Logic.{_↔_}
@@ -27,12 +27,9 @@ module _ {p : ℕ} (T : Ix p → Vec p) where
     pub symmetric : Symmetric T
     pub rule6 : (i j : Ix p) → (β o · β i) · β j ≡ β o · (β i · β j)
 
+  -- the sum of all rows has only coordinate 0
   abbrev pub Rule7 : Type 0
   Rule7 = (r : Ix p) → Σ bits (λ d. T d r) ≡ β o r
-
-  pub record Check : Type 0 where
-    pub laws : Laws
-    pub rule7 : Rule7
 
   pub record Field : Type 0 where
     pub comm : (a b : Vec p) → a · b ≡ b · a
@@ -86,9 +83,6 @@ module _ {p : ℕ} (T : Ix p → Vec p) where
         back : β e ≡ β d
         back = from e ∙ ap (λ u. inv .0 · u) (sym h) ∙ sym (from d)
 
-  sum-rows : β o · ones ≡ β o → Rule7
-  sum-rows e r = unfold lin in ap (λ f. f r) (sym (mul-o T ones) ∙ e)
-
   -- the power of exponent 2 ^ k - 1
   unfoldable pub t : ℕ → Vec p → Vec p
   t zero a = ones
@@ -129,12 +123,24 @@ module _ {p : ℕ} (T : Ix p → Vec p) where
     t-idem zero a e = square a ∙ e
     t-idem (suc k) a e = mul-assoc _ a _ ∙ ap (λ z. turn (at 1) (t (suc k) a) · z) (comm a _ ∙ t-mul (suc k) a ∙ e)
 
+    -- "some power of β is equal to its own square, not zero, and fixed by the turn, so it is one": that of exponent 2^m - 1, and not of β
+    -- alone but of any a but zero
     module _ (a : Vec p) (n : ¬ (a ≡ zeros)) where
+      own-square : t (suc p) a · t (suc p) a ≡ t (suc p) a
+      own-square = t-idem p a (turn-all a)
+
       keeps : t (suc p) a · a ≡ a
       keeps = t-mul p a ∙ turn-all a
 
+      not-zero : ¬ (t (suc p) a ≡ zeros)
+      not-zero z = n (sym keeps ∙ ap (λ x. x · a) z ∙ zeros-mul T a)
+
+      -- the square is the turn
+      fixed : turn (at 1) (t (suc p) a) ≡ t (suc p) a
+      fixed = sym (square (t (suc p) a)) ∙ own-square
+
       pub t-all : t (suc p) a ≡ ones
-      t-all = all-same _ (sym (square _) ∙ t-idem p a (turn-all a)) (λ z. n (sym keeps ∙ ap (λ x. x · a) z ∙ zeros-mul T a))
+      t-all = all-same (t (suc p) a) fixed not-zero
 
     β-ones : (i : Ix p) → β i · ones ≡ β i
     β-ones i = comm (β i) ones ∙ ap (λ x. x · β i) (sym (t-all (β i) (β≢zeros i))) ∙ keeps (β i) (β≢zeros i)
@@ -142,8 +148,9 @@ module _ {p : ℕ} (T : Ix p → Vec p) where
     pub ones-mul : (a : Vec p) → ones · a ≡ a
     ones-mul a = comm ones a ∙ mul-lin T a ones ∙ simp (← mul-β, β-ones) (lin-basis a)
 
+    -- as that power of β0 is one, β0 times one is β0, and it is the sum of all rows
     pub rule7 : Rule7
-    rule7 = sum-rows (β-ones o)
+    rule7 r = unfold lin in ap (λ f. f r) (sym (mul-o T ones) ∙ β-ones o)
 
     pub t-suc : (k : ℕ) (a : Vec p) → turn (at 1) (t k a) · a ≡ t (suc k) a
     unfolding t
@@ -200,21 +207,14 @@ module _ {p : ℕ} (T : Ix p → Vec p) where
     t-unique a b e = unique-inverse field a b _ e (t-inverse a (λ z. true≢false (ap (λ f. f o) (sym e ∙ ap (λ x. x · b) z ∙ zeros-mul T b))))
 
   module _ (f : Field) (s : Squares) where
-    unit-ones : f .unit ≡ ones
-    unit-ones = all-same (f .unit) (sym (s (f .unit)) ∙ f .neutral (f .unit))
-        (λ z. β≢zeros o (sym (f .neutral (β o)) ∙ ap (λ u. u · β o) z ∙ zeros-mul T (β o)))
-
-    check : Check
-    check = record {
-      laws = record {
-        symmetric = record {
-          rule4 = sym (pair-o T o) ∙ sym (mul-ββ T o o) ∙ s (β o) ∙ turn-β (at 1) o ∙ ap β (z-add (at 1));
-          rule5 = λ d. sym (pair-o T d) ∙ sym (mul-ββ T o d) ∙ f .comm (β o) (β d) ∙ (unfold pair in mul-ββ T d o);
-        };
-        rule6 = λ i j. f .assoc (β o) (β i) (β j);
+    field-laws : Laws
+    field-laws = record {
+      symmetric = record {
+        rule4 = sym (pair-o T o) ∙ sym (mul-ββ T o o) ∙ s (β o) ∙ turn-β (at 1) o ∙ ap β (z-add (at 1));
+        rule5 = λ d. sym (pair-o T d) ∙ sym (mul-ββ T o d) ∙ f .comm (β o) (β d) ∙ (unfold pair in mul-ββ T d o);
       };
-      rule7 = sum-rows (f .comm (β o) ones ∙ rw (← unit-ones) (f .neutral (β o)));
+      rule6 = λ i j. f .assoc (β o) (β i) (β j);
     }
 
-  pub check-field : Check ↔ (Field × Squares)
-  check-field = (λ k. (field (k .laws), square (k .laws)), λ h. check (h .0) (h .1))
+  pub laws-field : Laws ↔ (Field × Squares)
+  laws-field = (λ c. (field c, square c), λ h. field-laws (h .0) (h .1))

@@ -1,10 +1,8 @@
--- The rules 4 to 7 of the check, each under the number that its breach is given.
+-- The rules 4 to 6 of the check, each under the number that its breach is given.
 use mathlib.Core.Path.{_≡_}
 use mathlib.Core.List.{List}
 use Prim.Native.Nat.{ℕ, _-_, _<_, _≤_}
-use Rattle.gf2.specs.Sums.{sum}
-use Rattle.gf2.specs.Coordinates.{coord}
-use Rattle.gf2.specs.Operands.{bytesFor, fromCoords, turned}
+use Rattle.gf2.specs.Operands.{turned}
 use Rattle.gf2.specs.Tables.{row, basis}
 use Rattle.gf2.specs.Products.{product}
 
@@ -22,21 +20,12 @@ Rule6 m table i j =
     product m table (product m table (basis m 0) (basis m i)) (basis m j)
     ≡ product m table (basis m 0) (product m table (basis m i) (basis m j))
 
--- the sum of all rows
-unfoldable pub rowSum : ℕ → List ℕ → List ℕ
-rowSum m table = fromCoords (bytesFor m) m (λ s. sum m (λ d. coord (row m table d) s))
-
--- 7: "the sum of all rows has only coordinate 0"
-abbrev pub Rule7 : ℕ → List ℕ → Type 0
-Rule7 m table = rowSum m table ≡ basis m 0
-
 -- rules 4 and 5
 pub record Symmetric (m : ℕ) (table : List ℕ) : Type 0 where
   pub rule4 : Rule4 m table
   pub rule5 : (d : ℕ) → 1 ≤ d → d < m → Rule5 m table d
 
--- what the check asks of a table of the right shape
+-- what the check asks of a table of the right shape: "The check then ends with 6", by document 02, (f)
 pub record Accepted (m : ℕ) (table : List ℕ) : Type 0 where
   pub symmetric : Symmetric m table
   pub rule6 : (i j : ℕ) → i < m → j < m → Rule6 m table i j
-  pub rule7 : Rule7 m table

@@ -4,7 +4,7 @@
 -- Operands: operands, zero, one, sum, turn.
 -- Tables: rows, products of two basis elements, ones.
 -- Products: the plain and the reduced product.
--- Check: the rules 4 to 7 of the check.
+-- Check: the rules 4 to 6 of the check.
 -- Field: what a field is, and a field whose square is the turn.
 -- Inverse: the chain of doublings and addings, and its number of products.
 -- Quadratic: trace, and the solution of z² + z = c.

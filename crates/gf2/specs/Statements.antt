@@ -2,7 +2,7 @@
 -- A: the check accepts a table exactly when its operands form a field whose square is the turn by one.
 -- H: the operand that leaves every operand of that field unchanged is one.
 -- B: the chain gives the inverse, with a known number of products.
--- C: rule 7 follows from rules 4, 5 and 6.
+-- C: document 01's rule 7, the row sum, follows from rules 4, 5 and 6. I: so what is accepted is the same set without it.
 -- F: under rules 4 and 5, rule 6 follows from rule 6 for i = 0.
 -- D: the reduced product is the product, by pairs and by distances.
 -- E: for every r, as many pairs (i, j) have coordinate r in βi·βj as the table has ones.
@@ -14,10 +14,10 @@ use Prim.Native.Nat.{ℕ, zero, suc, _+_, _-_, _*_, _^_, _<_, _≤_}
 use lib.ListN.{length}
 use Rattle.gf2.specs.Sums.{sum}
 use Rattle.gf2.specs.Coordinates.{coord}
-use Rattle.gf2.specs.Operands.{bytesFor, minus, IsOperand, zeroes, ones}
-use Rattle.gf2.specs.Tables.{IsTable, row, pairProduct, onesIn}
+use Rattle.gf2.specs.Operands.{bytesFor, minus, IsOperand, fromCoords, zeroes, ones}
+use Rattle.gf2.specs.Tables.{IsTable, row, basis, pairProduct, onesIn}
 use Rattle.gf2.specs.Products.{product, reduced, byDistance}
-use Rattle.gf2.specs.Check.{Rule6, Rule7, Symmetric, Accepted}
+use Rattle.gf2.specs.Check.{Rule6, Symmetric, Accepted}
 use Rattle.gf2.specs.Field.{IsUnit, Field, Squares}
 use Rattle.gf2.specs.Inverse.{log2, binaryOnes, inverse, productsMade}
 
@@ -50,10 +50,22 @@ pub record TheoremB : Type 0 where
   -- log2 is the logarithm rounded down
   pub logarithm : (n : ℕ) → 1 ≤ n → (2 ^ log2 n ≤ n) × (n < 2 ^ (log2 n + 1))
 
+-- the sum of all rows
+unfoldable pub rowSum : ℕ → List ℕ → List ℕ
+rowSum m table = fromCoords (bytesFor m) m (λ s. sum m (λ d. coord (row m table d) s))
+
+-- Rule 7 of document 01, which the check asked last before document 02, (f): "the sum of all rows has only coordinate 0"
+abbrev pub Rule7 : ℕ → List ℕ → Type 0
+Rule7 m table = rowSum m table ≡ basis m 0
+
 -- Rules 4, 5 and 6 imply rule 7.
 abbrev pub TheoremC : Type 0
 TheoremC = (m : ℕ) (table : List ℕ) → 2 ≤ m → IsTable m table → Symmetric m table →
     ((i j : ℕ) → i < m → j < m → Rule6 m table i j) → Rule7 m table
+
+-- "what it accepts is the same set": what the check asks holds just when it holds with rule 7.
+abbrev pub TheoremI : Type 0
+TheoremI = (m : ℕ) (table : List ℕ) → 2 ≤ m → IsTable m table → Accepted m table ↔ (Accepted m table × Rule7 m table)
 
 -- Under rules 4 and 5, rule 6 for i = 0 and every j implies it for every i and j: rule 6 for i = 0 says that β1 acts as β0 twice, and the
 -- turn carries that on, so that every βj acts as a power of β0, and all of them commute.

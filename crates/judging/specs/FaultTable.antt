@@ -10,9 +10,9 @@ use Rattle.gf2.specs.Operands.{maxWidth, bytesFor, HasHighBit, isClear, same, z
 use Rattle.gf2.specs.Quadratic.{trace}
 use Rattle.gf2.specs.Tables.{row, basis}
 use Rattle.gf2.specs.Products.{product}
-use Rattle.gf2.specs.Check.{Rule4, Rule5, Rule6, Rule7, rowSum}
+use Rattle.gf2.specs.Check.{Rule4, Rule5, Rule6}
 use Rattle.gf2.proofs.Decisions.{width-decides, other-decides, less-decides, equal-decides, high-decides, rows-decide, same-decides, unlike-decides}
-use Rattle.judging.specs.declared.fault.Fault.the-variants.{Width, Length, HighBit, RowZero, RowPair, Triple, RowSum, Call}
+use Rattle.judging.specs.declared.fault.Fault.the-variants.{Width, Length, HighBit, RowZero, RowPair, Triple, Call}
 use Rattle.judging.specs.declared.fault.CallFault.the-variants.{InverseOfZero, TraceOne, OutputShort}
 use Rattle.judging.specs.Causes.{Cause, from}
 
@@ -91,16 +91,7 @@ tripleDiffers m table i j =
       numbered = refl;
     }
 
--- 7: "row sum wrong": "the sum of all rows has only coordinate 0"
-abbrev pub rowSumWrong : ℕ → List ℕ → Cause
-rowSumWrong m table =
-    record {
-      Holds = ¬ Rule7 m table;
-      test = not (same (rowSum m table) (basis m 0));
-      exact = unlike-decides _ _;
-      fault = RowSum;
-      numbered = refl;
-    }
+-- 7 has no cause: "take number 7 and its test out", by document 02, (f)
 
 -- 8 has no cause: "Number 8 is never given any more", by document 02, (d)
 
@@ -139,6 +130,6 @@ symmetryCauses m table = shapeCauses m table ++ ruleCauses m table
 abbrev pub tripleCauses : ℕ → List ℕ → List Cause
 tripleCauses m table = from 0 m (λ i. from 0 m (λ j. tripleDiffers m table i j ∷ []))
 
--- 1 to 7: "A table is accepted when the check gives no number for it"
+-- 1 to 6: "A table is accepted when the check gives no number for it"; "The check then ends with 6"
 abbrev pub checkCauses : ℕ → List ℕ → List Cause
-checkCauses m table = symmetryCauses m table ++ (tripleCauses m table ++ (rowSumWrong m table ∷ []))
+checkCauses m table = symmetryCauses m table ++ tripleCauses m table

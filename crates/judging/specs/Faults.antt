@@ -2,7 +2,7 @@
 use mathlib.Core.Bool.{Bool}
 use lib.Dec.{eqb}
 use Rattle.judging.specs.declared.fault.Fault.{Fault}
-use Rattle.judging.specs.declared.fault.Fault.the-variants.{None, Width, Length, HighBit, RowZero, RowPair, Triple, RowSum, Call, Card, List}
+use Rattle.judging.specs.declared.fault.Fault.the-variants.{None, Width, Length, HighBit, RowZero, RowPair, Triple, Call, Card, List}
 use Rattle.judging.specs.declared.fault.CallFault.{CallFault}
 use Rattle.judging.specs.declared.fault.CallFault.the-variants.{InverseOfZero, TraceOne, OutputShort, NoType, BadGate}
 use Rattle.judging.specs.declared.fault.CardFault.{CardFault}
@@ -42,7 +42,6 @@ numberOf HighBit = (3, 0, 0)
 numberOf RowZero = (4, 0, 0)
 numberOf (RowPair d) = (5, d, 0)
 numberOf (Triple i j) = (6, i, j)
-numberOf RowSum = (7, 0, 0)
 numberOf (Call c) = callNumberOf c
 numberOf (Card c) = cardNumberOf c
 numberOf (List c) = listNumberOf c

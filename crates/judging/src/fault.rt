@@ -27,8 +27,9 @@ pub enum ListFault {
     Output(usize),
 }
 
-// A variant for each number of document 01's table and one for none; document 02, (d), took 8 out. Those of a call, of a card and of a list
-// to be accepted are enums of their own: a match needs no proof of its own as long as an enum has at most a dozen variants.
+// A variant for each number of document 01's table and one for none; document 02 took 8 out by (d), and 7 by (f). Those of a call, of a
+// card and of a list to be accepted are enums of their own: a match needs no proof of its own as long as an enum has at most a dozen
+// variants.
 pub enum Fault {
     None,
     Width,
@@ -37,7 +38,6 @@ pub enum Fault {
     RowZero,
     RowPair(usize),
     Triple(usize, usize),
-    RowSum,
     Call(CallFault),
     Card(CardFault),
     List(ListFault),
@@ -91,7 +91,6 @@ pub fn number(f: Fault) -> FaultNumber
         Fault::RowZero => FaultNumber(4, 0, 0),
         Fault::RowPair(d) => FaultNumber(5, d, 0),
         Fault::Triple(i, j) => FaultNumber(6, i, j),
-        Fault::RowSum => FaultNumber(7, 0, 0),
         Fault::Call(c) => call_number(c),
         Fault::Card(c) => card_number(c),
         Fault::List(c) => list_number(c),

@@ -15,7 +15,7 @@ use Rattle.judging.specs.declared.fault.Fault.the-variants.{None, RowPair, Trip
 use Rattle.judging.specs.declared.fault.ListFault.the-variants.{Output}
 use Rattle.judging.specs.Faults.{numberOf, isNone}
 use Rattle.judging.specs.Causes.{Cause, faultOf}
-use Rattle.judging.specs.FaultTable.{highBitInRow, rowSumWrong, shapeCauses, ruleCauses, symmetryCauses, tripleCauses, checkCauses}
+use Rattle.judging.specs.FaultTable.{highBitInRow, shapeCauses, ruleCauses, symmetryCauses, tripleCauses, checkCauses}
 use Rattle.judging.proofs.CauseLaws.{Fine, Each, keeps, keeps-both}
 use Rattle.judging.proofs.Searches.{each-from}
 use Rattle.judging.proofs.Passed.{is-width}
@@ -128,9 +128,7 @@ module _ (m : ℕ) (t : List ℕ) where
   small-symmetry = small-both (shapeCauses m t) (ruleCauses m t) small-shape (λ p. small-rules (is-width m (p .0) .greatest))
 
   pub small-check : isSmall (faultOf (checkCauses m t)) ≡ true
-  unfolding isSmall
-  small-check = small-both (symmetryCauses m t) (tripleCauses m t ++ (rowSumWrong m t ∷ [])) small-symmetry (λ p.
-      small-both (tripleCauses m t) (rowSumWrong m t ∷ []) (small-triples (is-width m (p .0) .greatest)) (λ q. small-causes (rowSumWrong m t ∷ []) refl))
+  small-check = small-both (symmetryCauses m t) (tripleCauses m t) small-symmetry (λ p. small-triples (is-width m (p .0) .greatest))
 
   pub small-reduced : (a b old : List ℕ) → isSmall (faultOf (reducedBytesCauses m t a b old)) ≡ true
   unfolding isSmall

@@ -17,7 +17,7 @@ use Rattle.reporting.specs.Text.{ascii, line}
 use Rattle.reporting.specs.Report.{inputLimit, lent, refusal, countsLine, acceptance, tableReport, readReport, report}
 use Rattle.reporting.proofs.Reports.{long-report, short-report}
 use Rattle.judging.specs.Causes.{First, NoCause}
-use Rattle.judging.specs.FaultTable.{rowSumWrong, symmetryCauses, tripleCauses, checkCauses}
+use Rattle.judging.specs.FaultTable.{symmetryCauses, tripleCauses, checkCauses}
 use Rattle.promises.specs.CardCauses.{BadCard, GoodCard}
 use Rattle.promises.specs.Reports.{head, gates, Reports}
 use Rattle.judging.proofs.CauseLaws.{exact, of-first, first-some, none-true, none-given, none-fine}
@@ -43,7 +43,7 @@ module _ (m : ℕ) (table : List ℕ) where
   unfolding tableReport acceptance
   table-accepted n =
       let e = exact (checkCauses m table) .none .1 n in
-      let line-of = gates-line (none-given (symmetryCauses m table) (fine-parts (symmetryCauses m table) (tripleCauses m table ++ (rowSumWrong m table ∷ [])) (none-fine (checkCauses m table) .0 e) .0)) in
+      let line-of = gates-line (none-given (symmetryCauses m table) (fine-parts (symmetryCauses m table) (tripleCauses m table) (none-fine (checkCauses m table) .0 e) .0)) in
       rw (none-true e, line-of (ascii "plain") (plain m table), line-of (ascii "reduced") (reduced m table), line-of (ascii "common") (common m table))
       (sym (append-assoc (line (ascii "width") (m ∷ [])) _ _))
 

@@ -9,12 +9,7 @@ use Rattle.gf2.specs.Operands.{bytesFor, turned}
 use Rattle.gf2.specs.Products.{product}
 use Rattle.gf2.specs.Field.{Op, Field, Squares}
 use Rattle.gf2.proofs.Operands.{turned-operand, turned-modulo}
-use Rattle.judging.specs.declared.fault.Fault.{Fault}
-use Rattle.judging.specs.declared.fault.Fault.the-variants.{None, Width, Length, HighBit, RowZero, RowPair, Triple, RowSum, Call, Card, List as OfList}
-use Rattle.judging.specs.declared.fault.CallFault.the-variants.{InverseOfZero, TraceOne, OutputShort, NoType, BadGate}
-use Rattle.judging.specs.declared.fault.CardFault.the-variants.{Ends, Number, Form, Place, Tail}
-use Rattle.judging.specs.declared.fault.ListFault.the-variants.{Size, Form as ListForm, Output}
-use Rattle.judging.specs.Faults.{numberOf}
+use Rattle.judging.specs.declared.fault.Fault.the-variants.{None}
 use Rattle.judging.specs.Causes.{faultOf}
 use Rattle.judging.proofs.CauseLaws.{none-true}
 use Rattle.judging.proofs.Passed.{IsWidth}
@@ -28,33 +23,11 @@ use Rattle.table.specs.Judgements.{checkFault}
 use Rattle.table.proofs.Theorems.{fields}
 use Rattle.promises.specs.Turns.{TurnsOf, Turns}
 use Rattle.promises.proofs.NoFaults.{turn-none}
+use Rattle.promises.proofs.Numbers.{never8}
 
 -- whatever is handed in
 modulo : (m : ℕ) (a : List ℕ) (k : ℕ) (old : List ℕ) → turnInto m a k old ≡ turnInto m a (k % m) old
 modulo m a k old = ap (λ x. written (faultOf (turnBytesCauses m a old)) x old) (turned-modulo m k a)
-
-never8 : (f : Fault) → ¬ (numberOf f .0 ≡ 8)
-never8 None e = omega (arith, e)
-never8 Width e = omega (arith, e)
-never8 Length e = omega (arith, e)
-never8 HighBit e = omega (arith, e)
-never8 RowZero e = omega (arith, e)
-never8 (RowPair d) e = omega (arith, e)
-never8 (Triple i j) e = omega (arith, e)
-never8 RowSum e = omega (arith, e)
-never8 (Call InverseOfZero) e = omega (arith, e)
-never8 (Call TraceOne) e = omega (arith, e)
-never8 (Call OutputShort) e = omega (arith, e)
-never8 (Call NoType) e = omega (arith, e)
-never8 (Call BadGate) e = omega (arith, e)
-never8 (Card Ends) e = omega (arith, e)
-never8 (Card Number) e = omega (arith, e)
-never8 (Card Form) e = omega (arith, e)
-never8 (Card Place) e = omega (arith, e)
-never8 (Card Tail) e = omega (arith, e)
-never8 (OfList Size) e = omega (arith, e)
-never8 (OfList ListForm) e = omega (arith, e)
-never8 (OfList (Output r)) e = omega (arith, e)
 
 module _ {m : ℕ} (w : IsWidth m) where
   laws : TurnLaws (bytesFor m) m

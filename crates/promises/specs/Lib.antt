@@ -6,7 +6,7 @@
 -- Demand2: products, drawn tables and cards are what document 01 says.
 -- Demand3: the check is exact; under an accepted table every product, list, count and inverse is right.
 -- Acceptance: which gate lists from elsewhere are accepted, document 02, (b). Turns: turns by any count, document 02, (d).
--- TypeChoice: the type that is chosen for a width, document 02, (e).
+-- TypeChoice: the type that is chosen for a width, document 02, (e). OneVerdictFewer: the check without number 7, document 02, (f).
 pub mod CardCauses
 pub mod Answers
 pub mod CarriedCalls
@@ -17,3 +17,4 @@ pub mod Demand3
 pub mod Acceptance
 pub mod Turns
 pub mod TypeChoice
+pub mod OneVerdictFewer

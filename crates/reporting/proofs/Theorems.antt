@@ -2,7 +2,7 @@
 use Rattle.reporting.specs.Statements.{ReportLaws}
 use Rattle.reporting.proofs.Decimals.{count-fewest}
 use Rattle.reporting.proofs.Lengths.{report-length}
-use Rattle.reporting.proofs.Verdicts.{report-ends, never-three, never-seven, never-eleven}
+use Rattle.reporting.proofs.Verdicts.{report-ends, never-three, never-eleven}
 
 pub report-laws : ReportLaws
 report-laws = record {
@@ -10,6 +10,5 @@ report-laws = record {
   fits = report-length;
   refuses = report-ends;
   three = never-three;
-  seven = never-seven;
   eleven = never-eleven;
 }

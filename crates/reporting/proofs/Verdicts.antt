@@ -1,4 +1,4 @@
--- Which faults a report can name: 3, 7 and 11 are not among them.
+-- Which faults a report can name: 3 and 11 are not among them.
 use mathlib.Core.Path.{_≡_, refl, sym}
 use mathlib.Core.Bool.{Bool, true, false, _||_, true≢false}
 use mathlib.Core.List.{List, [], _∷_, _++_, append-assoc}
@@ -11,7 +11,7 @@ use Rattle.judging.specs.declared.fault.Fault.{Fault}
 use Rattle.judging.specs.declared.fault.Fault.the-variants.{None, Length}
 use Rattle.judging.specs.Faults.{numberOf, isNone}
 use Rattle.judging.specs.Causes.{Cause, faultOf}
-use Rattle.judging.specs.FaultTable.{badWidth, tooShort, rowSumWrong, shapeCauses, ruleCauses, symmetryCauses, tripleCauses}
+use Rattle.judging.specs.FaultTable.{badWidth, tooShort, shapeCauses, ruleCauses, symmetryCauses, tripleCauses}
 use Rattle.judging.proofs.CauseLaws.{Fine, none-given, keeps, keeps-both}
 use Rattle.judging.proofs.Searches.{each-from}
 use Rattle.judging.proofs.Passed.{is-width, size-small, room-passes}
@@ -19,7 +19,6 @@ use Rattle.table.specs.Rows.{Shaped}
 use Rattle.table.specs.Judgements.{symmetryFault, checkFault}
 use Rattle.table.proofs.Rules.{mirrorCauses, pairCauses, rowCauses}
 use Rattle.table.proofs.Shapes.{shape-passes}
-use Rattle.table.proofs.Theorems.{row-sums}
 use Rattle.card.specs.Numbers.{Read, refused, got}
 use Rattle.card.specs.Cards.{Table, lentFault, readCard}
 use Rattle.card.specs.Statements.{Bytes}
@@ -31,7 +30,7 @@ use Rattle.reporting.proofs.Reports.{card-shaped}
 
 -- the numbers that can't come out
 unfoldable barred : Fault → Bool
-barred f = eqb (numberOf f .0) 3 || (eqb (numberOf f .0) 7 || eqb (numberOf f .0) 11)
+barred f = eqb (numberOf f .0) 3 || eqb (numberOf f .0) 11
 
 abbrev Apart : Fault → Type 0
 Apart f = barred f ≡ false
@@ -59,9 +58,7 @@ module _ (m : ℕ) (t : List ℕ) (shaped : Shaped m t) where
   symmetry-apart = keeps-both Apart none-apart (shapeCauses m t) (ruleCauses m t) (fine-apart (shapeCauses m t) (shape-passes shaped)) (λ p. rules-apart)
 
   check-apart : barred (checkFault m t) ≡ false
-  check-apart = keeps-both Apart none-apart (symmetryCauses m t) (tripleCauses m t ++ (rowSumWrong m t ∷ [])) symmetry-apart (λ p.
-      keeps-both Apart none-apart (tripleCauses m t) (rowSumWrong m t ∷ []) triples-apart (λ q.
-      rw (row-sums m t (none-given (symmetryCauses m t) p) (none-given (tripleCauses m t) q)) none-apart))
+  check-apart = keeps-both Apart none-apart (symmetryCauses m t) (tripleCauses m t) symmetry-apart (λ p. triples-apart)
 
 -- the lent table has room for every width that passes
 lent-apart : (m : ℕ) → barred (lentFault lent m) ≡ false
@@ -87,10 +84,6 @@ module _ (s : List ℕ) (small : Bytes s) where
   pub never-three : Not 3 (verdict s)
   unfolding barred
   never-three e = true≢false (rw e at (verdict-apart s small))
-
-  pub never-seven : Not 7 (verdict s)
-  unfolding barred
-  never-seven e = true≢false (rw e at (verdict-apart s small))
 
   pub never-eleven : Not 11 (verdict s)
   unfolding barred

@@ -61,7 +61,7 @@ readVerdict (refused f) = f
 readVerdict (got t rest) = checkFault (t .width) (t .bytes)
 
 -- the fault of the input s, none where its table is accepted
--- It is never 3, as reading a card makes no bit at m or above; never 7, as rules 4 to 6 imply rule 7; never 11, as the lent table
--- has room for the greatest width. `ReportLaws` of Statements states it.
+-- It is never 3, as reading a card makes no bit at m or above; never 11, as the lent table has room for the greatest width. `ReportLaws`
+-- of Statements states it.
 unfoldable pub verdict : List ℕ → Fault
 verdict s = choose (ltb inputLimit (length s)) Length (readVerdict (readCard lent s))

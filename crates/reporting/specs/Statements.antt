@@ -22,7 +22,6 @@ pub record ReportLaws : Type 0 where
   pub fits : (s : List ℕ) → Bytes s → length (report s) ≤ room
   -- a report that does not accept ends with the number of its fault
   pub refuses : (s : List ℕ) → isNone (verdict s) ≡ false → (front : List ℕ) × (report s ≡ front ++ refusal (verdict s))
-  -- 3, 7 and 11 can't come out
+  -- 3 and 11 can't come out
   pub three : (s : List ℕ) → Bytes s → Not 3 (verdict s)
-  pub seven : (s : List ℕ) → Bytes s → Not 7 (verdict s)
   pub eleven : (s : List ℕ) → Bytes s → Not 11 (verdict s)

@@ -1,4 +1,4 @@
--- The basis operands, products of them and sums of rows as operands of W bytes; a basis operand carried.
+-- The basis operands and products of them as operands of W bytes; a basis operand carried.
 use mathlib.Core.Path.{_≡_, sym, ap, _∙_}
 use mathlib.Core.List.{List}
 use Prim.Native.Nat.{ℕ, zero, suc, _+_, _*_, _/_, _%_, _^_, _<_, _≤_}
@@ -12,7 +12,6 @@ use Rattle.gf2.specs.Coordinates.{tabulate}
 use Rattle.gf2.specs.Operands.{bytesFor, carriedBytes, choose, IsOperand, below, fromCoords, carriedBy}
 use Rattle.gf2.specs.Tables.{basis}
 use Rattle.gf2.specs.Products.{product}
-use Rattle.gf2.specs.Check.{rowSum}
 use Rattle.gf2.proofs.Coordinates.{pack-of, one-bit}
 use Rattle.gf2.proofs.Operands.{below-in, below-out, from-operand}
 use Rattle.gf2.proofs.Carrying.{carried-from}
@@ -33,10 +32,6 @@ left-operand m t i j = product-operand t _ (product-operand t _ (basis-operand m
 pub right-operand : (m : ℕ) (t : List ℕ) (i j : ℕ) → IsOperand (bytesFor m) m (rightProduct m t i j)
 unfolding rightProduct
 right-operand m t i j = product-operand t _ (basis-operand m 0)
-
-pub sum-operand : (m : ℕ) (t : List ℕ) → IsOperand (bytesFor m) m (rowSum m t)
-unfolding rowSum
-sum-operand m t = from-operand (bytesFor m) m _
 
 -- the basis operand of a coordinate in the first byte
 first-byte : ℕ → ℕ → ℕ

@@ -2,9 +2,9 @@
 -- Comparing: operands compared by their limbs and by their coordinates.
 -- Squares: the square of an operand, limb by limb.
 -- Shapes: tables without fault of shape: their rows, as they lie in the table and carried.
--- BasisOperands: the basis operands, products of them and sums of rows as operands.
+-- BasisOperands: the basis operands and products of them as operands.
 -- Rules: rules 5 and 6 as tests of one row and of one pair.
--- RowSums: sums of rows: which products they are, and the sum of all rows.
+-- RowSums: sums of rows: which products they are.
 -- RowsAtOnes: the sum of the rows at the ones of an operand, below the width.
 -- TableOnes: the ones of a table's bytes are those of its rows.
 -- Theorems: the proofs of the statements in specs/Statements.antt.

@@ -1,23 +1,20 @@
--- Sums of rows: which products they are, and the sum of all rows.
+-- Sums of rows: which products they are.
 -- left-sum, right-sum: under rules 4 and 5 the two sides of rule 6; first-left, first-right: those for i = 0.
--- first-test: rule 6 for i = 0, coordinate by coordinate. rows-all: the sum of all rows is that at the ones of one.
-use mathlib.Core.Path.{_≡_, refl, sym, ap, ap₂, _∙_}
-use mathlib.Core.Bool.{true, _&&_}
+-- first-test: rule 6 for i = 0, coordinate by coordinate.
+use mathlib.Core.Path.{_≡_, sym, ap, ap₂, _∙_}
+use mathlib.Core.Bool.{_&&_}
 use mathlib.Core.List.{List}
-use Prim.Native.Nat.{ℕ, zero, suc, _+_, _-_, _*_, _/_, _%_, _^_, _<_, _≤_}
-use native.Mathlib.Nat.{one-mul, mod-eq-of-lt}
+use Prim.Native.Nat.{ℕ, zero, suc, _+_, _-_, _*_, _%_, _<_, _≤_}
+use native.Mathlib.Nat.{mod-eq-of-lt}
 use native.Mathlib.Omega.{arith}
 use lib.Dec.{eqb}
-use lib.ListN.{replicate, getD-replicate}
-use borrow.Author.Tests.{eqb-true}
 use Rattle.gf2.specs.Sums.{sum, every}
 use Rattle.gf2.specs.Coordinates.{coord}
-use Rattle.gf2.specs.Operands.{bytesFor, carriedBytes, minus, IsOperand, fromCoords, turned, carriedBy, same}
+use Rattle.gf2.specs.Operands.{bytesFor, carriedBytes, minus, IsOperand, turned, carriedBy, same}
 use Rattle.gf2.specs.Tables.{row}
-use Rattle.gf2.specs.Check.{Symmetric, rowSum}
-use Rattle.gf2.proofs.Sums.{sum-ext, every-at}
+use Rattle.gf2.specs.Check.{Symmetric}
 use Rattle.gf2.proofs.Coordinates.{length-pack}
-use Rattle.gf2.proofs.Operands.{minus-lt, coord-from, from-operand, from-ext, turned-operand, coord-turned}
+use Rattle.gf2.proofs.Operands.{minus-lt, coord-from, from-operand, turned-operand, coord-turned}
 use Rattle.gf2.proofs.Parity.{bits, odd-mul}
 use Rattle.gf2.proofs.Index.{Ix, at, o, _⊖_, at-minus, at-neg, z-add, sub-add}
 use Rattle.gf2.proofs.IndexSums.{Σ-ext, odd-Σ}
@@ -146,25 +143,3 @@ first-test {m} {t} s y j l x e =
 
     left : (i : ℕ) → i < m → coord (row m t (minus m j 1)) (minus m i 1) ≡ coord (turned m 1 (carriedRow m t (minus m j 1))) i
     left i h = sym (coord-turned _ (length-pack carriedBytes _) fits 1 i h ∙ ap (λ f. f (minus m i 1)) (own (minus m j 1) (minus-lt m j 1 (omega arith))))
-
--- the coordinates of full bytes
-full-byte : every 8 (λ j. eqb (255 / 2 ^ j % 2) 1) ≡ true
-unfolding every
-full-byte = refl
-
-full : (k : ℕ) → k < 8 * carriedBytes → coord (replicate carriedBytes 255) k ≡ 1
-unfolding coord
-full k h = ap (λ y. y / 2 ^ (k % 8) % 2) (getD-replicate {A = ℕ} carriedBytes (k / 8) 255 0 (omega arith))
-    ∙ eqb-true _ _ (every-at 8 (λ j. eqb (255 / 2 ^ j % 2) 1) full-byte (k % 8) (omega arith))
-
--- the rows at the ones of one are all rows
-pub rows-all : {m : ℕ} {t : List ℕ} → Shaped m t → rowsAt m t (fromCoords carriedBytes m (coord (replicate carriedBytes 255))) ≡ carriedBy (rowSum m t)
-unfolding rowsAt rowSum
-rows-all {m} {t} s =
-    from-ext carriedBytes m _ _ (λ i l. ap (λ n. n % 2) (sum-ext m _ _ (λ k h. ap (λ y. y * coord (row m t k) i) (one k h) ∙ one-mul _)))
-    ∙ sym (carried-from (omega (arith, s .greatest)) (bytes-fit m) _)
-  where
-    one : (k : ℕ) → k < m → coord (fromCoords carriedBytes m (coord (replicate carriedBytes 255))) k ≡ 1
-    one k h =
-        let g = s .greatest in
-        coord-from carriedBytes m _ (omega arith) k h ∙ ap (λ y. y % 2) (full k (omega arith))

@@ -1,25 +1,25 @@
 -- The proofs of Statements.
--- shape, symmetry, acceptance, fields, row-sums, first-triples, carried-pass. first-passes: rule 6 for i = 0 is enough.
+-- shape, symmetry, acceptance, fields, same-set, first-triples, carried-pass. first-passes: rule 6 for i = 0 is enough.
 use mathlib.Core.Path.{_≡_, refl, sym, ap, _∙_}
 use mathlib.Core.Logic.{_↔_}
 use mathlib.Core.Bool.{Bool, true, false}
-use mathlib.Core.List.{List, [], _∷_, _++_}
+use mathlib.Core.List.{List}
 use Prim.Native.Nat.{ℕ, _-_, _<_, _≤_}
 use native.Mathlib.Omega.{arith}
 use lib.Dec.{lit≤}
 use Rattle.gf2.specs.Sums.{every}
 use Rattle.gf2.specs.Operands.{maxWidth}
 use Rattle.gf2.specs.Tables.{IsTable}
-use Rattle.gf2.specs.Check.{Rule5, Rule6, Rule7, Symmetric, Accepted}
+use Rattle.gf2.specs.Check.{Rule5, Rule6, Symmetric, Accepted}
 use Rattle.gf2.proofs.Sums.{every-at}
 use Rattle.gf2.proofs.Decisions.{same-decides}
-use Rattle.gf2.proofs.Theorems.{theoremA, theoremC, theoremF}
+use Rattle.gf2.proofs.Theorems.{theoremA, theoremF, theoremI}
 use Rattle.gf2.proofs.CarriedTables.{carried-tables}
 use Rattle.judging.specs.declared.fault.Fault.{Fault}
-use Rattle.judging.specs.declared.fault.Fault.the-variants.{None, Width, Length, HighBit, RowZero, RowPair, Triple, RowSum}
+use Rattle.judging.specs.declared.fault.Fault.the-variants.{None, Width, Length, HighBit, RowZero, RowPair, Triple}
 use Rattle.judging.specs.Faults.{numberOf, isNone}
 use Rattle.judging.specs.Causes.{faultOf}
-use Rattle.judging.specs.FaultTable.{rowSumWrong, shapeCauses, rowPairCauses, ruleCauses, symmetryCauses, tripleCauses, checkCauses}
+use Rattle.judging.specs.FaultTable.{shapeCauses, rowPairCauses, ruleCauses, symmetryCauses, tripleCauses, checkCauses}
 use Rattle.judging.proofs.CauseLaws.{Fine, fine, none-given, none-fine, keeps, keeps-both}
 use Rattle.judging.proofs.Searches.{fine-append, fine-parts, fine-from, fine-at, up-start, found-here, each-from}
 use Rattle.judging.proofs.Passed.{are-same, same-passes}
@@ -27,7 +27,7 @@ use Rattle.table.specs.Carried.{carried2, carried3, carried4, carried5}
 use Rattle.table.specs.Rows.{Shaped}
 use Rattle.table.specs.Inner.{leftProduct, rightProduct, associates}
 use Rattle.table.specs.Judgements.{tripleFault, symmetryFault, checkFault}
-use Rattle.table.specs.Statements.{Shape, Symmetry, Acceptance, Fields, RowSums, FirstTriples, CarriedPass}
+use Rattle.table.specs.Statements.{Shape, Symmetry, Acceptance, Fields, SameSet, FirstTriples, CarriedPass}
 use Rattle.table.proofs.Shapes.{shape-passes, shape-rows, shape-fine}
 use Rattle.table.proofs.Rules.{symmetric-rows, mirrorCauses, pairCauses, rowCauses}
 
@@ -53,9 +53,6 @@ module _ (m : ℕ) (t : List ℕ) where
     λ s. (same-passes _ _ (s .rule4), rule5 .1 (s .rule5)),
   )
 
-  rule7 : (faultOf (rowSumWrong m t ∷ []) ≡ None) ↔ Rule7 m t
-  rule7 = (λ e. are-same _ _ (none-fine (rowSumWrong m t ∷ []) .0 e .0), λ r. none-given (rowSumWrong m t ∷ []) (same-passes _ _ r, tt))
-
   symmetric : Fine (symmetryCauses m t) ↔ (Shaped m t × Symmetric m t)
   symmetric = (
     λ p. let q = fine-parts (shapeCauses m t) (ruleCauses m t) p in
@@ -72,12 +69,11 @@ symmetry m t = (
 
 pub acceptance : Acceptance
 acceptance m t = (
-  λ e. let p = fine-parts (symmetryCauses m t) (tripleCauses m t ++ (rowSumWrong m t ∷ [])) (none-fine (checkCauses m t) .0 e) in
-      let q = fine-parts (tripleCauses m t) (rowSumWrong m t ∷ []) (p .1) in
+  λ e. let p = fine-parts (symmetryCauses m t) (tripleCauses m t) (none-fine (checkCauses m t) .0 e) in
       let s = symmetric m t .0 (p .0) in
-      (s .0, record { symmetric = s .1; rule6 = rule6 m t .0 (q .0); rule7 = are-same _ _ (q .1 .0) }),
-  λ h. none-given (checkCauses m t) (fine-append (symmetryCauses m t) (tripleCauses m t ++ (rowSumWrong m t ∷ [])) (symmetric m t .1 (h .0, h .1 .symmetric))
-      (fine-append (tripleCauses m t) (rowSumWrong m t ∷ []) (rule6 m t .1 (h .1 .rule6)) (same-passes _ _ (h .1 .rule7), tt))),
+      (s .0, record { symmetric = s .1; rule6 = rule6 m t .0 (p .1) }),
+  λ h. none-given (checkCauses m t)
+      (fine-append (symmetryCauses m t) (tripleCauses m t) (symmetric m t .1 (h .0, h .1 .symmetric)) (rule6 m t .1 (h .1 .rule6))),
 )
 
 pub fields : Fields
@@ -88,10 +84,13 @@ fields m t = (
   λ h. acceptance m t .1 (h .0, theoremA m t (h .0 .least) (h .0 .isTable) .1 (h .1, h .2)),
 )
 
-pub row-sums : RowSums
-row-sums m t e six =
-    let s = symmetry m t .0 e in
-    rule7 m t .1 (theoremC m t (s .0 .least) (s .0 .isTable) (s .1) (rule6 m t .0 (none-fine (tripleCauses m t) .0 six)))
+pub same-set : SameSet
+same-set m t = (
+  λ e. let h = acceptance m t .0 e in
+      let k = theoremI m t (h .0 .least) (h .0 .isTable) .0 (h .1) in
+      (h .0, k .0, k .1),
+  λ h. acceptance m t .1 (h .0, theoremI m t (h .0 .least) (h .0 .isTable) .1 (h .1, h .2)),
+)
 
 -- rule 6 for i = 0 is enough
 module _ (m : ℕ) (t : List ℕ) (s : Shaped m t) (y : Symmetric m t) where
@@ -141,10 +140,8 @@ module _ (m : ℕ) (t : List ℕ) where
           (keeps First no-fault (rowCauses m t 0) (each-from First no-fault (pairCauses m t 0) 0 m (λ j l h. ((λ i k q. cc), λ e. tt))))
 
 pub first-triples : FirstTriples
-first-triples m t = keeps-both First no-fault (symmetryCauses m t) (tripleCauses m t ++ (rowSumWrong m t ∷ [])) (symmetry-first m t) (λ p.
-    let s = symmetric m t .0 p in
-    keeps-both First no-fault (tripleCauses m t) (rowSumWrong m t ∷ []) (triple-first m t (s .0) (s .1)) (λ q.
-    keeps First no-fault (rowSumWrong m t ∷ []) (other RowSum (λ e. omega arith), λ e. tt)))
+first-triples m t = keeps-both First no-fault (symmetryCauses m t) (tripleCauses m t) (symmetry-first m t) (λ p.
+    let s = symmetric m t .0 p in triple-first m t (s .0) (s .1))
 
 pub carried-pass : CarriedPass
 carried-pass = record {

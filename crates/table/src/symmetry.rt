@@ -32,7 +32,7 @@ pub(crate) fn same_bytes(x: [u8; limbs::BYTES], y: [u8; limbs::BYTES]) -> bool
 }
 
 // The bytes of the basis operand whose only coordinate is k, in the first byte.
-pub(crate) fn basis_bytes(width: usize, k: usize) -> [u8; limbs::BYTES]
+fn basis_bytes(width: usize, k: usize) -> [u8; limbs::BYTES]
     requires { ⌜ (k < 8) × (k < width) × (width ≤ maxWidth) ⌝ }
     ensures { λ r. ⌜ r ≡ carriedBy (basis width k) ⌝ }
 {

@@ -1,10 +1,7 @@
-// The check. Rules 6 and 7 are judged by sums of rows, on a table that has passed rules 4 and 5: no product is made.
+// The check. Rule 6 is judged by sums of rows, on a table that has passed rules 4 and 5: no product is made.
 ghost use mathlib.Core.Path.{_≡_};
-ghost use mathlib.Core.List.{[], _∷_};
 ghost use Prim.Native.Nat.{_<_};
 ghost use Rattle.gf2.specs.Check.{Symmetric};
-ghost use Rattle.judging.specs.Causes.{faultOf};
-ghost use Rattle.judging.specs.FaultTable.{rowSumWrong};
 ghost use Rattle.table.specs.Rows.{Shaped};
 ghost use Rattle.table.specs.Inner.{leftProduct, rightProduct, associates};
 ghost use Rattle.gf2.specs.Operands.{carriedBy};
@@ -82,19 +79,6 @@ fn judge_triples(width: usize, table: &[u8]) -> Fault
     search_triples(width, table)
 }
 
-fn judge_row_sum(width: usize, table: &[u8]) -> Fault
-    requires { ⌜ Shaped width (now table) ⌝ }
-    ensures { λ r. ⌜ r ≡ faultOf (rowSumWrong width (now (table .entry)) ∷ []) ⌝ }
-{
-    let full = [255u8; limbs::BYTES];
-    let sum = sums::times_first(width, table, limbs::cleared(full, width));
-    if symmetry::same_bytes(sum, symmetry::basis_bytes(width, 0)) {
-        Fault::None
-    } else {
-        Fault::RowSum
-    }
-}
-
 // No fault exactly where the operands of the width form a field under the table, whose square is the turn by one.
 pub fn check(width: usize, table: &[u8]) -> Fault
     ensures { λ r. ⌜ r ≡ checkFault width (now (table .entry)) ⌝ }
@@ -103,9 +87,5 @@ pub fn check(width: usize, table: &[u8]) -> Fault
     if !judging::is_none(fault) {
         return fault;
     }
-    let triple = judge_triples(width, table);
-    if !judging::is_none(triple) {
-        return triple;
-    }
-    judge_row_sum(width, table)
+    judge_triples(width, table)
 }
