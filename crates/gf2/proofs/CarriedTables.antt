@@ -1,6 +1,6 @@
 -- The rules of the check as a test that computes, and the four carried tables, which pass it.
 -- shapeTest, rulesTest: the shape of a table, and rules 4, 5 and, for i = 0, 6; passes-sound: what passes is a table and is accepted.
--- carried: the tables of widths 2, 3, 4 and 5, so no statement about accepted tables is empty.
+-- carried-tables: those of widths 2, 3, 4 and 5, so no statement about accepted tables is empty.
 use mathlib.Core.Path.{_≡_, refl, sym, ap₂}
 use mathlib.Core.List.{List, [], _∷_}
 use mathlib.Core.Bool.{Bool, true, false, _&&_, true≢false}

@@ -3,7 +3,7 @@
 use mathlib.Core.Path.{_≡_, refl, sym, ap, _∙_}
 use mathlib.Core.Bool.{Bool, true, false, not, _&&_}
 use mathlib.Core.List.{List, [], _∷_, _++_}
-use Prim.Native.Nat.{ℕ, _-_, _^_, _<_, _≤_}
+use Prim.Native.Nat.{ℕ, _^_, _<_, _≤_}
 use native.Mathlib.Omega.{arith}
 use lib.Dec.{ltb}
 use lib.ListN.{length}
@@ -19,7 +19,7 @@ use Rattle.judging.specs.FaultTable.{highBitInRow, shapeCauses, ruleCauses, sym
 use Rattle.judging.proofs.CauseLaws.{Fine, Each, keeps, keeps-both}
 use Rattle.judging.proofs.Searches.{each-from}
 use Rattle.judging.proofs.Passed.{is-width}
-use Rattle.table.proofs.Rules.{mirrorCauses, pairCauses, rowCauses}
+use Rattle.table.proofs.CheckFaults.{of-rules, of-triples}
 use Rattle.product.specs.Causes.{productBytesCauses, reducedBytesCauses}
 use Rattle.equivalence.specs.Causes.{wrongOutput, sizeCauses, tableCauses, limitCauses, gateCauses, outputCauses}
 use Rattle.equivalence.specs.Calls.{acceptFault}
@@ -114,11 +114,10 @@ module _ (m : ℕ) (t : List ℕ) where
 
     small-rules : isSmall (faultOf (ruleCauses m t)) ≡ true
     unfolding isSmall
-    small-rules = keeps IsSmall none-small (ruleCauses m t) (refl, λ e. each-from IsSmall none-small (mirrorCauses m t) 1 (m - 1) (λ d l k. (pair-small d (omega arith), λ q. tt)))
+    small-rules = of-rules IsSmall none-small m t refl pair-small
 
     small-triples : isSmall (faultOf (tripleCauses m t)) ≡ true
-    small-triples = keeps IsSmall none-small (tripleCauses m t) (each-from IsSmall none-small (rowCauses m t) 0 m (λ i k u.
-        each-from IsSmall none-small (pairCauses m t i) 0 m (λ j l v. (triple-small i j (omega arith) (omega arith), λ q. tt))))
+    small-triples = of-triples IsSmall none-small m t triple-small
 
   pub small-shape : isSmall (faultOf (shapeCauses m t)) ≡ true
   unfolding isSmall

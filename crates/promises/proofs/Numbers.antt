@@ -1,7 +1,7 @@
 -- Which numbers faults have: 0 to 6 and 9 to 21.
 -- never7, never8: document 02 took these two out.
 use mathlib.Core.Path.{_≡_, refl, sym, ap, _∙_}
-use mathlib.Core.Bool.{Bool, true, _&&_, _||_, true≢false}
+use mathlib.Core.Bool.{Bool, true, false, _&&_, _||_, true≢false}
 use Prim.Native.Nat.{ℕ}
 use lib.Dec.{leb}
 use Rattle.judging.specs.declared.fault.Fault.{Fault}
@@ -37,10 +37,13 @@ given (OfList Size) = refl
 given (OfList ListForm) = refl
 given (OfList (Output r)) = refl
 
+never : (n : ℕ) → isGiven n ≡ false → (f : Fault) → ¬ (numberOf f .0 ≡ n)
+never n h f e = true≢false (sym (given f) ∙ ap isGiven e ∙ h)
+
 pub never7 : (f : Fault) → ¬ (numberOf f .0 ≡ 7)
 unfolding isGiven
-never7 f e = true≢false (sym (given f) ∙ ap isGiven e)
+never7 = never 7 refl
 
 pub never8 : (f : Fault) → ¬ (numberOf f .0 ≡ 8)
 unfolding isGiven
-never8 f e = true≢false (sym (given f) ∙ ap isGiven e)
+never8 = never 8 refl

@@ -2,7 +2,7 @@
 use mathlib.Core.Path.{_≡_, refl, sym, ap, _∙_}
 use mathlib.Core.Bool.{Bool, true, false}
 use mathlib.Core.List.{List}
-use Prim.Native.Nat.{ℕ, _-_, _≤_}
+use Prim.Native.Nat.{ℕ, _≤_}
 use native.Mathlib.Omega.{arith}
 use Rattle.gf2.specs.Operands.{choose, same}
 use Rattle.gf2.specs.Tables.{basis}
@@ -12,12 +12,10 @@ use Rattle.gf2.proofs.Theorems.{theoremC}
 use Rattle.judging.specs.declared.fault.Fault.{Fault}
 use Rattle.judging.specs.declared.fault.Fault.the-variants.{None}
 use Rattle.judging.specs.Faults.{numberOf, isNone}
-use Rattle.judging.specs.Causes.{faultOf}
 use Rattle.judging.specs.FaultTable.{symmetryCauses, tripleCauses, checkCauses}
-use Rattle.judging.proofs.CauseLaws.{none-is, keeps, keeps-both}
-use Rattle.judging.proofs.Searches.{each-from}
+use Rattle.judging.proofs.CauseLaws.{none-is, keeps-both}
 use Rattle.table.specs.Judgements.{checkFault}
-use Rattle.table.proofs.Rules.{mirrorCauses, pairCauses, rowCauses}
+use Rattle.table.proofs.CheckFaults.{of-symmetry, of-triples}
 use Rattle.table.proofs.Theorems.{same-set}
 use Rattle.promises.specs.OneVerdictFewer.{OneVerdictFewer}
 use Rattle.promises.proofs.Numbers.{never7}
@@ -29,27 +27,10 @@ none-least : AtMost6 None
 none-least = omega arith
 
 module _ (m : ℕ) (t : List ℕ) where
-  rules-end : AtMost6 (faultOf (symmetryCauses m t))
-  rules-end = keeps AtMost6 none-least (symmetryCauses m t) (
-    omega arith,
-    λ a. (
-      omega arith,
-      λ b. (
-        omega arith,
-        λ c. (
-          omega arith,
-          λ d. each-from AtMost6 none-least (mirrorCauses m t) 1 (m - 1) (λ d l h. (omega arith, λ e. tt)),
-        ),
-      ),
-    ),
-  )
-
-  triples-end : AtMost6 (faultOf (tripleCauses m t))
-  triples-end = keeps AtMost6 none-least (tripleCauses m t) (each-from AtMost6 none-least (rowCauses m t) 0 m (λ i k u.
-      each-from AtMost6 none-least (pairCauses m t i) 0 m (λ j l v. (omega arith, λ e. tt))))
-
   ends : AtMost6 (checkFault m t)
-  ends = keeps-both AtMost6 none-least (symmetryCauses m t) (tripleCauses m t) rules-end (λ p. triples-end)
+  ends = keeps-both AtMost6 none-least (symmetryCauses m t) (tripleCauses m t)
+      (of-symmetry AtMost6 none-least m t (omega arith) (omega arith) (omega arith) (omega arith) (λ d l. omega arith))
+      (λ p. of-triples AtMost6 none-least m t (λ i j k l. omega arith))
 
   unchanged : (f : Fault) → choose (isNone (checkFault m t)) (choose (same (rowSum m t) (basis m 0)) None f) (checkFault m t) ≡ checkFault m t
   unchanged f = go (isNone (checkFault m t)) refl

@@ -2,7 +2,7 @@
 use mathlib.Core.Path.{_≡_, refl, sym}
 use mathlib.Core.Bool.{Bool, true, false, _||_, true≢false}
 use mathlib.Core.List.{List, [], _∷_, _++_, append-assoc}
-use Prim.Native.Nat.{ℕ, _-_, _*_}
+use Prim.Native.Nat.{ℕ, _*_}
 use lib.ListN.{length}
 use lib.Dec.{ltb, eqb}
 use Rattle.gf2.specs.Operands.{bytesFor, choose}
@@ -13,11 +13,10 @@ use Rattle.judging.specs.Faults.{numberOf, isNone}
 use Rattle.judging.specs.Causes.{Cause, faultOf}
 use Rattle.judging.specs.FaultTable.{badWidth, tooShort, shapeCauses, ruleCauses, symmetryCauses, tripleCauses}
 use Rattle.judging.proofs.CauseLaws.{Fine, none-given, keeps, keeps-both}
-use Rattle.judging.proofs.Searches.{each-from}
 use Rattle.judging.proofs.Passed.{is-width, size-small, room-passes}
 use Rattle.table.specs.Rows.{Shaped}
 use Rattle.table.specs.Judgements.{symmetryFault, checkFault}
-use Rattle.table.proofs.Rules.{mirrorCauses, pairCauses, rowCauses}
+use Rattle.table.proofs.CheckFaults.{of-rules, of-triples}
 use Rattle.table.proofs.Shapes.{shape-passes}
 use Rattle.card.specs.Numbers.{Read, refused, got}
 use Rattle.card.specs.Cards.{Table, lentFault, readCard}
@@ -47,12 +46,11 @@ fine-apart cs p = rw (none-given cs p) none-apart
 module _ (m : ℕ) (t : List ℕ) (shaped : Shaped m t) where
   rules-apart : barred (faultOf (ruleCauses m t)) ≡ false
   unfolding barred
-  rules-apart = keeps Apart none-apart (ruleCauses m t) (refl, λ e. each-from Apart none-apart (mirrorCauses m t) 1 (m - 1) (λ d l h. (refl, λ q. tt)))
+  rules-apart = of-rules Apart none-apart m t refl (λ d l. refl)
 
   triples-apart : barred (faultOf (tripleCauses m t)) ≡ false
   unfolding barred
-  triples-apart = keeps Apart none-apart (tripleCauses m t) (each-from Apart none-apart (rowCauses m t) 0 m (λ i k u.
-      each-from Apart none-apart (pairCauses m t i) 0 m (λ j l v. (refl, λ q. tt))))
+  triples-apart = of-triples Apart none-apart m t (λ i j k l. refl)
 
   symmetry-apart : barred (symmetryFault m t) ≡ false
   symmetry-apart = keeps-both Apart none-apart (shapeCauses m t) (ruleCauses m t) (fine-apart (shapeCauses m t) (shape-passes shaped)) (λ p. rules-apart)

@@ -30,6 +30,7 @@ use Rattle.table.specs.Judgements.{tripleFault, symmetryFault, checkFaul
 use Rattle.table.specs.Statements.{Shape, Symmetry, Acceptance, Fields, SameSet, FirstTriples, CarriedPass}
 use Rattle.table.proofs.Shapes.{shape-passes, shape-rows, shape-fine}
 use Rattle.table.proofs.Rules.{symmetric-rows, mirrorCauses, pairCauses, rowCauses}
+use Rattle.table.proofs.CheckFaults.{of-symmetry}
 
 pub shape : Shape
 shape = shape-fine
@@ -113,20 +114,8 @@ no-fault = other None (λ e. omega arith)
 
 module _ (m : ℕ) (t : List ℕ) where
   symmetry-first : First (symmetryFault m t)
-  symmetry-first = keeps First no-fault (symmetryCauses m t) (
-    other Width (λ e. omega arith),
-    λ a. (
-      other Length (λ e. omega arith),
-      λ b. (
-        other HighBit (λ e. omega arith),
-        λ c. (
-          other RowZero (λ e. omega arith),
-          λ d.
-              each-from First no-fault (mirrorCauses m t) 1 (m - 1) (λ d l h. (other (RowPair d) (λ e. omega arith), λ e. tt)),
-        ),
-      ),
-    ),
-  )
+  symmetry-first = of-symmetry First no-fault m t (other Width (λ e. omega arith)) (other Length (λ e. omega arith)) (other HighBit (λ e. omega arith))
+      (other RowZero (λ e. omega arith)) (λ d l. other (RowPair d) (λ e. omega arith))
 
   -- the first round of the search finds a pair, or there is none
   triple-first : Shaped m t → Symmetric m t → First (tripleFault m t)
