@@ -8,7 +8,7 @@ pub use reading::read;
 pub use store::put;
 
 // A fault beside 0, or none and a width or a length.
-#[derive(Drop)]
+#[derive(Clone, Copy)]
 pub struct CardAnswer {
     pub fault: Fault,
     pub value: usize,

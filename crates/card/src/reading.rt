@@ -11,14 +11,14 @@ use crate::{CardAnswer, store};
 use judging::{CallFault, CardFault, Fault};
 
 // A value and the place after it, or a fault.
-#[derive(Drop)]
+#[derive(Clone, Copy)]
 pub(crate) enum Step {
     Got(usize, usize),
     Refused(Fault),
 }
 
 // A row, and where it ends.
-#[derive(Drop)]
+#[derive(Clone, Copy)]
 pub(crate) struct Row {
     pub bytes: [u8; limbs::BYTES],
     pub end: Step,

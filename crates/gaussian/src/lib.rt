@@ -12,7 +12,7 @@ mod residues;
 mod types;
 
 // A fault, or none and a type T.
-#[derive(Drop)]
+#[derive(Clone, Copy)]
 pub struct TypeAnswer {
     pub fault: Fault,
     pub t: usize,

@@ -3,7 +3,7 @@ ghost use Rattle.std.specs.Prelude.{◌≡◌};
 ghost use Rattle.judging.specs.Faults.{call_number_of, card_number_of, list_number_of, number_of, is_none};
 
 // What a call finds wrong beside widths, lengths, bits and the rules of a table.
-#[derive(Drop)]
+#[derive(Clone, Copy)]
 pub enum CallFault {
     InverseOfZero,
     TraceOne,
@@ -13,7 +13,7 @@ pub enum CallFault {
 }
 
 // What is found in a card, byte by byte.
-#[derive(Drop)]
+#[derive(Clone, Copy)]
 pub enum CardFault {
     Ends,
     Number,
@@ -23,7 +23,7 @@ pub enum CardFault {
 }
 
 // What is found in a gate list that is handed in to be accepted, the coordinate of a wrong output with it.
-#[derive(Drop)]
+#[derive(Clone, Copy)]
 pub enum ListFault {
     Size,
     Form,
@@ -33,7 +33,7 @@ pub enum ListFault {
 // A variant for each number of document 01's table and one for none; document 02 took 8 out by (d), and 7 by (f). Those of a call, of a
 // card and of a list to be accepted are enums of their own: a match needs no proof of its own as long as an enum has at most a dozen
 // variants.
-#[derive(Drop)]
+#[derive(Clone, Copy)]
 pub enum Fault {
     None,
     Width,
@@ -48,7 +48,7 @@ pub enum Fault {
 }
 
 // A fault's number, 0 for none, and the two values returned beside it.
-#[derive(Drop)]
+#[derive(Clone, Copy)]
 pub struct FaultNumber(pub usize, pub usize, pub usize);
 
 fn call_number(c: CallFault) -> FaultNumber

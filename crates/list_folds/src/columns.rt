@@ -9,7 +9,7 @@ ghost use Rattle.list_folds.specs.TableFolds.{keeps};
 ghost use Rattle.list_folds.specs.Columns.{is_set, Columns, Successor, FirstFrom, Firsts};
 
 // The rows whose pairs are folded.
-#[derive(Drop)]
+#[derive(Clone, Copy)]
 pub enum Rows {
     All,
     Full,

@@ -6,7 +6,7 @@ ghost use Rattle.netlist.specs.Lists.{only};
 ghost use Rattle.list_folds.specs.Folds.{Pushed};
 
 // Whether there is a term, the running wire, and the number of the next gate.
-#[derive(Drop)]
+#[derive(Clone, Copy)]
 pub(crate) struct Fold {
     pub begun: bool,
     pub running: u32,

@@ -15,7 +15,7 @@ use crate::fold::Fold;
 use crate::{columns, fold};
 
 // What is folded for each r: first a square where the pairs are mixed, then the pairs of the kept rows, then the wire if it is given.
-#[derive(Drop)]
+#[derive(Clone, Copy)]
 pub struct Terms {
     pub rows: Rows,
     pub mixed: bool,

@@ -12,7 +12,7 @@ use crate::{AllCounts, AndCount, CountsAnswer, Numbers, XorCount, entries};
 use judging::Fault;
 
 // The three lists of a table.
-#[derive(Drop)]
+#[derive(Clone, Copy)]
 pub enum Method {
     Plain,
     Reduced,

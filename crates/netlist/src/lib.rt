@@ -9,14 +9,14 @@ pub use counts::{Method, all_counts, counts_common, counts_plain, counts_reduced
 pub use words::coordinate;
 
 // The numbers of a list's gates by kind: the papers' AND and XOR columns are never added together.
-#[derive(Drop)]
+#[derive(Clone, Copy)]
 pub struct AndCount(pub usize);
 
-#[derive(Drop)]
+#[derive(Clone, Copy)]
 pub struct XorCount(pub usize);
 
 // A fault, or none and the gates of a list by kind.
-#[derive(Drop)]
+#[derive(Clone, Copy)]
 pub struct CountsAnswer {
     pub fault: Fault,
     pub ands: AndCount,
@@ -24,7 +24,7 @@ pub struct CountsAnswer {
 }
 
 // The gates of the three lists.
-#[derive(Drop)]
+#[derive(Clone, Copy)]
 pub struct AllCounts {
     pub plain: CountsAnswer,
     pub reduced: CountsAnswer,
@@ -32,7 +32,7 @@ pub struct AllCounts {
 }
 
 // A fault, or none and the gates of a list by kind, the number of all gates, and the all-ones rows whose pairs are shared.
-#[derive(Drop)]
+#[derive(Clone, Copy)]
 pub struct Numbers {
     pub fault: Fault,
     pub ands: AndCount,

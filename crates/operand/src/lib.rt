@@ -15,21 +15,21 @@ mod judge;
 pub use bytes::{one_into, solve_into, sum_into, trace_of, turn_into, zero_into};
 
 // Coordinate i is bit i % 8 of byte i / 8, and bits at the width and above are 0.
-#[derive(Drop)]
+#[derive(Clone, Copy)]
 pub struct Operand {
     pub bytes: [u8; Operand::BYTES],
     pub width: u16,
 }
 
 // A fault, or none and an operand.
-#[derive(Drop)]
+#[derive(Clone, Copy)]
 pub struct OperandAnswer {
     pub fault: Fault,
     pub value: Operand,
 }
 
 // A fault, or none and a trace.
-#[derive(Drop)]
+#[derive(Clone, Copy)]
 pub struct TraceAnswer {
     pub fault: Fault,
     pub trace: usize,

@@ -14,7 +14,7 @@ use operand::Operand;
 use scatter::Method;
 
 // A fault, or none and the number of products that an inverse took.
-#[derive(Drop)]
+#[derive(Clone, Copy)]
 pub struct CountAnswer {
     pub fault: Fault,
     pub count: usize,

@@ -12,7 +12,7 @@ use operand::Operand;
 use scatter::Method;
 
 // What a step hands on: the power t, its k, and the number of products made.
-#[derive(Drop)]
+#[derive(Clone, Copy)]
 struct State {
     t: Operand,
     k: usize,

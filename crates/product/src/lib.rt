@@ -19,7 +19,7 @@ mod times;
 pub use bytes::{CountAnswer, inverse_into, product_into, reduced_into};
 
 // A fault, or none and an inverse with the number of products that it took.
-#[derive(Drop)]
+#[derive(Clone, Copy)]
 pub struct InverseAnswer {
     pub fault: Fault,
     pub value: Operand,

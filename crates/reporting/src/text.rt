@@ -4,7 +4,7 @@ ghost use Rattle.reporting.specs.Text.{text_of, spaced, line};
 ghost use Rattle.reporting.specs.Steps.{pushed, appended};
 
 // The first `length` bytes are the text; those after it are 0.
-#[derive(Drop)]
+#[derive(Clone, Copy)]
 pub struct Text {
     pub bytes: [u8; Text::ROOM],
     pub length: usize,

@@ -3,7 +3,7 @@ ghost use Rattle.std.specs.Prelude.{◌≡◌};
 ghost use Rattle.scatter.specs.Methods.{first_row, row_count};
 
 // By all rows, or by half of them, each with its pairs both ways round.
-#[derive(Drop)]
+#[derive(Clone, Copy)]
 pub enum Method {
     Plain,
     Reduced,

@@ -16,7 +16,7 @@ pub use symmetry::judge_symmetry;
 pub use triples::check;
 
 // A fault, or none and a number of ones.
-#[derive(Drop)]
+#[derive(Clone, Copy)]
 pub struct OnesAnswer {
     pub fault: Fault,
     pub ones: usize,
