@@ -26,23 +26,35 @@ const CRATES: [&str; 19] = [
     "nb",
 ];
 
-/// A clause ends where its braces are closed.
+/// What Rattle has and Rust hasn't: what each begins with, the brackets that it goes on to the end of, and the mark that ends it where
+/// these are closed.
+const RATTLE: [(&str, [char; 2], &str); 9] = [
+    ("requires ", ['{', '}'], ""),
+    ("requires* ", ['{', '}'], ""),
+    ("ensures ", ['{', '}'], ""),
+    ("ensures* ", ['{', '}'], ""),
+    ("ghost use ", ['{', '}'], ";"),
+    ("prove!(", ['(', ')'], ";"),
+    ("#![tactic(", ['[', ']'], ""),
+    ("#[tactic(", ['[', ']'], ""),
+    ("#[cycle(", ['[', ']'], ""),
+];
+
 fn without_contracts(text: &str) -> String {
     let mut kept = String::new();
+    let mut left_out = None;
     let mut open = 0i32;
     for line in text.lines() {
         let start = line.trim_start();
-        if open > 0 || start.starts_with("requires ") || start.starts_with("ensures ") {
-            open += line.matches('{').count() as i32 - line.matches('}').count() as i32;
-        } else if !start.starts_with("ghost use ") && start != "#[no_mangle]" {
-            if ["struct ", "pub struct ", "enum ", "pub enum ", "pub(crate) struct ", "pub(crate) enum "]
-                .iter()
-                .any(|word| start.starts_with(word))
-            {
-                kept += "#[derive(Clone, Copy)]\n";
-            }
+        left_out = left_out.or_else(|| RATTLE.iter().find(|(begins, ..)| start.starts_with(begins)));
+        let Some((_, [opens, closes], ends)) = left_out else {
             kept += line;
             kept += "\n";
+            continue;
+        };
+        open += line.matches(*opens).count() as i32 - line.matches(*closes).count() as i32;
+        if open == 0 && line.ends_with(ends) {
+            left_out = None;
         }
     }
     kept
@@ -51,7 +63,6 @@ fn without_contracts(text: &str) -> String {
 /// Paths of one crate of Rattle's become paths of a module.
 fn as_module(name: &str, text: &str) -> String {
     let mut text = without_contracts(text)
-        .replace("pub extern \"C\" fn", "pub fn")
         .replace("std::num::wrapping_add_usize", "usize::wrapping_add")
         .replace("crate::", &format!("crate::same::{name}::"));
     for other in CRATES.iter().filter(|other| **other != name) {
@@ -79,7 +90,7 @@ fn main() {
     println!("cargo:rerun-if-env-changed=NB_ARCHIVE");
     let archive = env::var("NB_ARCHIVE").map_or(root.join("target/staticlib/libnb.a"), PathBuf::from);
     println!("cargo:rerun-if-changed={}", archive.display());
-    assert!(archive.exists(), "no {}: run `rt staticlib nb` first", archive.display());
+    assert!(archive.exists(), "no {}: run ./library first", archive.display());
     println!("cargo:rustc-link-search=native={}", archive.parent().unwrap().display());
     let name = archive.file_stem().unwrap().to_str().unwrap();
     println!("cargo:rustc-link-lib=static={}", name.strip_prefix("lib").expect("an archive's name begins with lib"));

@@ -3,8 +3,9 @@
  * buffers. docs/FAULTS.md has document 01's table of faults in words.
  *
  * Every call is proved to do what is said here, for every content and every length: the contracts stand above the functions of
- * crates/nb/src and cite the definitions of crates/nb/specs. `rt staticlib nb` writes target/staticlib/libnb.a, for x86-64 Linux,
- * where size_t has 64 bits; it needs no other library than the C library, and of that memcpy and memset alone.
+ * crates/nb_c/src, and word for word above those of crates/nb/src, which they call, and cite the definitions of crates/nb/specs.
+ * `./library` writes target/staticlib/libnb.a, for x86-64 Linux, where size_t has 64 bits; it needs no other library than the C library,
+ * and of that memcpy and memset alone.
  *
  * Operands. m is the width, 2 to 571; W is m/8 rounded up. An operand is W bytes: coordinate i is bit i % 8 of byte i / 8, and bits at
  * m and above are 0. It is the sum of those of β0 to βm-1 whose coordinate is 1; β0 squared is β1, and so on round to β0. Turned k

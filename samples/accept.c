@@ -1,7 +1,7 @@
 /* Judges a gate list that the array's maker sends back: ours as it was written, and with one wire changed. Build and run, from the
  * project's root:
  *
- *     rt staticlib nb
+ *     ./library
  *     cc -std=c99 -Wall -Wextra -Iinclude samples/accept.c target/staticlib/libnb.a -o target/accept
  *     target/accept
  *

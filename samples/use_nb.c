@@ -1,7 +1,7 @@
 /* Takes in a table from its card, checks it, multiplies, inverts and raises to a power under it, writes its gate list and its card.
  * Build and run, from the project's root:
  *
- *     rt staticlib nb
+ *     ./library
  *     cc -std=c99 -Wall -Wextra -Iinclude samples/use_nb.c target/staticlib/libnb.a -o target/use_nb
  *     target/use_nb
  *

@@ -1,7 +1,7 @@
 // Takes in a table from its card, checks it, multiplies, inverts and raises to a power under it, writes its gate list and its card.
 // Build and run, from the project's root:
 //
-//     rt staticlib nb
+//     ./library
 //     rustc --edition 2021 samples/use_nb.rs -L target/staticlib -l static=nb -o target/use_nb_rs
 //     target/use_nb_rs
 //

@@ -17,7 +17,7 @@ fn printed(program: &PathBuf, input: &[u8]) -> String {
 #[test]
 fn report_program() {
     let program = PathBuf::from(env!("CARGO_MANIFEST_DIR")).join("../target/bin/report");
-    assert!(program.exists(), "no {}: run `rt check report` first", program.display());
+    assert!(program.exists(), "no {}: run `./report samples/good.card` first", program.display());
     let mut source = Source::new(3);
     let tables = all_accepted();
     let edges: Vec<_> = EDGES.into_iter().filter(|&m| m < 257).collect();

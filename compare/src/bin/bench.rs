@@ -1,6 +1,6 @@
 //! The benchmark: the proved library beside the same source compiled by rustc, on the same inputs in one run.
 //!
-//!     rt staticlib nb && cargo run --release --offline --manifest-path compare/Cargo.toml --bin bench
+//!     ./library && cargo run --release --offline --manifest-path compare/Cargo.toml --bin bench
 //!
 //! Prints the lines of docs/benchmark.csv, in nanoseconds, the ratio proved / Rust last, and on standard error how long the product
 //! takes by definition. With the argument `growth` it prints how each cost grows from width 65 to 571 instead, with `calls` the times at

@@ -55,7 +55,7 @@ module _ (test : Fault → Bool) (room : ℕ) (apart : Apart test room) where
   unfolding read_places
   places-apart m free zero s = refl
   places-apart m free (suc count) s = then-apart test (read_number s) _ (number-apart s) (λ k r.
-      pick-apart test (ltb (free + k) m) _ (refused card_place) (after-apart test _ (read_places m (free + k + 1) count r) (places-apart m (free + k + 1) count r)) apart.place)
+      pick-apart test (ltb (free + k) m) _ (refused card_place) (after-apart test ((free + k) ∷ []) (read_places m (free + k + 1) count r) (places-apart m (free + k + 1) count r)) apart.place)
 
   row_apart : (m : ℕ) (s : List ℕ) → meets test (read_row m s) ≡ false
   unfolding read_row

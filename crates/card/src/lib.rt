@@ -1,4 +1,6 @@
 // Cards, the serialised form of a table that document 01 lays down: reading one.
+#![tactic(auto)]
+
 use judging::Fault;
 
 mod reading;

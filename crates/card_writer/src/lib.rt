@@ -1,4 +1,6 @@
 // Writing a table's card.
+#![tactic(auto)]
+
 mod writing;
 
 pub use writing::write;

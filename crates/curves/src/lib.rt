@@ -1,4 +1,6 @@
 // Points that FIPS 186 publishes: whether one lies on its curve under a table, by the calls on operands.
+#![tactic(auto)]
+
 ghost use Rattle.std.specs.Prelude.{◌≡◌};
 ghost use Rattle.curves.specs.Curve.{point_on_curve};
 

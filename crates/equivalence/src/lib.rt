@@ -1,5 +1,7 @@
 // Accepting a gate list from elsewhere: combinational equivalence of the list and a table's product, by the products that are summed in
 // each gate. All is judged in document 02's order, (b), and nothing is written.
+#![tactic(auto)]
+
 ghost use Rattle.std.specs.Prelude.{◌≡◌};
 ghost use Rattle.equivalence.specs.Calls.{accept_call};
 

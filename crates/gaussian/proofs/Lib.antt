@@ -25,3 +25,6 @@ pub mod AddLaws
 pub mod TermLaws
 pub mod Answers
 pub mod Theorems
+mod PrimeField
+mod DiscreteLogarithm
+mod TypeLogarithm

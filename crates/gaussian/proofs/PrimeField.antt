@@ -121,9 +121,9 @@ module _ {q : ℕ} where
   unfoldable pub nonzero : Vec q
   nonzero x = not (β o x)
 
-  pub nonzero-o : nonzero o ≡ false
+  pub nonzero-o : (x : Ix q) → x ≡ o → nonzero x ≡ false
   unfolding nonzero
-  nonzero-o = ap not (β-refl o)
+  nonzero-o x e = ap nonzero e ∙ ap not (β-refl o)
 
   pub nonzero-at : (x : Ix q) → x ≢ o → nonzero x ≡ true
   unfolding nonzero
@@ -226,7 +226,7 @@ module _ {q : ℕ} (prime : Prime (suc q)) where
 
   factor-o : (y : Ix q) → factor o y ≡ one
   unfolding factor
-  factor-o y = ap (λ b. choose b y one) nonzero-o
+  factor-o y = ap (λ b. choose b y one) (nonzero-o o refl)
 
   factor-at : (x y : Ix q) → x ≢ o → factor x y ≡ y
   unfolding factor

@@ -1,4 +1,6 @@
 // Gaussian normal bases: the type of each width, and the table of a width's type.
+#![tactic(auto)]
+
 ghost use Rattle.std.specs.Prelude.{◌≡◌, [], ◌∷◌, ◌≤◌, length};
 ghost use Rattle.gf2.specs.Operands.{max_width};
 ghost use Rattle.judging.specs.Causes.{fault_of};

@@ -1,4 +1,6 @@
 // Faults, and what a call judges: each part of an argument by itself, in document 01's order.
+#![tactic(auto)]
+
 mod fault;
 mod parts;
 

@@ -1,5 +1,7 @@
 // The bytes of a carried operand as limbs of 64 bits, on which the kernels work: coordinate i is bit i % 64 of limb i / 64.
 // The sizes of the house stand here.
+#![tactic(auto)]
+
 mod bytes;
 mod limbs;
 mod slices;

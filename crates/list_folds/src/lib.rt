@@ -1,4 +1,6 @@
 // The folds of a gate list, written into a buffer of words. Their terms are read from the columns of the table.
+#![tactic(auto)]
+
 ghost use Rattle.std.specs.Prelude.{◌≡◌};
 ghost use Rattle.std.proofs.lemmas.List.Edits.{sets};
 ghost use Rattle.list_pairs.specs.Pairs.{GatesPut};

@@ -1,4 +1,6 @@
 // The first part of a gate list, written into a buffer of words: the gates that each pair gives by itself.
+#![tactic(auto)]
+
 mod pairs;
 mod store;
 

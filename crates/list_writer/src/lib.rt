@@ -1,4 +1,6 @@
 // Writing the gate lists of a table.
+#![tactic(auto)]
+
 mod lists;
 
 pub use lists::{list_common, list_plain, list_reduced};

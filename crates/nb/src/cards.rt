@@ -6,8 +6,7 @@ ghost use Rattle.nb.specs.Calls.{card_answer};
 
 use crate::packing;
 
-#[unsafe(no_mangle)]
-pub extern "C" fn nb_card_write(width: u64, table: &[u8], out: &mut [u8]) -> u64
+pub fn nb_card_write(width: u64, table: &[u8], out: &mut [u8]) -> u64
     ensures { (result ≡ card_answer (write_call width table.now out.old))
         × (out.new ≡ write_card width table.now out.old) }
 {
@@ -16,8 +15,7 @@ pub extern "C" fn nb_card_write(width: u64, table: &[u8], out: &mut [u8]) -> u64
     packing::answer(fault, written.value, 0)
 }
 
-#[unsafe(no_mangle)]
-pub extern "C" fn nb_card_read(card: &[u8], table: &mut [u8]) -> u64
+pub fn nb_card_read(card: &[u8], table: &mut [u8]) -> u64
     ensures { (result ≡ card_answer (read_call card.now table.old))
         × (table.new ≡ read_table card.now table.old) }
 {

@@ -6,8 +6,7 @@ ghost use Rattle.nb.specs.Calls.{type_answer};
 use crate::packing;
 
 // Not a call of document 01: the type that nb_draw would return, without the table.
-#[unsafe(no_mangle)]
-pub extern "C" fn nb_type(width: u64) -> u64
+pub fn nb_type(width: u64) -> u64
     ensures { result ≡ type_answer (type_call width) }
 {
     let found = gaussian::type_of(width as usize);
@@ -15,8 +14,7 @@ pub extern "C" fn nb_type(width: u64) -> u64
     packing::answer(fault, found.t, 0)
 }
 
-#[unsafe(no_mangle)]
-pub extern "C" fn nb_draw(width: u64, table: &mut [u8]) -> u64
+pub fn nb_draw(width: u64, table: &mut [u8]) -> u64
     ensures { (result ≡ type_answer (draw_call width (length table.old)))
         × (table.new ≡ drawn_into width table.old) }
 {

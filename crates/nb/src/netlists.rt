@@ -21,60 +21,46 @@ fn both(counts: CountsAnswer) -> u64
     packing::answer(fault, ands.0, xors.0)
 }
 
-#[unsafe(no_mangle)]
-pub extern "C" fn nb_counts_plain(width: u64, table: &[u8]) -> u64
+pub fn nb_counts_plain(width: u64, table: &[u8]) -> u64
     ensures { result ≡ counts_answer (counts_plain_call width table.now) }
 {
     both(netlist::counts_plain(width as usize, table))
 }
 
-#[unsafe(no_mangle)]
-pub extern "C" fn nb_counts_reduced(width: u64, table: &[u8]) -> u64
+pub fn nb_counts_reduced(width: u64, table: &[u8]) -> u64
     ensures { result ≡ counts_answer (counts_reduced_call width table.now) }
 {
     both(netlist::counts_reduced(width as usize, table))
 }
 
-#[unsafe(no_mangle)]
-pub extern "C" fn nb_counts_common(width: u64, table: &[u8]) -> u64
+pub fn nb_counts_common(width: u64, table: &[u8]) -> u64
     ensures { result ≡ counts_answer (counts_common_call width table.now) }
 {
     both(netlist::counts_common(width as usize, table))
 }
 
-#[unsafe(no_mangle)]
-pub extern "C" fn nb_list_plain(width: u64, table: &[u8], out: &mut [u32]) -> u64
+pub fn nb_list_plain(width: u64, table: &[u8], out: &mut [u32]) -> u64
     ensures { (result ≡ counts_answer (list_call width table.now (plain width table.now) out.old))
         × (out.new ≡ list_buffer width table.now (plain width table.now) out.old) }
 {
     both(list_writer::list_plain(width as usize, table, out))
 }
 
-#[unsafe(no_mangle)]
-pub extern "C" fn nb_list_reduced(width: u64, table: &[u8], out: &mut [u32]) -> u64
+pub fn nb_list_reduced(width: u64, table: &[u8], out: &mut [u32]) -> u64
     ensures { (result ≡ counts_answer (list_call width table.now (reduced width table.now) out.old))
         × (out.new ≡ list_buffer width table.now (reduced width table.now) out.old) }
 {
     both(list_writer::list_reduced(width as usize, table, out))
 }
 
-#[unsafe(no_mangle)]
-pub extern "C" fn nb_list_common(width: u64, table: &[u8], out: &mut [u32]) -> u64
+pub fn nb_list_common(width: u64, table: &[u8], out: &mut [u32]) -> u64
     ensures { (result ≡ counts_answer (list_call width table.now (common width table.now) out.old))
         × (out.new ≡ list_buffer width table.now (common width table.now) out.old) }
 {
     both(list_writer::list_common(width as usize, table, out))
 }
 
-#[unsafe(no_mangle)]
-pub extern "C" fn nb_run(
-    width: u64,
-    list: &[u32],
-    a: &[u8],
-    b: &[u8],
-    res: &mut [u8],
-    wires: &mut [u8],
-) -> u64
+pub fn nb_run(width: u64, list: &[u32], a: &[u8], b: &[u8], res: &mut [u8], wires: &mut [u8]) -> u64
     ensures { (result ≡ fault_answer (run_bytes_causes width list.now a.now b.now res.old wires.old))
         × (res.new ≡ ran_result width list.now a.now b.now res.old wires.old)
         × (wires.new ≡ ran_wires width list.now a.now b.now res.old wires.old) }
@@ -87,8 +73,7 @@ pub extern "C" fn nb_run(
 }
 
 // Not a call of document 01 but of document 02, (b): whether a list from elsewhere forms the table's product.
-#[unsafe(no_mangle)]
-pub extern "C" fn nb_accept(width: u64, table: &[u8], list: &[u32]) -> u64
+pub fn nb_accept(width: u64, table: &[u8], list: &[u32]) -> u64
     ensures { result ≡ counts_answer (accept_call width table.now list.now) }
 {
     both(equivalence::accept(width as usize, table, list))

@@ -6,40 +6,35 @@ ghost use Rattle.nb.specs.Calls.{fault_answer, trace_answer};
 
 use crate::packing;
 
-#[unsafe(no_mangle)]
-pub extern "C" fn nb_zero(width: u64, res: &mut [u8]) -> u64
+pub fn nb_zero(width: u64, res: &mut [u8]) -> u64
     ensures { (result ≡ fault_answer (constant_causes width res.old))
         × (res.new ≡ zero_into width res.old) }
 {
     packing::answer(operand::zero_into(width as usize, res), 0, 0)
 }
 
-#[unsafe(no_mangle)]
-pub extern "C" fn nb_one(width: u64, res: &mut [u8]) -> u64
+pub fn nb_one(width: u64, res: &mut [u8]) -> u64
     ensures { (result ≡ fault_answer (constant_causes width res.old))
         × (res.new ≡ one_into width res.old) }
 {
     packing::answer(operand::one_into(width as usize, res), 0, 0)
 }
 
-#[unsafe(no_mangle)]
-pub extern "C" fn nb_turn(width: u64, a: &[u8], k: u64, res: &mut [u8]) -> u64
+pub fn nb_turn(width: u64, a: &[u8], k: u64, res: &mut [u8]) -> u64
     ensures { (result ≡ fault_answer (turn_bytes_causes width a.now res.old))
         × (res.new ≡ turn_into width a.now k res.old) }
 {
     packing::answer(operand::turn_into(width as usize, a, k as usize, res), 0, 0)
 }
 
-#[unsafe(no_mangle)]
-pub extern "C" fn nb_sum(width: u64, a: &[u8], b: &[u8], res: &mut [u8]) -> u64
+pub fn nb_sum(width: u64, a: &[u8], b: &[u8], res: &mut [u8]) -> u64
     ensures { (result ≡ fault_answer (sum_bytes_causes width a.now b.now res.old))
         × (res.new ≡ sum_into width a.now b.now res.old) }
 {
     packing::answer(operand::sum_into(width as usize, a, b, res), 0, 0)
 }
 
-#[unsafe(no_mangle)]
-pub extern "C" fn nb_trace(width: u64, a: &[u8]) -> u64
+pub fn nb_trace(width: u64, a: &[u8]) -> u64
     ensures { result ≡ trace_answer width a.now }
 {
     let found = operand::trace_of(width as usize, a);
@@ -47,8 +42,7 @@ pub extern "C" fn nb_trace(width: u64, a: &[u8]) -> u64
     packing::answer(fault, found.trace, 0)
 }
 
-#[unsafe(no_mangle)]
-pub extern "C" fn nb_solve(width: u64, c: &[u8], res: &mut [u8]) -> u64
+pub fn nb_solve(width: u64, c: &[u8], res: &mut [u8]) -> u64
     ensures { (result ≡ fault_answer (solve_bytes_causes width c.now res.old))
         × (res.new ≡ solve_into width c.now res.old) }
 {

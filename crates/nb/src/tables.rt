@@ -7,15 +7,13 @@ ghost use Rattle.nb.specs.Calls.{fault_answer, ones_answer, inverse_answer};
 
 use crate::packing;
 
-#[unsafe(no_mangle)]
-pub extern "C" fn nb_check(width: u64, table: &[u8]) -> u64
+pub fn nb_check(width: u64, table: &[u8]) -> u64
     ensures { result ≡ fault_answer (check_causes width table.now) }
 {
     packing::answer(table::check(width as usize, table), 0, 0)
 }
 
-#[unsafe(no_mangle)]
-pub extern "C" fn nb_ones(width: u64, table: &[u8]) -> u64
+pub fn nb_ones(width: u64, table: &[u8]) -> u64
     ensures { result ≡ ones_answer width table.now }
 {
     let counted = table::ones(width as usize, table);
@@ -23,8 +21,7 @@ pub extern "C" fn nb_ones(width: u64, table: &[u8]) -> u64
     packing::answer(fault, counted.ones, 0)
 }
 
-#[unsafe(no_mangle)]
-pub extern "C" fn nb_product(width: u64, table: &[u8], a: &[u8], b: &[u8], res: &mut [u8]) -> u64
+pub fn nb_product(width: u64, table: &[u8], a: &[u8], b: &[u8], res: &mut [u8]) -> u64
     ensures { (result ≡ fault_answer (product_bytes_causes width table.now a.now b.now res.old))
         × (res.new ≡ product_into width table.now a.now b.now res.old) }
 {
@@ -35,14 +32,7 @@ pub extern "C" fn nb_product(width: u64, table: &[u8], a: &[u8], b: &[u8], res: 
     )
 }
 
-#[unsafe(no_mangle)]
-pub extern "C" fn nb_product_reduced(
-    width: u64,
-    table: &[u8],
-    a: &[u8],
-    b: &[u8],
-    res: &mut [u8],
-) -> u64
+pub fn nb_product_reduced(width: u64, table: &[u8], a: &[u8], b: &[u8], res: &mut [u8]) -> u64
     ensures { (result ≡ fault_answer (reduced_bytes_causes width table.now a.now b.now res.old))
         × (res.new ≡ reduced_into width table.now a.now b.now res.old) }
 {
@@ -53,8 +43,7 @@ pub extern "C" fn nb_product_reduced(
     )
 }
 
-#[unsafe(no_mangle)]
-pub extern "C" fn nb_inverse(width: u64, table: &[u8], a: &[u8], res: &mut [u8]) -> u64
+pub fn nb_inverse(width: u64, table: &[u8], a: &[u8], res: &mut [u8]) -> u64
     ensures { (result ≡ inverse_answer width table.now a.now res.old)
         × (res.new ≡ inverse_into width table.now a.now res.old) }
 {

@@ -1,4 +1,6 @@
 // Gate lists of a table: counting their gates.
+#![tactic(auto)]
+
 use judging::Fault;
 
 mod counts;

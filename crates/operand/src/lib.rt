@@ -1,5 +1,7 @@
 // Operands of GF(2^m) in a normal basis: the type, and every call of document 01 on operands alone, carried by value and as W bytes.
 // Each call judges what it is given; a fault stands beside the operand of width 0.
+#![tactic(auto)]
+
 ghost use Rattle.std.specs.Prelude.{◌≡◌, true, ◌≤◌, length};
 ghost use Rattle.gf2.specs.Operands.{max_width};
 ghost use Rattle.judging.specs.Faults.{is_none};

@@ -1,5 +1,7 @@
 // The base points that FIPS 186 publishes for B-163, K-163, K-233, B-283, K-409 and K-571, after the coefficients a and b of each curve, tried under the drawn
 // tables of their widths by the proved calls. One has all coordinates 1.
+#![tactic(auto)]
+
 ghost use Rattle.std.specs.Prelude.{◌≤◌};
 ghost use Rattle.gf2.specs.Operands.{max_width};
 

@@ -1,5 +1,7 @@
 // Texts, bytes and words on standard output, for the test programs. No contract can say what is written: of these calls it is proved that
 // they are safe and end.
+#![tactic(auto)]
+
 ghost use Rattle.std.specs.Prelude.{◌<◌};
 
 use libc::STDOUT_FILENO;

@@ -1,5 +1,7 @@
 // Products of operands under a table, plain and reduced, and the inverse, carried by value and as W bytes.
 // Each call judges what it is given; a fault stands beside the operand of width 0.
+#![tactic(auto)]
+
 ghost use Rattle.std.specs.Prelude.{◌≡◌};
 ghost use Rattle.product.specs.Calls.{product_call, reduced_call, inverse_call};
 ghost use Rattle.product.specs.Inner.{multiply_call};

@@ -1,4 +1,6 @@
 // The trace of a carried operand, and its sums of coordinates from the lowest on, which solve z² + z = c.
+#![tactic(auto)]
+
 ghost use Rattle.std.specs.Prelude.{◌≡◌, suc, ◌+◌, ◌*◌, ◌/◌, ◌%◌, ◌^◌, ◌<◌, length};
 ghost use Rattle.gf2.specs.Sums.{sum};
 ghost use Rattle.gf2.specs.Coordinates.{coord, value};

@@ -1,5 +1,7 @@
 // The report program: reads a card on standard input and prints what document 01 lays down.
 // What it prints is worked out by `reporting::report`; here the card is read and the text written.
+#![tactic(auto)]
+
 use libc::{STDIN_FILENO, STDOUT_FILENO};
 
 fn main() {

@@ -1,4 +1,6 @@
 // What the report program prints, as a function of the bytes that it reads.
+#![tactic(auto)]
+
 mod printing;
 mod text;
 

@@ -1,5 +1,7 @@
 // Running a gate list on two operands: the values of its wires, then the result. All is judged before anything is written.
 // One call takes operands that are carried with their width, the other operands of W bytes.
+#![tactic(auto)]
+
 ghost use Rattle.std.specs.Prelude.{◌≡◌, ◌≤◌, length};
 ghost use Rattle.gf2.specs.Operands.{max_width, bytes_for};
 ghost use Rattle.judging.specs.Causes.{fault_of};

@@ -1,5 +1,7 @@
 // The kernels of a product: its two methods; an operand written twice, the coordinates from one on, products of coordinates;
 // what the ones of a row add at their slots, and the sum of all slots.
+#![tactic(auto)]
+
 mod methods;
 mod slots;
 mod windows;

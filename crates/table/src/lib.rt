@@ -1,4 +1,6 @@
 // Tables of products of basis elements: their shape, their rows, their ones, the four that are carried, and the check.
+#![tactic(auto)]
+
 use judging::Fault;
 
 mod carried;

@@ -1,4 +1,6 @@
 // The turn of a carried operand, in limbs and in bytes: its coordinates moved up, and those that leave at the width moved to the front.
+#![tactic(auto)]
+
 ghost use Rattle.std.specs.Prelude.{◌≡◌, ◌+◌, ◌%◌, ◌<◌, ◌≤◌};
 ghost use Rattle.gf2.specs.Coordinates.{coord, pack};
 ghost use Rattle.gf2.specs.Operands.{max_width, carried_bytes, below};

@@ -1,4 +1,6 @@
 // Document 01's examples that are not starred, run through the proved calls.
+#![tactic(auto)]
+
 mod examples;
 
 fn lists()

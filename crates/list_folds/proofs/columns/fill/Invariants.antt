@@ -1,0 +1,12 @@
+-- `list_folds::columns::fill` meets its contract. The invariant: the columns have the rows before d.
+use mathlib.Core.Path.{◌≡◌}
+use Prim.Native.Nat.{◌-◌, ◌≤◌}
+use lib.ListN.{length}
+use Rattle.list_folds.specs.Columns.{Columns}
+use Rattle.list_folds.proofs.columns.fill.Given as goal
+
+abbrev pub invariant-loop-d : goal.invariant-loop-d
+invariant-loop-d l = (l.d ≤ l.width) × (Columns l.rows l.width l.table l.d l.columns) × (length l.columns ≡ length l.initial.columns)
+
+abbrev pub decreases-loop-d : goal.decreases-loop-d
+decreases-loop-d l = l.width - l.d

@@ -1,0 +1,35 @@
+-- `list_folds::terms::push_run` meets its contract. The invariant: the ones before d are pushed, and d is one or the end.
+use mathlib.Core.Path.{◌≡◌, refl, ◌∙◌}
+use mathlib.Core.Bool.{true}
+use Prim.Native.Nat.{◌-◌}
+use native.Mathlib.Omega.{arith}
+use Rattle.list_folds.specs.Columns.{is_set}
+use Rattle.list_folds.proofs.WriteLaws.{push-most}
+use Rattle.list_folds.proofs.TermLaws.{run-most, run-first, run-next}
+use Rattle.list_folds.proofs.terms.push_run.Goals as goal
+
+pub loop-d-init : goal.loop-d-init
+loop-d-init c =
+    let a = c.args in
+    let n = c.next_one-d.ensures in
+    (n.least, n.most, n.found, run-first (is_set a.columns.now a.at) a.start a.from n, refl)
+
+pub push-more-requires : goal.push-more-requires
+push-more-requires c =
+    let a = c.args in
+    let p = c.requires in
+    let w = c.loop-d in
+    (p.most, omega (arith, p.gates, push-most w.invariant.3, run-most (is_set a.columns.now a.at) a.start a.from (w.d - a.from), c.loop-d-test.true))
+
+pub loop-d-preserved : goal.loop-d-preserved
+loop-d-preserved c =
+    let a = c.args in
+    let w = c.loop-d in
+    let n = c.next_one-after.ensures in
+    (omega (arith, n.least, w.invariant.0), n.most, n.found, run-next (is_set a.columns.now a.at) a.start a.from w.invariant.0 (w.invariant.2 c.loop-d-test.true) w.invariant.3 c.push-more.ensures n, c.push-more.auto.out ∙ w.invariant.4)
+
+pub returns : goal.returns
+returns c =
+    let w = c.loop-d in
+    let e : w.d ≡ c.args.to = omega (arith, w.invariant.1) in
+    rw e at w.invariant.3

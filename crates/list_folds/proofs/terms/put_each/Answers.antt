@@ -1,0 +1,33 @@
+-- `list_folds::terms::put_each` meets its contract. The invariant: the folds before r are stored.
+use mathlib.Core.Path.{◌≡◌, refl, ◌∙◌}
+use Prim.Native.Nat.{◌+◌, ◌*◌, ◌≤◌}
+use native.Mathlib.Omega.{arith}
+use Rattle.netlist.proofs.TableLaws.{width-times, width-square}
+use Rattle.gf2.specs.Operands.{max_width}
+use Rattle.list_folds.proofs.TermLaws.{terms-most}
+use Rattle.list_folds.proofs.FoldedLaws.{folds-none, folds-few, folds-more}
+use Rattle.list_folds.proofs.terms.put_each.Goals as goal
+
+pub loop-r-init : goal.loop-r-init
+loop-r-init c = (omega arith, folds-none, refl, refl)
+
+pub fold_terms-f-requires : goal.fold_terms-f-requires
+fold_terms-f-requires c =
+    let w = c.loop-r in
+    let a = c.args in
+    let h = c.requires.0.room.greatest in
+    let l : w.r ≤ max_width = omega (arith, c.requires.1, w.invariant.0) in
+    let few = folds-few (a.width * a.width + 1) w.invariant.1 (terms-most a.t a.width a.columns.now) in
+    let q = width-square a.width a.width h h in
+    (c.requires.0, omega (arith, c.requires.1, c.loop-r-test.true), omega (arith, c.requires.2, few, q, width-times w.r (a.width * a.width + 1) (max_width * max_width + 1) l (omega (arith, q))))
+
+pub loop-r-preserved : goal.loop-r-preserved
+loop-r-preserved c =
+    let w = c.loop-r in
+    (omega (arith, c.loop-r-test.true), folds-more w.invariant.1 c.fold_terms-f.ensures c.put.ensures, c.fold_terms-f.auto.out ∙ w.invariant.2, c.put.auto.out ∙ w.invariant.3)
+
+pub returns : goal.returns
+returns c =
+    let w = c.loop-r in
+    let e : w.r ≡ c.args.count = omega arith in
+    record { gates_put = rw e at w.invariant.1.put; ends_after = rw e at w.invariant.1.sums }

@@ -1,0 +1,12 @@
+-- `product::judge::judge_rules` meets its contract.
+use Rattle.judging.specs.Causes.{fault_of}
+use Rattle.product.proofs.Judged.{rules-after}
+use Rattle.product.proofs.judge.judge_rules.Goals as goal
+
+pub returns-in-Plain : goal.returns-in-Plain
+unfolding fault_of
+returns-in-Plain c = rw c.in-Plain.is
+
+pub returns-in-Reduced : goal.returns-in-Reduced
+returns-in-Reduced c =
+    rw c.in-Reduced.is (rules-after (c.requires.least, c.requires.greatest) c.args.table.now c.requires c.judge_symmetry.ensures)

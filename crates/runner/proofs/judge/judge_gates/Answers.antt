@@ -1,0 +1,56 @@
+-- `runner::judge::judge_gates` meets its contract.
+use mathlib.Core.Path.{◌≡◌, sym, ap, ◌∙◌}
+use mathlib.Core.Bool.{Bool}
+use mathlib.Core.List.{List, [], ◌∷◌}
+use Prim.Native.Nat.{ℕ}
+use native.Mathlib.Omega.{arith}
+use borrow.Author.Tests.{not-true, not-false}
+use Rattle.gf2.specs.Sums.{every}
+use Rattle.judging.specs.FaultTable.{bad_width}
+use Rattle.judging.proofs.CauseLaws.{fine, judged, ends, follows}
+use Rattle.judging.proofs.Passed.{IsWidth, is-width}
+use Rattle.netlist.specs.Running.{gate_count}
+use Rattle.netlist.specs.Judgements.{is_gate}
+use Rattle.runner.specs.Causes.{bad_gates}
+use Rattle.runner.proofs.JudgeLaws.{gates-bad, outputs-bad, gates-good}
+use Rattle.runner.proofs.judge.judge_gates.Goals as goal
+use Rattle.runner.proofs.judge.judge_gates.Goals.{Else-not-is_none}
+
+-- the test of all gates, where they are counted
+counted : (m : ℕ) (list : List ℕ) {g : ℕ} {b v : Bool} → g ≡ gate_count list → b ≡ every g (is_gate m list) → b ≡ v → every (gate_count list) (is_gate m list) ≡ v
+counted m list e h q = ap (λ g. every g (is_gate m list)) (sym e) ∙ sym h ∙ q
+
+-- where the width has passed
+width : (c : Else-not-is_none) → IsWidth c.args.width
+width c =
+    let cs = bad_width c.args.width ∷ [] in
+    is-width _ (fine cs (judged cs [] c.judge_width-first.ensures c.is_none.ensures c.if-not-is_none.false)).0
+
+pub returns-then-not-is_none : goal.returns-then-not-is_none
+returns-then-not-is_none c =
+    let a = c.args in
+    ends (bad_width a.width ∷ []) (bad_gates a.width a.list.now ∷ []) c.judge_width-first.ensures c.is_none.ensures c.if-not-is_none.true
+
+pub are_gates-requires : goal.are_gates-requires
+are_gates-requires c = ((width (goal.at.are_gates-requires c).Else-not-is_none).greatest, omega (arith, c.word-g.ensures.1))
+
+pub returns-then-not-are_gates : goal.returns-then-not-are_gates
+returns-then-not-are_gates c =
+    let a = c.args in
+    follows (bad_width a.width ∷ []) (bad_gates a.width a.list.now ∷ []) c.judge_width-first.ensures c.is_none.ensures c.if-not-is_none.false
+    (gates-bad a.width a.list.now (counted a.width a.list.now c.word-g.ensures.0 c.are_gates.ensures c.if-not-are_gates.true))
+
+pub are_outputs-requires : goal.are_outputs-requires
+are_outputs-requires c = ((width (goal.at.are_outputs-requires c).Else-not-is_none).greatest, omega (arith, c.word-g.ensures.1), c.word-g.ensures.0)
+
+pub returns-then-are_outputs : goal.returns-then-are_outputs
+returns-then-are_outputs c =
+    let a = c.args in
+    follows (bad_width a.width ∷ []) (bad_gates a.width a.list.now ∷ []) c.judge_width-first.ensures c.is_none.ensures c.if-not-is_none.false
+    (gates-good a.width a.list.now (counted a.width a.list.now c.word-g.ensures.0 c.are_gates.ensures c.if-not-are_gates.false) (sym c.are_outputs.ensures ∙ c.if-are_outputs.true))
+
+pub returns-else-are_outputs : goal.returns-else-are_outputs
+returns-else-are_outputs c =
+    let a = c.args in
+    follows (bad_width a.width ∷ []) (bad_gates a.width a.list.now ∷ []) c.judge_width-first.ensures c.is_none.ensures c.if-not-is_none.false
+    (outputs-bad a.width a.list.now (sym c.are_outputs.ensures ∙ c.if-are_outputs.false))

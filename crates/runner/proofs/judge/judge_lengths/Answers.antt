@@ -1,0 +1,19 @@
+-- `runner::judge::judge_lengths` meets its contract.
+use mathlib.Core.List.{[], ◌∷◌}
+use borrow.Author.Tests.{not-true, not-false}
+use Rattle.judging.specs.FaultTable.{bad_length}
+use Rattle.judging.proofs.CauseLaws.{ends, follows}
+use Rattle.runner.proofs.judge.judge_lengths.Goals as goal
+
+pub returns-then-not-is_none : goal.returns-then-not-is_none
+returns-then-not-is_none c = ends (bad_length _ _ ∷ []) (bad_length _ _ ∷ bad_length _ _ ∷ []) c.judge_length-first.ensures c.is_none.ensures c.if-not-is_none.true
+
+pub returns-then-not-is_none-2 : goal.returns-then-not-is_none-2
+returns-then-not-is_none-2 c =
+    follows (bad_length _ _ ∷ []) (bad_length _ _ ∷ bad_length _ _ ∷ []) c.judge_length-first.ensures c.is_none.ensures c.if-not-is_none.false
+    (ends (bad_length _ _ ∷ []) (bad_length _ _ ∷ []) c.judge_length-second.ensures c.is_none-2.ensures c.if-not-is_none-2.true)
+
+pub returns : goal.returns
+returns c =
+    follows (bad_length _ _ ∷ []) (bad_length _ _ ∷ bad_length _ _ ∷ []) c.judge_length-first.ensures c.is_none.ensures c.if-not-is_none.false
+    (follows (bad_length _ _ ∷ []) (bad_length _ _ ∷ []) c.judge_length-second.ensures c.is_none-2.ensures c.if-not-is_none-2.false c.judge_length.ensures)

@@ -1,0 +1,50 @@
+-- `runner::judge::judge_words` meets its contract.
+use mathlib.Core.Path.{◌≡◌, sym, ap, ◌∙◌}
+use mathlib.Core.List.{[], ◌∷◌}
+use Prim.Native.Nat.{◌+◌, ◌*◌}
+use native.Mathlib.Omega.{arith}
+use lib.ListN.{length, get_or}
+use borrow.Author.Tests.{lt-ltb, le-ltb, not-true, not-false}
+use Rattle.judging.specs.Causes.{fault_of}
+use Rattle.judging.specs.FaultTable.{bad_length}
+use Rattle.judging.proofs.CauseLaws.{fine, judged, ends, follows, head-holds, head-fails}
+use Rattle.judging.proofs.Passed.{as-laid-down}
+use Rattle.runner.specs.Causes.{few_words, other_width, bad_words}
+use Rattle.runner.proofs.judge.judge_words.Goals as goal
+use Rattle.runner.proofs.judge.judge_words.Goals.{After-is_none}
+
+-- the first word judged, and that there are two
+first : (c : After-is_none) → let a = c.args in c.judge_length-first.result ≡ fault_of (other_width a.width a.list.now ∷ [])
+first c =
+    let a = c.args in
+    c.judge_length-first.ensures ∙ ap (λ n. fault_of (bad_length n a.width ∷ [])) c.word.ensures.0
+
+pub returns-then-list-lt2 : goal.returns-then-list-lt2
+returns-then-list-lt2 c =
+    let a = c.args in
+    sym (head-holds (few_words a.list.now) (other_width a.width a.list.now ∷ bad_words a.width a.list.now ∷ []) (lt-ltb (length a.list.now) 2 c.if-list-lt2.true))
+
+pub returns-then-not-is_none : goal.returns-then-not-is_none
+returns-then-not-is_none c =
+    let a = c.args in
+    let m = a.width in
+    let l = a.list.now in
+    ends (other_width m l ∷ []) (bad_words m l ∷ []) (first (goal.at.returns-then-not-is_none c).After-is_none) c.is_none.ensures c.if-not-is_none.true
+    ∙ sym (head-fails (few_words l) (other_width m l ∷ bad_words m l ∷ []) (le-ltb (length l) 2 c.if-list-lt2.false))
+
+-- the width is a word
+pub overflow_add-word-2 : goal.overflow_add-word-2
+overflow_add-word-2 c =
+    let a = c.args in
+    let cs = other_width a.width a.list.now ∷ [] in
+    let same = as-laid-down (get_or a.list.now 0 0) a.width (fine cs (judged cs [] (first (goal.at.overflow_add-word-2 c).After-is_none) c.is_none.ensures c.if-not-is_none.false)).0 in
+    omega (arith, same, c.word.ensures, c.word-2.ensures.1)
+
+pub returns : goal.returns
+returns c =
+    let a = c.args in
+    let m = a.width in
+    let l = a.list.now in
+    follows (other_width m l ∷ []) (bad_words m l ∷ []) (first (goal.at.returns c).After-is_none) c.is_none.ensures c.if-not-is_none.false
+    (c.judge_length.ensures ∙ ap (λ g. fault_of (bad_length (length l) (2 + 3 * g + m) ∷ [])) c.word-2.ensures.0)
+    ∙ sym (head-fails (few_words l) (other_width m l ∷ bad_words m l ∷ []) (le-ltb (length l) 2 c.if-list-lt2.false))

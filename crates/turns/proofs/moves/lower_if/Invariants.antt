@@ -1,0 +1,14 @@
+-- `turns::moves::lower_if` meets its contract.
+use Prim.Native.Nat.{◌-◌}
+use Rattle.gf2.specs.Operands.{choose}
+use Rattle.gf2.proofs.Loops.{Filled}
+use Rattle.limbs.specs.Limbs.{carried_limbs, reach}
+use Rattle.limbs.proofs.RaisedLimbs.{limb_of}
+use Rattle.turns.proofs.Turns.{lowered}
+use Rattle.turns.proofs.moves.lower_if.Given as goal
+
+abbrev pub invariant-loop-w : goal.invariant-loop-w
+invariant-loop-w l = Filled (reach l.m) (λ v. choose l.c (lowered (reach l.m) l.n (limb_of l.x) v) (limb_of l.x v)) l.initial.out l.out l.w
+
+abbrev pub decreases-loop-w : goal.decreases-loop-w
+decreases-loop-w l = carried_limbs - l.w
