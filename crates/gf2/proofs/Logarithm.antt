@@ -1,7 +1,7 @@
 -- The logarithm rounded down, `log2`.
 -- log2-bounds: 2^(log2 n) ≤ n < 2^(log2 n + 1). top_digit: the highest binary digit is 1. log2-small, log2-half, log2-le: by halving.
 use mathlib.Core.Path.{◌≡◌, refl, sym, ap}
-use Prim.Native.Nat.{ℕ, zero, suc, ◌+◌, ◌-◌, ◌/◌, ◌^◌, ◌<◌, ◌≤◌}
+use Prim.Native.Nat.{ℕ, zero, suc, ◌+◌, ◌/◌, ◌^◌, ◌<◌, ◌≤◌}
 use native.Mathlib.Nat.{pow-suc, div-eq_of_lt-le}
 use native.Mathlib.Decide.{dec_lt}
 use native.Mathlib.Omega.{arith}

@@ -10,7 +10,7 @@ use native.Mathlib.Omega.{arith}
 use lib.ListN.{length, replicate}
 use Rattle.gf2.specs.Sums.{sum}
 use Rattle.gf2.specs.Coordinates.{coord}
-use Rattle.gf2.specs.Operands.{carried_bytes, max_width, minus, choose, below}
+use Rattle.gf2.specs.Operands.{max_width, minus, choose, below}
 use Rattle.gf2.specs.Tables.{row}
 use Rattle.gf2.proofs.Sums.{sum-ext, sum-mod}
 use Rattle.gf2.proofs.Coordinates.{coord-lt}

@@ -5,6 +5,7 @@ ghost use Rattle.judging.specs.Faults.{number_of};
 ghost use Rattle.card_writer.specs.Calls.{write_card};
 
 use operand::{Operand, OperandAnswer};
+use std::io;
 
 // The number of an answer's fault, 0 for none.
 fn fault_of(answer: OperandAnswer) -> usize
@@ -16,18 +17,18 @@ fn fault_of(answer: OperandAnswer) -> usize
 }
 
 // "Widths 1, 572: 1; 2, 571 pass", for zero and one.
-pub(crate) fn widths(width: usize)
+pub(crate) fn widths(rt: &impl Print, width: usize) -> io::Result<()>
     ensures { Unit {0} }
 {
     let zero = fault_of(Operand::zero(width));
     let one = fault_of(Operand::one(width));
-    printing::line(b"width #: zero #, one #\n", [width, zero, one, 0]);
+    printing::line(rt, b"width #: zero #, one #\n", [width, zero, one, 0])
 }
 
 // A turn of the operand whose only coordinate is 0, and whether that of the result is k modulo m.
-fn turned(width: usize, k: usize)
+fn turned(rt: &impl Print, width: usize, k: usize) -> io::Result<()>
     requires { (0 < width) × (width ≤ max_width) }
-    ensures* { ⊤ₛ }
+    ensures { Unit {0} }
 {
     let mut bytes = [0u8; Operand::BYTES];
     bytes[0] = 1;
@@ -41,24 +42,28 @@ fn turned(width: usize, k: usize)
     wanted[place / 8] = 1u8 << (place % 8);
     let x = answer.value.bytes;
     let alone = check::same(&x, &wanted) as usize;
-    printing::line(b"width # turned by #: #,", [width, k, fault_of(answer), 0]);
-    printing::line(b" coordinate # alone: #\n", [place, alone, 0, 0]);
+    printing::line(
+        rt,
+        b"width # turned by #: #,",
+        [width, k, fault_of(answer), 0],
+    )?;
+    printing::line(rt, b" coordinate # alone: #\n", [place, alone, 0, 0])
 }
 
 // "Turn m-1 passes", and by document 02, (d), m, which is the turn by 0, and every other count, to 2^64 - 1.
-pub(crate) fn turns(width: usize)
+pub(crate) fn turns(rt: &impl Print, width: usize) -> io::Result<()>
     requires { (0 < width) × (width ≤ max_width) }
     ensures { Unit {0} }
 {
-    turned(width, width - 1);
-    turned(width, width);
-    turned(width, usize::MAX);
+    turned(rt, width, width - 1)?;
+    turned(rt, width, width)?;
+    turned(rt, width, usize::MAX)
 }
 
 // "Drawing 8: 17"; "drawing a table returns its type T"; "Width 18 .. now draws type 2".
-pub(crate) fn drawn(width: usize)
+pub(crate) fn drawn(rt: &impl Print, width: usize) -> io::Result<()>
     requires { width ≤ 18 }
-    ensures* { ⊤ₛ }
+    ensures { Unit {0} }
 {
     let mut buffer = [238u8; 54];
     let whole: &mut [u8] = &mut buffer;
@@ -66,14 +71,18 @@ pub(crate) fn drawn(width: usize)
     let answer = gaussian::draw(width, table);
     let fault = answer.fault;
     let number = judging::number(fault);
-    printing::line(b"drawn width #: #, type #,", [width, number.0, answer.t, 0]);
-    printing::bytes(table);
+    printing::line(
+        rt,
+        b"drawn width #: #, type #,",
+        [width, number.0, answer.t, 0],
+    )?;
+    printing::bytes(rt, table)
 }
 
 // "Reduced list, width 2: 2 7, 0 0 2, .. With 24 words lent: 11; 25 fits".
-pub(crate) fn list(lent: usize)
+pub(crate) fn list(rt: &impl Print, lent: usize) -> io::Result<()>
     requires { lent ≤ 25 }
-    ensures* { ⊤ₛ }
+    ensures { Unit {0} }
 {
     let table = table::table2();
     let mut buffer = [99u32; 25];
@@ -83,40 +92,42 @@ pub(crate) fn list(lent: usize)
     let fault = answer.fault;
     let number = judging::number(fault);
     printing::line(
+        rt,
         b"reduced list of width 2, # words lent: #, AND #, XOR #, words",
         [lent, number.0, answer.ands.0, answer.xors.0],
-    );
-    printing::words(words);
+    )?;
+    printing::words(rt, words)
 }
 
 // "Three XOR counts stand in the order plain, reduced, common".
-pub(crate) fn xors(text: &[u8], width: usize, table: &[u8])
+pub(crate) fn xors(rt: &impl Print, text: &[u8], width: usize, table: &[u8]) -> io::Result<()>
     ensures { Unit {0} }
 {
     let plain = netlist::counts_plain(width, table);
     let reduced = netlist::counts_reduced(width, table);
     let common = netlist::counts_common(width, table);
-    printing::line(text, [plain.xors.0, reduced.xors.0, common.xors.0, 0]);
+    printing::line(rt, text, [plain.xors.0, reduced.xors.0, common.xors.0, 0])
 }
 
 // "Writing a card returns its length in bytes".
-fn written(width: usize, table: &[u8], card: &mut [u8])
+fn written(rt: &impl Print, width: usize, table: &[u8], card: &mut [u8]) -> io::Result<()>
     ensures { card.new ≡ write_card width table.now card.old }
 {
     let answer = card_writer::write(width, table, card);
     let fault = answer.fault;
     let number = judging::number(fault);
     printing::line(
+        rt,
         b"card of width #: #, length #,",
         [width, number.0, answer.value, 0],
-    );
-    printing::bytes(card);
+    )?;
+    printing::bytes(rt, card)
 }
 
 // "reading one returns m", and whether the bytes read are the table's.
-fn read(width: usize, table: &[u8], card: &[u8])
+fn read(rt: &impl Print, width: usize, table: &[u8], card: &[u8]) -> io::Result<()>
     requires { width ≤ 5 }
-    ensures* { ⊤ₛ }
+    ensures { Unit {0} }
 {
     let mut buffer = [0u8; 5];
     let whole: &mut [u8] = &mut buffer;
@@ -126,19 +137,20 @@ fn read(width: usize, table: &[u8], card: &[u8])
     let number = judging::number(fault);
     let same = check::same(bytes, table) as usize;
     printing::line(
+        rt,
         b"card of width # read: #, width #, the carried table #\n",
         [width, number.0, answer.value, same],
-    );
+    )
 }
 
 // The card of a carried table, there and back. Its 2m-1 ones make 3m+1 bytes.
-pub(crate) fn card(width: usize, table: &[u8])
+pub(crate) fn card(rt: &impl Print, width: usize, table: &[u8]) -> io::Result<()>
     requires { width ≤ 5 }
-    ensures* { ⊤ₛ }
+    ensures { Unit {0} }
 {
     let mut buffer = [0u8; 16];
     let whole: &mut [u8] = &mut buffer;
     let card = &mut whole[..3 * width + 1];
-    written(width, table, card);
-    read(width, table, card);
+    written(rt, width, table, card)?;
+    read(rt, width, table, card)
 }

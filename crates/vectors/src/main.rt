@@ -3,45 +3,52 @@
 
 mod examples;
 
-fn lists()
+use std::io;
+
+fn lists(rt: &impl Print) -> io::Result<()>
     ensures { Unit {0} }
 {
-    examples::list(25);
-    examples::list(24);
+    examples::list(rt, 25)?;
+    examples::list(rt, 24)?;
     let table4 = table::table4();
-    examples::xors(b"width 4: XOR # # #\n", 4, &table4);
+    examples::xors(rt, b"width 4: XOR # # #\n", 4, &table4)?;
     let table5 = table::table5();
-    examples::xors(b"width 5: XOR # # #\n", 5, &table5);
-    examples::xors(b"width 3, rows 02 07 07: XOR # # #\n", 3, b"\x02\x07\x07");
+    examples::xors(rt, b"width 5: XOR # # #\n", 5, &table5)?;
+    examples::xors(
+        rt,
+        b"width 3, rows 02 07 07: XOR # # #\n",
+        3,
+        b"\x02\x07\x07",
+    )
 }
 
-fn cards()
+fn cards(rt: &impl Print) -> io::Result<()>
     ensures { Unit {0} }
 {
     let table2 = table::table2();
-    examples::card(2, &table2);
+    examples::card(rt, 2, &table2)?;
     let table3 = table::table3();
-    examples::card(3, &table3);
+    examples::card(rt, 3, &table3)?;
     let table4 = table::table4();
-    examples::card(4, &table4);
+    examples::card(rt, 4, &table4)?;
     let table5 = table::table5();
-    examples::card(5, &table5);
+    examples::card(rt, 5, &table5)
 }
 
-fn main() {
-    examples::widths(1);
-    examples::widths(572);
-    examples::widths(2);
-    examples::widths(571);
-    examples::turns(2);
-    examples::turns(5);
-    examples::turns(571);
-    examples::drawn(8);
-    examples::drawn(2);
-    examples::drawn(3);
-    examples::drawn(4);
-    examples::drawn(5);
-    examples::drawn(18);
-    lists();
-    cards();
+fn main(rt: HostRuntime) -> io::Result<()> {
+    examples::widths(&rt, 1)?;
+    examples::widths(&rt, 572)?;
+    examples::widths(&rt, 2)?;
+    examples::widths(&rt, 571)?;
+    examples::turns(&rt, 2)?;
+    examples::turns(&rt, 5)?;
+    examples::turns(&rt, 571)?;
+    examples::drawn(&rt, 8)?;
+    examples::drawn(&rt, 2)?;
+    examples::drawn(&rt, 3)?;
+    examples::drawn(&rt, 4)?;
+    examples::drawn(&rt, 5)?;
+    examples::drawn(&rt, 18)?;
+    lists(&rt)?;
+    cards(&rt)
 }

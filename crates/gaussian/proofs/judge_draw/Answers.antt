@@ -1,6 +1,5 @@
 -- `gaussian::judge_draw` meets its contract.
 use mathlib.Core.List.{[], ◌∷◌}
-use borrow.Author.Tests.{not-true, not-false}
 use Rattle.judging.specs.FaultTable.{bad_width, bad_length}
 use Rattle.judging.proofs.CauseLaws.{fine, judged}
 use Rattle.judging.proofs.Passed.{is-width}

@@ -1,6 +1,5 @@
 -- `gaussian::type_of` meets its contract.
 use mathlib.Core.List.{[], ◌∷◌}
-use borrow.Author.Tests.{not-true, not-false}
 use Rattle.judging.specs.FaultTable.{bad_width}
 use Rattle.judging.proofs.CauseLaws.{fine, judged}
 use Rattle.judging.proofs.Passed.{is-width}

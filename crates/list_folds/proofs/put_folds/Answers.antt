@@ -1,7 +1,6 @@
 -- `list_folds::put_folds` meets its contract.
 use mathlib.Core.Path.{refl, sym, ap, ◌∙◌}
 use native.Mathlib.Omega.{arith}
-use borrow.Author.Tests.{not-true, not-false}
 use Rattle.gf2.specs.Operands.{choose}
 use Rattle.list_pairs.proofs.PutLaws.{fits-known}
 use Rattle.list_folds.specs.TableFolds.{table_terms}

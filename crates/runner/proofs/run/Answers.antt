@@ -2,7 +2,6 @@
 use mathlib.Core.Path.{sym, ◌∙◌}
 use mathlib.Core.List.{[]}
 use lib.ListN.{length}
-use borrow.Author.Tests.{not-true, not-false}
 use Rattle.judging.proofs.CauseLaws.{fine, judged, ends, follows}
 use Rattle.judging.proofs.Passed.{is-width, as-laid-down}
 use Rattle.runner.specs.Inner.{carried_causes, list_causes}

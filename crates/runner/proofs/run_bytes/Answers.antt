@@ -2,7 +2,6 @@
 use mathlib.Core.Path.{sym, ◌∙◌}
 use mathlib.Core.List.{[], ◌∷◌}
 use lib.ListN.{length}
-use borrow.Author.Tests.{not-true, not-false}
 use Rattle.judging.specs.FaultTable.{bad_width, not_w}
 use Rattle.judging.proofs.CauseLaws.{judged, ends, follows}
 use Rattle.operand.proofs.CallLaws.{SizedPair, sized-pair}

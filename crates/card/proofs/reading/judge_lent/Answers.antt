@@ -3,7 +3,7 @@ use mathlib.Core.Path.{sym, ap}
 use mathlib.Core.List.{[], ◌∷◌}
 use Prim.Native.Nat.{◌*◌}
 use native.Mathlib.Omega.{arith}
-use borrow.Author.Tests.{lt-ltb, not-true, not-false}
+use borrow.Author.Tests.{lt-ltb}
 use Rattle.gf2.specs.Operands.{bytes_for}
 use Rattle.judging.specs.FaultTable.{bad_width, too_short}
 use Rattle.judging.proofs.CauseLaws.{fine, head-holds, none-given, judged, ends, follows}

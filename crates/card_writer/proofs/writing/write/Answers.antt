@@ -1,6 +1,5 @@
 -- `card_writer::writing::write` meets its contract.
 use mathlib.Core.List.{[]}
-use borrow.Author.Tests.{not-true, not-false}
 use Rattle.judging.specs.FaultTable.{shape_causes}
 use Rattle.judging.proofs.CauseLaws.{judged}
 use Rattle.card_writer.specs.Inner.{Writable}

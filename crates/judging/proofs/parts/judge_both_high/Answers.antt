@@ -1,6 +1,5 @@
 -- `judging::parts::judge_both_high` meets its contract.
 use mathlib.Core.List.{[], ◌∷◌}
-use borrow.Author.Tests.{not-true, not-false}
 use Rattle.judging.specs.FaultTable.{high_bit}
 use Rattle.judging.proofs.CauseLaws.{ends, follows}
 use Rattle.judging.proofs.parts.judge_both_high.Goals as goal

@@ -4,7 +4,6 @@ use mathlib.Core.List.{[], ◌∷◌}
 use Rattle.judging.specs.Causes.{fault_of}
 use Rattle.judging.specs.FaultTable.{bad_width, bad_length}
 use Rattle.judging.proofs.CauseLaws.{ends, follows}
-use borrow.Author.Tests.{not-true, not-false}
 use Rattle.judging.proofs.parts.judge_sizes.Goals as goal
 
 pub returns-then-not-is_none : goal.returns-then-not-is_none

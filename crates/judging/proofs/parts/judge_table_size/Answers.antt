@@ -7,7 +7,6 @@ use Rattle.judging.specs.Causes.{fault_of}
 use Rattle.judging.specs.FaultTable.{bad_width, bad_length}
 use Rattle.judging.proofs.CauseLaws.{fine, judged, ends, follows}
 use Rattle.judging.proofs.Passed.{is-width, size_small}
-use borrow.Author.Tests.{not-true, not-false}
 use Rattle.judging.proofs.parts.judge_table_size.Goals as goal
 
 pub returns-then-not-is_none : goal.returns-then-not-is_none

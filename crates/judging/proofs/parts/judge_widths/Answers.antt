@@ -1,6 +1,5 @@
 -- `judging::parts::judge_widths` meets its contract.
 use mathlib.Core.List.{[], ◌∷◌}
-use borrow.Author.Tests.{not-true, not-false}
 use Rattle.judging.specs.FaultTable.{bad_width, bad_length}
 use Rattle.judging.proofs.CauseLaws.{ends, follows}
 use Rattle.judging.proofs.parts.judge_widths.Goals as goal

@@ -1,7 +1,6 @@
 -- `list_folds::columns::fill_row` meets its contract. The invariant: the row has its coordinates before s, and s is one of its ones or past it.
 use mathlib.Core.Path.{sym, ◌∙◌}
 use native.Mathlib.Omega.{arith}
-use borrow.Author.Tests.{not-true, not-false}
 use Rattle.list_folds.proofs.ColumnLaws.{row-none, row_more, row_next, row-after, row-end, row_done, row-skipped}
 use Rattle.list_folds.proofs.columns.fill_row.Goals as goal
 

@@ -3,7 +3,6 @@ use mathlib.Core.Path.{◌≡◌, refl, ap, ◌∙◌}
 use mathlib.Core.Bool.{false}
 use Prim.Native.Nat.{◌+◌, ◌<◌}
 use native.Mathlib.Omega.{arith}
-use borrow.Author.Tests.{not-true, not-false}
 use Rattle.netlist.specs.Gates.{word_limit}
 use Rattle.netlist.specs.Lists.{only, and_wire}
 use Rattle.list_folds.specs.Folds.{fresh}

@@ -1,6 +1,5 @@
 -- `list_folds::terms::push_run` meets its contract. The invariant: the ones before d are pushed, and d is one or the end.
 use mathlib.Core.Path.{◌≡◌, refl, ◌∙◌}
-use mathlib.Core.Bool.{true}
 use Prim.Native.Nat.{◌-◌}
 use native.Mathlib.Omega.{arith}
 use Rattle.list_folds.specs.Columns.{is_set}

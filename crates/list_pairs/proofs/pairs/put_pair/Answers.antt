@@ -4,7 +4,7 @@ use mathlib.Core.List.{[], ◌∷◌}
 use Prim.Native.Nat.{◌+◌, ◌*◌}
 use native.Mathlib.Omega.{arith}
 use lib.Seq.{sets}
-use borrow.Author.Tests.{not-true, not-false, lt-ltb, le-ltb}
+use borrow.Author.Tests.{lt-ltb, le-ltb}
 use Rattle.netlist.specs.Lists.{only}
 use Rattle.list_pairs.specs.Pairs.{pair_gate}
 use Rattle.list_pairs.proofs.PutLaws.{put-none, put-and, put-xor}

@@ -1,7 +1,6 @@
 -- `list_pairs::pairs::put_pairs` meets its contract.
 use mathlib.Core.Path.{sym, ◌∙◌}
 use native.Mathlib.Omega.{arith}
-use borrow.Author.Tests.{not-true, not-false}
 use Rattle.netlist.proofs.TableLaws.{width-square}
 use Rattle.list_pairs.proofs.PutLaws.{put-none, fits-known}
 use Rattle.list_pairs.proofs.pairs.put_pairs.Goals as goal

@@ -4,7 +4,6 @@ use mathlib.Core.Bool.{true}
 use mathlib.Core.List.{[]}
 use Prim.Native.Nat.{◌+◌, ◌*◌, ◌<◌}
 use native.Mathlib.Omega.{arith}
-use borrow.Author.Tests.{not-true, not-false}
 use Rattle.judging.specs.Faults.{is_none}
 use Rattle.judging.specs.FaultTable.{symmetry_causes}
 use Rattle.judging.proofs.CauseLaws.{judged}

@@ -1,6 +1,5 @@
 -- `netlist::entries::full_rows` meets its contract. The invariant: the all-ones rows before d are counted.
 use mathlib.Core.Path.{◌≡◌, sym, ap, ◌∙◌}
-use mathlib.Core.Logic.{⊎_elim}
 use Prim.Native.Nat.{ℕ}
 use native.Mathlib.Omega.{arith}
 use native.Mathlib.Numerals.{add-one}

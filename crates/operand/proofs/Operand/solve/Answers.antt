@@ -5,7 +5,6 @@ use mathlib.Core.Path.{◌≡◌, ◌∙◌}
 use mathlib.Core.List.{[], ◌∷◌}
 use native.Mathlib.Omega.{arith}
 use lib.ListN.{length}
-use borrow.Author.Tests.{not-false}
 use Rattle.gf2.specs.Operands.{carried_bytes}
 use Rattle.judging.specs.FaultTable.{bad_width, high_bit, trace_is_one}
 use Rattle.judging.proofs.CauseLaws.{fine, judged, follows}

@@ -8,7 +8,6 @@ use Rattle.judging.specs.declared.fault.Fault.{Fault}
 use Rattle.operand.specs.declared.Operand.{Operand}
 use Rattle.operand.specs.Calls.{write_call}
 use lib.ListN.{length}
-use borrow.Author.Tests.{not-false}
 use Rattle.judging.specs.Causes.{fault_of}
 use Rattle.judging.specs.FaultTable.{high_bit}
 use Rattle.judging.proofs.CauseLaws.{follows}

@@ -4,7 +4,6 @@ use mathlib.Core.Bool.{not}
 use mathlib.Core.Path.{◌≡◌, ◌∙◌}
 use mathlib.Core.List.{[], ◌∷◌}
 use native.Mathlib.Omega.{arith}
-use borrow.Author.Tests.{not-false}
 use Rattle.judging.specs.Causes.{fault_of}
 use Rattle.judging.specs.FaultTable.{high_bit, trace_is_one}
 use Rattle.judging.proofs.CauseLaws.{judged, follows}

@@ -2,7 +2,6 @@
 use mathlib.Core.Path.{◌≡◌, ◌∙◌}
 use mathlib.Core.List.{[], ◌∷◌}
 use native.Mathlib.Omega.{arith}
-use borrow.Author.Tests.{not-true, not-false}
 use Rattle.gf2.proofs.Carrying.{HasBytes}
 use Rattle.judging.specs.Causes.{fault_of}
 use Rattle.judging.specs.FaultTable.{high_bit}

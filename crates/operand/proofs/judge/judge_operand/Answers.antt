@@ -1,6 +1,5 @@
 -- `operand::judge::judge_operand` meets its contract.
 use mathlib.Core.List.{[], ◌∷◌}
-use borrow.Author.Tests.{not-true, not-false}
 use Rattle.judging.specs.FaultTable.{bad_width, high_bit}
 use Rattle.judging.proofs.CauseLaws.{ends, follows}
 use Rattle.operand.proofs.judge.judge_operand.Goals as goal

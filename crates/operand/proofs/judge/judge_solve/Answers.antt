@@ -1,7 +1,7 @@
 -- `operand::judge::judge_solve` meets its contract.
 use mathlib.Core.Path.{sym, ◌∙◌}
 use mathlib.Core.List.{[], ◌∷◌}
-use borrow.Author.Tests.{not-true, not-false, eq-eqb, ne_eqb}
+use borrow.Author.Tests.{eq-eqb, ne_eqb}
 use Rattle.gf2.specs.Quadratic.{trace}
 use Rattle.judging.specs.FaultTable.{high_bit, trace_is_one}
 use Rattle.judging.proofs.CauseLaws.{head-holds, none-given, ends, follows}

@@ -6,7 +6,6 @@ use Prim.Native.Nat.{ℕ}
 use lib.ListN.{get_or}
 use mir.Val.{Fits}
 use mir.Syntax.{w8}
-use borrow.Author.Tests.{not-true}
 use Rattle.table.proofs.Parts.{Part, known, passed}
 use Rattle.product.specs.Inner.{unit_causes}
 use Rattle.product.proofs.Judged.{HasCarriedBytes, unit-fine, inverse-answered, inverse-refused}

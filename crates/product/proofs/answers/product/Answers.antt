@@ -6,7 +6,6 @@ use Prim.Native.Nat.{ℕ}
 use lib.ListN.{get_or}
 use mir.Val.{Fits}
 use mir.Syntax.{w8}
-use borrow.Author.Tests.{not-true}
 use Rattle.operand.proofs.CallLaws.{refusal}
 use Rattle.table.proofs.Parts.{Part, known, passed}
 use Rattle.product.specs.Inner.{factor_causes}

@@ -7,7 +7,6 @@ use Rattle.judging.proofs.CauseLaws.{fine}
 use Rattle.table.proofs.Parts.{Part, stopped, passed, further-fault}
 use Rattle.product.specs.Inner.{row_causes, rules_by}
 use Rattle.product.proofs.Judged.{shape-after, table-shaped}
-use borrow.Author.Rules.{rules}
 use Rattle.product.proofs.judge.judge_factors.Goals as goal
 use Rattle.product.proofs.judge.judge_factors.Goals.{After-is_none, After-is_none-2}
 

@@ -1,10 +1,7 @@
 -- `runner::judge::are_gates` meets its contract. The invariant: the gates before k have passed.
 use mathlib.Core.Path.{◌≡◌, sym, ◌∙◌}
-use mathlib.Core.Bool.{true}
 use native.Mathlib.Omega.{arith}
-use borrow.Author.Tests.{not-true, not-false}
 use Rattle.gf2.proofs.Sums.{every-none, every_more, every-not}
-use Rattle.netlist.specs.Judgements.{is_gate}
 use Rattle.runner.proofs.judge.are_gates.Goals as goal
 
 pub loop-k-init : goal.loop-k-init

@@ -1,6 +1,5 @@
 -- `runner::judge::are_outputs` meets its contract. The invariant: the output wires before r are there.
 use mathlib.Core.Path.{◌≡◌, sym, ap, ◌∙◌}
-use mathlib.Core.Bool.{true}
 use Prim.Native.Nat.{◌+◌, ◌*◌}
 use native.Mathlib.Omega.{arith}
 use lib.ListN.{get_or}

@@ -1,6 +1,5 @@
 -- `runner::judge::judge_carried` meets its contract.
 use mathlib.Core.Path.{◌∙◌, ap}
-use borrow.Author.Tests.{not-true, not-false}
 use Rattle.judging.specs.Causes.{fault_of}
 use Rattle.judging.proofs.CauseLaws.{ends, follows}
 use Rattle.runner.specs.Inner.{width_causes, length_causes}

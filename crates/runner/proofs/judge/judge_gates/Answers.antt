@@ -4,7 +4,6 @@ use mathlib.Core.Bool.{Bool}
 use mathlib.Core.List.{List, [], ◌∷◌}
 use Prim.Native.Nat.{ℕ}
 use native.Mathlib.Omega.{arith}
-use borrow.Author.Tests.{not-true, not-false}
 use Rattle.gf2.specs.Sums.{every}
 use Rattle.judging.specs.FaultTable.{bad_width}
 use Rattle.judging.proofs.CauseLaws.{fine, judged, ends, follows}

@@ -1,6 +1,5 @@
 -- `runner::judge::judge_lengths` meets its contract.
 use mathlib.Core.List.{[], ◌∷◌}
-use borrow.Author.Tests.{not-true, not-false}
 use Rattle.judging.specs.FaultTable.{bad_length}
 use Rattle.judging.proofs.CauseLaws.{ends, follows}
 use Rattle.runner.proofs.judge.judge_lengths.Goals as goal

@@ -1,7 +1,6 @@
 -- `runner::judge::judge_list` meets its contract.
 use mathlib.Core.Path.{◌∙◌}
 use mathlib.Core.List.{[], ◌∷◌}
-use borrow.Author.Tests.{not-true, not-false}
 use Rattle.judging.specs.FaultTable.{bad_width, high_bit}
 use Rattle.judging.proofs.CauseLaws.{ends, follows, head-fails}
 use Rattle.judging.proofs.Passed.{width-passes}

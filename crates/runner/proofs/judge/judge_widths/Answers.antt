@@ -1,6 +1,5 @@
 -- `runner::judge::judge_widths` meets its contract.
 use mathlib.Core.List.{[], ◌∷◌}
-use borrow.Author.Tests.{not-true, not-false}
 use Rattle.judging.specs.FaultTable.{bad_width}
 use Rattle.judging.proofs.CauseLaws.{ends, follows}
 use Rattle.runner.proofs.judge.judge_widths.Goals as goal

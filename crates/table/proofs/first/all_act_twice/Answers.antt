@@ -1,8 +1,6 @@
 -- `table::first::all_act_twice` meets its contract.
 use mathlib.Core.Path.{◌≡◌, sym, ap, ◌∙◌}
-use mathlib.Core.Bool.{true}
 use native.Mathlib.Omega.{arith}
-use borrow.Author.Tests.{not-true, not-false}
 use Rattle.gf2.specs.Sums.{every}
 use Rattle.gf2.proofs.Sums.{every-none, every_more, every-not}
 use Rattle.table.specs.Inner.{associates}

@@ -2,7 +2,6 @@
 use mathlib.Core.Path.{refl, sym, ◌∙◌}
 use native.Mathlib.Decide.{ℕ_discrete}
 use native.Mathlib.Omega.{arith}
-use borrow.Author.Tests.{not-true, not-false}
 use Rattle.judging.specs.FaultTable.{rows_differ}
 use Rattle.judging.proofs.Searches.{one_found, one-fails}
 use Rattle.table.proofs.Rules.{mirror-test, half-search}

@@ -7,7 +7,6 @@ use lib.ListN.{length}
 use Rattle.gf2.specs.Sums.{every}
 use Rattle.gf2.specs.Coordinates.{coord}
 use Rattle.gf2.specs.Operands.{turned}
-use Rattle.gf2.specs.Tables.{row}
 use Rattle.limbs.specs.Limbs.{limb_coord, limbs_of}
 use Rattle.table.specs.Inner.{carried_row}
 use Rattle.table.proofs.Shapes.{row_fits, row-part}

@@ -1,7 +1,6 @@
 -- `table::triples::search_triples` meets its contract.
 use mathlib.Core.Path.{refl, sym, ap, ◌∙◌}
 use native.Mathlib.Omega.{arith}
-use borrow.Author.Tests.{not-true, not-false}
 use Rattle.judging.specs.Faults.{is_none}
 use Rattle.judging.specs.Causes.{fault_of}
 use Rattle.judging.specs.FaultTable.{triple_differs}

@@ -1,0 +1,9 @@
+use Rattle.std.proofs.Common.{[], ◌∷◌, ap, ◌∙◌}
+use Rattle.reporting.specs.Text.{ascii, line}
+use Rattle.reporting.specs.Steps.{appended}
+use Rattle.reporting.specs.Report.{refusal}
+use Rattle.reporting.proofs.printing.refused.Goals as goal
+
+pub returns : goal.returns
+unfolding refusal
+returns c = c.append_line.ensures ∙ ap (λ n. appended c.args.text (line (ascii "refused") (n ∷ []))) c.number-number.ensures.0
