@@ -1,5 +1,5 @@
 -- Sums over all indices in any commutative monoid, so that the same laws serve bits and counts.
--- Σ M f: the sum of f over all indices; ext, plus, swap, shift, reflect, point, the links to big and to the crate's sum.
+-- Σ M f: the sum of f over all indices; ext, plus, swap, exchange, shift, reflect, point, the links to big and to the crate's sum.
 -- For bits: and, diagonal (a symmetric square adds up to its diagonal). For numbers: mono, const; odd-count: the parity of a count.
 use mathlib.Core.Path.{◌≡◌, refl, sym, ◌∙◌, ap, fun_ext}
 use mathlib.Core.Logic.{◌≢◌}
@@ -25,6 +25,10 @@ module _ {p : ℕ} {A : Type 0} (M : Adds A) where
   pub Σ-plus : (f g : Ix p → A) → Σ (λ i. M.plus (f i) (g i)) ≡ M.plus (Σ f) (Σ g)
   unfolding Σ
   Σ-plus f g = big-plus M (suc p) (λ i. f (at i)) (λ i. g (at i))
+
+  pub Σ-swap : (f : Ix p → Ix p → A) → Σ (λ i. Σ (f i)) ≡ Σ (λ j. Σ (λ i. f i j))
+  unfolding Σ
+  Σ-swap f = big-swap M (suc p) (suc p) (λ i j. f (at i) (at j))
 
   pub Σ-shift : (f : Ix p → A) (k : Ix p) → Σ (λ i. f (i ⊹ k)) ≡ Σ f
   unfolding Σ
@@ -55,10 +59,10 @@ module _ {p : ℕ} {A : Type 0} (M : Adds A) where
       big-point M (suc p) k.num (λ i. f (at i)) k.below (λ i l ne. h (at i) (λ e. ne (sym (num-at i l) ∙ ap (λ (x : Ix p). x.num) e)))
       ∙ ap f (at-num k)
 
--- over two kinds of indices
-pub Σ-swap : {A : Type 0} (M : Adds A) {p q : ℕ} (f : Ix p → Ix q → A) → Σ M (λ i. Σ M (f i)) ≡ Σ M (λ j. Σ M (λ i. f i j))
+-- Σ-swap over two kinds of indices
+pub Σ-exchange : {A : Type 0} (M : Adds A) {p q : ℕ} (f : Ix p → Ix q → A) → Σ M (λ i. Σ M (f i)) ≡ Σ M (λ j. Σ M (λ i. f i j))
 unfolding Σ
-Σ-swap M {p} {q} f = big-swap M (suc p) (suc q) (λ i j. f (at i) (at j))
+Σ-exchange M {p} {q} f = big-swap M (suc p) (suc q) (λ i j. f (at i) (at j))
 
 pub Σ-nil : {A : Type 0} (p : ℕ) (M : Adds A) → Σ {p = p} M (λ i. M.nil) ≡ M.nil
 unfolding Σ
