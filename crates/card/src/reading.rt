@@ -142,7 +142,7 @@ fn rows_at(
     Step::Got(0, next)
 }
 
-// 1, and 11 where the lent table has fewer than typeof.m.W bytes, which are worked out only for a width that has passed.
+// 1, and 11 where the lent table has fewer than m·W bytes, which are worked out only for a width that has passed.
 fn judge_lent(room: usize, width: usize) -> Fault
     ensures { result ≡ lent_fault room width }
 {

@@ -1,5 +1,5 @@
 -- The indices 0 .. p, added and subtracted modulo m = p + 1.
--- Ix p: an index; ix-dec: whether two are one; at n: the index that a number stands for; _⊹_, _⊖_: sum and difference and their laws.
+-- Ix p: an index; ix-dec: whether two are one; at n: the index that a number stands for; ◌⊹◌, ◌⊖◌: sum and difference and their laws.
 -- num-minus: the crate's minus is the difference.
 use mathlib.Core.Path.{◌≡◌, refl, sym, ◌∙◌, ap}
 use mathlib.Core.HLevel.{is_prop→PathP}

@@ -1,5 +1,5 @@
 -- Demand 3, sentence by sentence. Operands are those of the C interface, W bytes, and each definition named here is one that a call's
--- contract names: `check_fault` that of nb_check; `product_into`, `reduced_into`, `inverse_into` and the causes `..BytesCauses` those of
+-- contract names: `check_fault` that of nb_check; `product_into`, `reduced_into`, `inverse_into` and the causes `.._bytes_causes` those of
 -- the products and the inverse, `products_made` the count; `plain`, `reduced_list`, `common`, `words`, `list_buffer` those of the writers;
 -- `ran_result`, `ran_wires` those of the runner; `counts_plain_call` and its like those of the counts.
 use Rattle.std.specs.Prelude.{◌≡◌, ◌↔◌, List, ℕ, ◌+◌, ◌-◌, ◌*◌, ◌^◌, ◌<◌, ◌≤◌, length, take}
