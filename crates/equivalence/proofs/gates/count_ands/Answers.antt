@@ -3,7 +3,6 @@ use mathlib.Core.Path.{◌≡◌, sym, ◌∙◌}
 use native.Mathlib.Omega.{arith}
 use Rattle.equivalence.proofs.GateLaws.{ands-none, and-more, xor-more}
 use Rattle.equivalence.proofs.gates.count_ands.Goals as goal
-use Rattle.equivalence.proofs.gates.count_ands.Goals.{then-word-eq0, else-word-eq0}
 
 pub loop-k-init : goal.loop-k-init
 loop-k-init c = (omega arith, omega arith, ands-none _)
@@ -13,10 +12,7 @@ loop-k-preserved c =
     let l = c.args.list.now in
     let w = c.loop-k in
     let e = c.word.ensures.0 in
-    elim c.if-word-eq0.branch [
-      | then-word-eq0 t ↦ (omega arith, omega arith, t.n-is ∙ and-more l w.k w.n (sym e ∙ t.if-word-eq0.true) w.invariant.2)
-      | else-word-eq0 t ↦ (omega arith, omega arith, t.n-is ∙ xor-more l w.k w.n (λ z. t.if-word-eq0.false (e ∙ z)) w.invariant.2)
-    ]
+    grind (arith, and-more l w.k w.n, xor-more l w.k w.n, e, w.invariant.2)
 
 pub returns : goal.returns
 returns c =
