@@ -10,12 +10,13 @@ use mathlib.Core.List.{List, [], ◌∷◌, ◌++◌}
 use Prim.Native.Nat.{ℕ, ◌<◌}
 use native.Mathlib.Omega.{arith}
 use lib.Dec.{ltb, eqb}
+use Rattle.std.specs.Prelude.{Result, Ok, Err, is_ok, IsErrAnd}
+use Rattle.std.proofs.lemmas.Result.{err_from_is_err_and}
 use borrow.Author.Tests.{ltb-true, ne_eqb}
 use Rattle.gf2.proofs.Parity.{and_both}
 use Rattle.judging.specs.declared.fault.Fault.{Fault}
-use Rattle.judging.specs.declared.fault.Fault.TheVariants.{None}
-use Rattle.judging.specs.Faults.{number_of, is_none}
-use Rattle.judging.specs.Causes.{Cause, fault_of, First, NoCause, Exact}
+use Rattle.judging.specs.Faults.{number_of}
+use Rattle.judging.specs.Causes.{Cause, Verdict, judged, answered, First, NoCause, Exact}
 
 never : {A : Type 0} → false ≡ true → A
 never e = absurd (true≢false (sym e))
@@ -25,38 +26,39 @@ cases : {A : Type 0} (b : Bool) → (b ≡ true → A) → (b ≡ false → A) �
 cases true t f = t refl
 cases false t f = f refl
 
-pub none_true : {f : Fault} → f ≡ None → is_none f ≡ true
-unfolding is_none
-none_true e = rw e
-
--- a cause gives some fault, and its number has room in a byte
-pub some : (c : Cause) → is_none c.fault ≡ false
-unfolding is_none
-some c = positive (number_of c.fault).0 (ltb-true 0 (number_of c.fault).0 (and_both (ltb 0 (number_of c.fault).0) (ltb (number_of c.fault).0 256) c.numbered).0)
-  where
-    positive : (n : ℕ) → 0 < n → eqb n 0 ≡ false
-    positive n h = ne_eqb n 0 (λ e. omega arith)
-
 pub number_small : (c : Cause) → (number_of c.fault).0 < 256
 number_small c = ltb-true (number_of c.fault).0 256 (and_both (ltb 0 (number_of c.fault).0) (ltb (number_of c.fault).0 256) c.numbered).1
 
-pub unlike : (c : Cause) → ¬ (c.fault ≡ None)
-unlike c e = true≢false (sym (none_true e) ∙ some c)
+pub number_positive : (c : Cause) → 0 < (number_of c.fault).0
+number_positive c = ltb-true 0 (number_of c.fault).0 (and_both (ltb 0 (number_of c.fault).0) (ltb (number_of c.fault).0 256) c.numbered).0
+
+-- the fault in an answer, and one where there is none
+fault_or : {A : Type 0} → Fault → Result A Fault → Fault
+fault_or f (Ok x) = f
+fault_or f (Err g) = g
+
+pub same_fault : {A : Type 0} {f g : Fault} (r : Result A Fault) → r ≡ Err f → r ≡ Err g → f ≡ g
+unfolding fault_or
+same_fault {f = f} r e h = ap (fault_or f) (sym e ∙ h)
+
+-- an answer is no fault and one at once, never
+pub ok_or_err : {A : Type 0} {f : Fault} {x : A} {B : Type 0} → Err f ≡ Ok x → B
+ok_or_err e = absurd (true≢false (ap is_ok (sym e)))
 
 -- the fault of a list, by its first cause
 module _ (c : Cause) (cs : List Cause) where
-  pub head-holds : c.test ≡ true → fault_of (c ∷ cs) ≡ c.fault
-  unfolding fault_of
+  pub head-holds : c.test ≡ true → judged (c ∷ cs) ≡ Err c.fault
+  unfolding judged
   head-holds e = rw e
 
-  pub head-fails : c.test ≡ false → fault_of (c ∷ cs) ≡ fault_of cs
-  unfolding fault_of
+  pub head-fails : c.test ≡ false → judged (c ∷ cs) ≡ judged cs
+  unfolding judged
   head-fails e = rw e
 
 -- causes that are judged alike
-pub same_head : (c d : Cause) (cs ds : List Cause) → c.test ≡ d.test → c.fault ≡ d.fault → (d.test ≡ false → fault_of cs ≡ fault_of ds) → fault_of (c ∷ cs) ≡ fault_of (d ∷ ds)
+pub same_head : (c d : Cause) (cs ds : List Cause) → c.test ≡ d.test → c.fault ≡ d.fault → (d.test ≡ false → judged cs ≡ judged ds) → judged (c ∷ cs) ≡ judged (d ∷ ds)
 same_head c d cs ds e f h = cases d.test
-    (λ q. head-holds c cs (e ∙ q) ∙ f ∙ sym (head-holds d ds q))
+    (λ q. head-holds c cs (e ∙ q) ∙ ap Err f ∙ sym (head-holds d ds q))
     (λ q. head-fails c cs (e ∙ q) ∙ h q ∙ sym (head-fails d ds q))
 
 -- no test holds
@@ -64,97 +66,88 @@ abbrev pub Fine : List Cause → Type 0
 Fine [] = Unit
 Fine (c ∷ cs) = (c.test ≡ false) × Fine cs
 
--- none is given just where no test holds
-pub fine : (cs : List Cause) → is_none (fault_of cs) ≡ true → Fine cs
+-- no fault is found just where no test holds
+pub fine : (cs : List Cause) → judged cs ≡ Ok tt → Fine cs
 fine [] e = tt
 fine (c ∷ cs) e = cases c.test
-    (λ q. never (sym (some c) ∙ ap is_none (sym (head-holds c cs q)) ∙ e))
-    (λ q. (q, fine cs (ap is_none (sym (head-fails c cs q)) ∙ e)))
+    (λ q. ok_or_err (sym (head-holds c cs q) ∙ e))
+    (λ q. (q, fine cs (sym (head-fails c cs q) ∙ e)))
 
-pub none-given : (cs : List Cause) → Fine cs → fault_of cs ≡ None
-unfolding fault_of
+pub none-given : (cs : List Cause) → Fine cs → judged cs ≡ Ok tt
+unfolding judged
 none-given [] n = refl
 none-given (c ∷ cs) n = head-fails c cs n.0 ∙ none-given cs n.1
 
-pub none_is : (cs : List Cause) → is_none (fault_of cs) ≡ true → fault_of cs ≡ None
-none_is cs e = none-given cs (fine cs e)
-
-pub none-fine : (cs : List Cause) → (fault_of cs ≡ None) ↔ Fine cs
-none-fine cs = (λ e. fine cs (none_true e), none-given cs)
+pub none-fine : (cs : List Cause) → (judged cs ≡ Ok tt) ↔ Fine cs
+none-fine cs = (fine cs, none-given cs)
 
 -- a part that gives a fault ends it; where a part gives none the rest decides
-pub stops : (cs ds : List Cause) → is_none (fault_of cs) ≡ false → fault_of (cs ++ ds) ≡ fault_of cs
-unfolding fault_of is_none
-stops [] ds e = absurd (true≢false e)
+pub stops : (cs ds : List Cause) {f : Fault} → judged cs ≡ Err f → judged (cs ++ ds) ≡ Err f
+unfolding judged
+stops [] ds e = ok_or_err (sym e)
 stops (c ∷ cs) ds e = cases c.test
-    (λ q. head-holds c (cs ++ ds) q ∙ sym (head-holds c cs q))
-    (λ q. head-fails c (cs ++ ds) q ∙ stops cs ds (ap is_none (sym (head-fails c cs q)) ∙ e) ∙ sym (head-fails c cs q))
+    (λ q. head-holds c (cs ++ ds) q ∙ sym (head-holds c cs q) ∙ e)
+    (λ q. head-fails c (cs ++ ds) q ∙ stops cs ds (sym (head-fails c cs q) ∙ e))
 
-passes : (cs ds : List Cause) → Fine cs → fault_of (cs ++ ds) ≡ fault_of ds
+passes : (cs ds : List Cause) → Fine cs → judged (cs ++ ds) ≡ judged ds
 passes [] ds n = refl
 passes (c ∷ cs) ds n = head-fails c (cs ++ ds) n.0 ∙ passes cs ds n.1
 
-pub goes_on : (cs ds : List Cause) → is_none (fault_of cs) ≡ true → fault_of (cs ++ ds) ≡ fault_of ds
+pub goes_on : (cs ds : List Cause) → judged cs ≡ Ok tt → judged (cs ++ ds) ≡ judged ds
 goes_on cs ds e = passes cs ds (fine cs e)
 
--- the same of a part that code has judged: f is its fault, b the test whether that is none
-module _ (cs ds : List Cause) {f : Fault} {b : Bool} (e : f ≡ fault_of cs) (t : b ≡ is_none f) where
-  pub judged : {v : Bool} → b ≡ v → is_none (fault_of cs) ≡ v
-  judged q = ap is_none (sym e) ∙ sym t ∙ q
+-- the same of a part that code has judged: v is its verdict
+module _ (cs ds : List Cause) {v : Verdict} (e : v ≡ judged cs) where
+  pub ends : {f : Fault} → v ≡ Err f → Err f ≡ judged (cs ++ ds)
+  ends q = sym (stops cs ds (sym e ∙ q))
 
-  pub ends : b ≡ false → f ≡ fault_of (cs ++ ds)
-  ends q = e ∙ sym (stops cs ds (judged q))
+  pub follows : {r : Verdict} → v ≡ Ok tt → r ≡ judged ds → r ≡ judged (cs ++ ds)
+  follows q h = h ∙ sym (goes_on cs ds (sym e ∙ q))
 
-  pub ends_some : b ≡ false → is_none (fault_of (cs ++ ds)) ≡ false
-  ends_some q = ap is_none (stops cs ds (judged q)) ∙ judged q
-
-  pub follows : {r : Fault} → b ≡ true → r ≡ fault_of ds → r ≡ fault_of (cs ++ ds)
-  follows q h = h ∙ sym (goes_on cs ds (judged q))
+-- what the exit of a `?` hands on is the fault that it was given
+pub handed_on : {A : Type 0} {f : Fault} {v : Result A Fault} (r : Result A Fault) → IsErrAnd r (λ g. g ≡ f) → Err f ≡ v → r ≡ v
+handed_on r e h = let p = err_from_is_err_and r e in p.1 ∙ ap Err p.2 ∙ h
 
 fails : (c : Cause) → c.test ≡ false → ¬ c.Holds
 fails c e h = true≢false (sym (c.exact.1 h) ∙ e)
 
-first_of : (cs : List Cause) (f : Fault) → ¬ (f ≡ None) → fault_of cs ≡ f → First cs f
-unfolding fault_of
-first_of [] f n e = absurd (n (sym e))
-first_of (c ∷ cs) f n e = cases c.test
-    (λ q. inl (c.exact.0 q, sym e ∙ head-holds c cs q))
-    (λ q. inr (fails c q, first_of cs f n (sym (head-fails c cs q) ∙ e)))
+first_of : (cs : List Cause) (f : Fault) → judged cs ≡ Err f → First cs f
+unfolding judged
+first_of [] f e = ok_or_err (sym e)
+first_of (c ∷ cs) f e = cases c.test
+    (λ q. inl (c.exact.0 q, same_fault (judged (c ∷ cs)) e (head-holds c cs q)))
+    (λ q. inr (fails c q, first_of cs f (sym (head-fails c cs q) ∙ e)))
 
-pub of-first : (cs : List Cause) (f : Fault) → First cs f → fault_of cs ≡ f
+pub of-first : (cs : List Cause) (f : Fault) → First cs f → judged cs ≡ Err f
 of-first [] f k = absurd k
-of-first (c ∷ cs) f (inl k) = head-holds c cs (c.exact.1 k.0) ∙ sym k.1
+of-first (c ∷ cs) f (inl k) = head-holds c cs (c.exact.1 k.0) ∙ ap Err (sym k.1)
 of-first (c ∷ cs) f (inr k) = cases c.test (λ q. absurd (k.0 (c.exact.0 q))) (λ q. head-fails c cs q ∙ of-first cs f k.1)
-
--- the first cause that holds gives some fault
-pub first_some : (cs : List Cause) (f : Fault) → First cs f → ¬ (f ≡ None)
-first_some [] f k e = absurd k
-first_some (c ∷ cs) f (inl k) e = unlike c (sym k.1 ∙ e)
-first_some (c ∷ cs) f (inr k) e = first_some cs f k.1 e
 
 pub no-cause : (cs : List Cause) → Fine cs → NoCause cs
 no-cause [] n = tt
 no-cause (c ∷ cs) n = (fails c n.0, no-cause cs n.1)
 
-of-no-cause : (cs : List Cause) → NoCause cs → fault_of cs ≡ None
-unfolding fault_of
+of-no-cause : (cs : List Cause) → NoCause cs → judged cs ≡ Ok tt
+unfolding judged
 of-no-cause [] n = refl
 of-no-cause (c ∷ cs) n = cases c.test (λ q. absurd (n.0 (c.exact.0 q))) (λ q. head-fails c cs q ∙ of-no-cause cs n.1)
 
-pub exact : (cs : List Cause) → Exact cs (fault_of cs)
-exact cs = record { given = λ f n. (first_of cs f n, of-first cs f); none = (λ e. no-cause cs (fine cs (none_true e)), of-no-cause cs) }
+pub exact : (cs : List Cause) → Exact cs (judged cs)
+exact cs = record { given = λ f. (first_of cs f, of-first cs f); none = (λ e. no-cause cs (fine cs e), of-no-cause cs) }
 
--- what holds of none and of each cause's fault, where the causes before it fail, holds of the fault of the list
-module _ (P : Fault → Type 0) (none : P None) where
+-- what holds of no fault and of each cause's fault, where the causes before it fail, holds of the verdict of the list
+module _ (P : Verdict → Type 0) (none : P (Ok tt)) where
   abbrev pub Each : List Cause → Type 0
   Each [] = Unit
-  Each (c ∷ cs) = P c.fault × (c.test ≡ false → Each cs)
+  Each (c ∷ cs) = P (Err c.fault) × (c.test ≡ false → Each cs)
 
-  pub keeps : (cs : List Cause) → Each cs → P (fault_of cs)
-  unfolding fault_of
+  pub keeps : (cs : List Cause) → Each cs → P (judged cs)
+  unfolding judged
   keeps [] h = none
   keeps (c ∷ cs) h = cases c.test (λ q. rw (head-holds c cs q) h.0) (λ q. rw (head-fails c cs q) (keeps cs (h.1 q)))
 
-  pub keeps-both : (cs ds : List Cause) → P (fault_of cs) → (Fine cs → P (fault_of ds)) → P (fault_of (cs ++ ds))
-  keeps-both cs ds p q =
-      cases (is_none (fault_of cs)) (λ e. rw (goes_on cs ds e) (q (fine cs e))) (λ e. rw (stops cs ds e) p)
+  pub keeps-both : (cs ds : List Cause) → P (judged cs) → (Fine cs → P (judged ds)) → P (judged (cs ++ ds))
+  keeps-both [] ds p q = q tt
+  keeps-both (c ∷ cs) ds p q = cases c.test
+      (λ e. rw (head-holds c (cs ++ ds) e) (rw (sym (head-holds c cs e)) p))
+      (λ e. rw (head-fails c (cs ++ ds) e) (keeps-both cs ds (rw (sym (head-fails c cs e)) p) (λ n. q (e, n))))

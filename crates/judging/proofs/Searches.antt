@@ -7,9 +7,8 @@ use Prim.Native.Nat.{ℕ, zero, suc, ◌+◌, ◌-◌, ◌<◌, ◌≤◌}
 use native.Mathlib.Decide.{ℕ_discrete}
 use native.Mathlib.Omega.{arith}
 use Rattle.judging.specs.declared.fault.Fault.{Fault}
-use Rattle.judging.specs.declared.fault.Fault.TheVariants.{None}
-use Rattle.judging.specs.Faults.{is_none}
-use Rattle.judging.specs.Causes.{Cause, fault_of, from}
+use Rattle.std.specs.Prelude.{Ok, Err}
+use Rattle.judging.specs.Causes.{Cause, Verdict, judged, from}
 use Rattle.judging.proofs.CauseLaws.{Fine, Each, stops, goes_on}
 
 pub fine-append : (cs ds : List Cause) → Fine cs → Fine ds → Fine (cs ++ ds)
@@ -48,28 +47,28 @@ module _ (c : ℕ → List Cause) where
   unfolding from
   up_step n d h = let e : n - d ≡ suc (n - (d + 1)) = omega arith in rw e
 
-  pub none_left : (n d : ℕ) → n ≤ d → fault_of (up_to n d) ≡ None
-  unfolding from fault_of
+  pub none_left : (n d : ℕ) → n ≤ d → judged (up_to n d) ≡ Ok tt
+  unfolding from judged
   none_left n d h = let e : n - d ≡ 0 = omega arith in rw e
 
-  pub found_here : (n d : ℕ) → d < n → is_none (fault_of (c d)) ≡ false → fault_of (up_to n d) ≡ fault_of (c d)
-  found_here n d h e = ap fault_of (up_step n d h) ∙ stops (c d) (up_to n (d + 1)) e
+  pub found_here : (n d : ℕ) → d < n → {f : Fault} → judged (c d) ≡ Err f → judged (up_to n d) ≡ Err f
+  found_here n d h e = ap judged (up_step n d h) ∙ stops (c d) (up_to n (d + 1)) e
 
-  pub none_here : (n d : ℕ) → d < n → is_none (fault_of (c d)) ≡ true → fault_of (up_to n d) ≡ fault_of (up_to n (d + 1))
-  none_here n d h e = ap fault_of (up_step n d h) ∙ goes_on (c d) (up_to n (d + 1)) e
+  pub none_here : (n d : ℕ) → d < n → judged (c d) ≡ Ok tt → judged (up_to n d) ≡ judged (up_to n (d + 1))
+  none_here n d h e = ap judged (up_step n d h) ∙ goes_on (c d) (up_to n (d + 1)) e
 
 -- the same where the index gives one cause
 module _ (c : ℕ → Cause) where
-  pub one_found : (n d : ℕ) → d < n → (c d).test ≡ true → fault_of (up_to (λ k. c k ∷ []) n d) ≡ (c d).fault
-  unfolding from fault_of
+  pub one_found : (n d : ℕ) → d < n → (c d).test ≡ true → judged (up_to (λ k. c k ∷ []) n d) ≡ Err (c d).fault
+  unfolding from judged
   one_found n d h e = let s : n - d ≡ suc (n - (d + 1)) = omega arith in rw (s, e)
 
-  pub one-fails : (n d : ℕ) → d < n → (c d).test ≡ false → fault_of (up_to (λ k. c k ∷ []) n d) ≡ fault_of (up_to (λ k. c k ∷ []) n (d + 1))
-  unfolding from fault_of
+  pub one-fails : (n d : ℕ) → d < n → (c d).test ≡ false → judged (up_to (λ k. c k ∷ []) n d) ≡ judged (up_to (λ k. c k ∷ []) n (d + 1))
+  unfolding from judged
   one-fails n d h e = let s : n - d ≡ suc (n - (d + 1)) = omega arith in rw (s, e)
 
 -- what holds of each cause's fault, of two parts and of all that an index gives
-module _ (P : Fault → Type 0) (none : P None) where
+module _ (P : Verdict → Type 0) (none : P (Ok tt)) where
   pub each_append : (cs ds : List Cause) → Each P none cs → (Fine cs → Each P none ds) → Each P none (cs ++ ds)
   each_append [] ds p q = q tt
   each_append (c ∷ cs) ds p q = (p.0, λ e. each_append cs ds (p.1 e) (λ f. q (e, f)))

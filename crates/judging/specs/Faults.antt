@@ -1,7 +1,6 @@
 -- Document 01's number and values for each fault.
-use Rattle.std.specs.Prelude.{Bool, eqb}
 use Rattle.judging.specs.declared.fault.Fault.{Fault}
-use Rattle.judging.specs.declared.fault.Fault.TheVariants.{None, Width, Length, HighBit, RowZero, RowPair, Triple, Call, Card, List}
+use Rattle.judging.specs.declared.fault.Fault.TheVariants.{Width, Length, HighBit, RowZero, RowPair, Triple, Call, Card, List}
 use Rattle.judging.specs.declared.fault.CallFault.{CallFault}
 use Rattle.judging.specs.declared.fault.CallFault.TheVariants.{InverseOfZero, TraceOne, OutputShort, NoType, BadGate}
 use Rattle.judging.specs.declared.fault.CardFault.{CardFault}
@@ -32,9 +31,8 @@ list_number_of Size = (19, 0, 0)
 list_number_of ListForm = (20, 0, 0)
 list_number_of (Output r) = (21, r, 0)
 
--- the columns Number and Returned of document 01's table of faults: the number, 0 where there is no fault, and what is returned beside it
+-- the columns Number and Returned of document 01's table of faults: the number, and what is returned beside it
 abbrev pub number_of : Fault → FaultNumber
-number_of None = (0, 0, 0)
 number_of Width = (1, 0, 0)
 number_of Length = (2, 0, 0)
 number_of HighBit = (3, 0, 0)
@@ -44,10 +42,6 @@ number_of (Triple i j) = (6, i, j)
 number_of (Call c) = call_number_of c
 number_of (Card c) = card_number_of c
 number_of (List c) = list_number_of c
-
--- no number is given
-unfoldable pub is_none : Fault → Bool
-is_none f = eqb (number_of f).0 0
 
 -- 12 to 16, as the rules of a card name them
 abbrev pub card_ends : Fault

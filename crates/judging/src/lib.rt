@@ -4,8 +4,8 @@
 mod fault;
 mod parts;
 
-pub use fault::{CallFault, CardFault, Fault, FaultNumber, ListFault, is_none, number};
+pub use fault::{CallFault, CardFault, Fault, FaultNumber, ListFault};
 pub use parts::{
-    judge_both_high, judge_high, judge_high_of, judge_length, judge_pair_sizes, judge_pair_widths,
-    judge_size, judge_sizes, judge_table_size, judge_width, judge_widths,
+    judge_both_high, judge_high, judge_length, judge_lengths, judge_pair_widths, judge_sizes,
+    judge_table_size, judge_width, judge_widths,
 };

@@ -28,23 +28,8 @@ pub fn cleared(x: [u8; BYTES], m: usize) -> [u8; BYTES]
     limbs::to_bytes(limbs::low_limbs(limbs::to_limbs(x), m))
 }
 
-// Whether no coordinate at m or above is set. Every limb is looked at, with no way out before the last.
-pub fn is_clear(x: [u8; BYTES], m: usize) -> bool
-    ensures { result ≡ is_clear m x }
-{
-    let all = limbs::to_limbs(x);
-    let mut high: u64 = 0;
-    let mut w = 0;
-    while w < LIMBS {
-        let limb = all[w];
-        high = high | (limb - limbs::low_limb(limb, w, m));
-        w += 1;
-    }
-    high == 0
-}
-
-// The same of a slice: one byte is looked at where it has as many as the width needs.
-pub fn is_clear_slice(s: &[u8], m: usize) -> bool
+// Whether no coordinate at m or above is set: one byte is looked at where there are as many as the width needs.
+pub fn is_clear(s: &[u8], m: usize) -> bool
     ensures { result ≡ is_clear m s.now }
 {
     let first = m / 8;

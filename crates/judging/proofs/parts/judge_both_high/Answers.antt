@@ -1,12 +1,14 @@
 -- `judging::parts::judge_both_high` meets its contract.
-use mathlib.Core.List.{[], ◌∷◌}
-use Rattle.judging.specs.FaultTable.{high_bit}
-use Rattle.judging.proofs.CauseLaws.{ends, follows}
+use mathlib.Core.Path.{ap, ◌∙◌}
+use mathlib.Core.List.{[], ◌∷◌, map}
+use Rattle.judging.specs.Causes.{judged}
+use Rattle.judging.specs.FaultTable.{bad_width, bad_length, high_bit}
+use Rattle.judging.proofs.CauseLaws.{ends, follows, handed_on}
 use Rattle.judging.proofs.parts.judge_both_high.Goals as goal
 
-pub returns-then-not-is_none : goal.returns-then-not-is_none
-returns-then-not-is_none c = ends (high_bit _ _ ∷ []) (high_bit _ _ ∷ []) c.judge_high-first.ensures c.is_none.ensures c.if-not-is_none.true
+pub returns-in_err-judge_high : goal.returns-in_err-judge_high
+returns-in_err-judge_high c =
+    handed_on c.from_residual.result c.from_residual.ensures.1 (ends (high_bit _ _ ∷ []) (high_bit _ _ ∷ []) c.judge_high.ensures c.in_err-judge_high.was)
 
 pub returns : goal.returns
-returns c =
-    follows (high_bit _ _ ∷ []) (high_bit _ _ ∷ []) c.judge_high-first.ensures c.is_none.ensures c.if-not-is_none.false c.judge_high.ensures
+returns c = follows (high_bit _ _ ∷ []) (high_bit _ _ ∷ []) c.judge_high.ensures c.in_ok-judge_high.was c.judge_high-2.ensures

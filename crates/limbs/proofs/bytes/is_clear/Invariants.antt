@@ -1,12 +1,12 @@
 -- `limbs::bytes::is_clear` meets its contract.
 use mathlib.Core.Path.{◌≡◌}
-use Prim.Native.Nat.{◌-◌, ◌≤◌}
-use Rattle.limbs.specs.Limbs.{carried_limbs}
-use Rattle.limbs.proofs.LimbLoops.{ored, above}
+use Prim.Native.Nat.{ℕ, ◌-◌, ◌*◌, ◌<◌, ◌≤◌}
+use lib.ListN.{length}
+use Rattle.gf2.specs.Coordinates.{coord}
 use Rattle.limbs.proofs.bytes.is_clear.Given as goal
 
-abbrev pub invariant-loop-w : goal.invariant-loop-w
-invariant-loop-w l = (l.w ≤ carried_limbs) × (l.high ≡ ored l.w (above l.m l.all))
+abbrev pub invariant-loop-b : goal.invariant-loop-b
+invariant-loop-b l = (l.m ≤ l.b * 8) × ((i : ℕ) → l.m ≤ i → i < 8 * l.b → coord l.s i ≡ 0)
 
-abbrev pub decreases-loop-w : goal.decreases-loop-w
-decreases-loop-w l = carried_limbs - l.w
+abbrev pub decreases-loop-b : goal.decreases-loop-b
+decreases-loop-b l = length l.s - l.b
