@@ -1,7 +1,5 @@
 -- What reading a card answers, for every input, and the buffer that it leaves.
-use Rattle.std.specs.Prelude.{List, ◌++◌, ℕ, length, drop}
-use Rattle.judging.specs.declared.fault.Fault.TheVariants.{None}
-use Rattle.card.specs.declared.CardAnswer.{CardAnswer}
+use Rattle.std.specs.Prelude.{List, ◌++◌, ℕ, length, drop, Ok}
 use Rattle.card.specs.Numbers.{Read, refused, got}
 use Rattle.card.specs.Cards.{Table, read_card}
 
@@ -10,9 +8,9 @@ abbrev pub in_front : List ℕ → List ℕ → List ℕ
 in_front bytes old = bytes ++ drop (length bytes) old
 
 -- "reading one returns m"
-abbrev pub read_answer : Read Table → CardAnswer
-read_answer (refused f) = record { fault = f; value = 0 }
-read_answer (got t rest) = record { fault = None; value = t.width }
+abbrev pub read_answer : Read Table → Result ℕ Fault
+read_answer (refused f) = Err f
+read_answer (got t rest) = Ok t.width
 
 -- "Reading fills the first m·W bytes of the lent table"; on a fault it is as it was
 abbrev pub read_into : Read Table → List ℕ → List ℕ
@@ -20,7 +18,7 @@ read_into (refused f) old = old
 read_into (got t rest) old = in_front t.bytes old
 
 -- reading the card s, where the lent table is `old`
-abbrev pub read_call : List ℕ → List ℕ → CardAnswer
+abbrev pub read_call : List ℕ → List ℕ → Result ℕ Fault
 read_call s old = read_answer (read_card (length old) s)
 
 abbrev pub read_table : List ℕ → List ℕ → List ℕ

@@ -1,10 +1,9 @@
 -- The card of a table: how it is written, and what reading one finds.
 -- "Card" is document 01's word for the serialised form of a table.
-use Rattle.std.specs.Prelude.{List, [], ◌∷◌, ◌++◌, ℕ, ◌*◌, eqb}
+use Rattle.std.specs.Prelude.{List, [], ◌∷◌, ◌++◌, ℕ, ◌*◌, eqb, Ok, Err}
 use Rattle.gf2.specs.Operands.{bytes_for, choose}
-use Rattle.judging.specs.declared.fault.Fault.{Fault}
-use Rattle.judging.specs.Faults.{is_none, card_form, card_tail}
-use Rattle.judging.specs.Causes.{Cause, fault_of}
+use Rattle.judging.specs.Faults.{card_form, card_tail}
+use Rattle.judging.specs.Causes.{Cause, Verdict, judged}
 use Rattle.judging.specs.FaultTable.{bad_width, too_short}
 use Rattle.card.specs.Numbers.{number, Read, refused, got, and_then, read_number}
 use Rattle.card.specs.Rows.{rows_card, read_rows}
@@ -17,13 +16,17 @@ card m table = number 1 ++ (number m ++ rows_card m table 0 m)
 abbrev pub lent_causes : ℕ → ℕ → List Cause
 lent_causes room m = bad_width m ∷ too_short room (m * bytes_for m) ∷ []
 
-abbrev pub lent_fault : ℕ → ℕ → Fault
-lent_fault room m = fault_of (lent_causes room m)
+abbrev pub lent_verdict : ℕ → ℕ → Verdict
+lent_verdict room m = judged (lent_causes room m)
+
+-- a value and the bytes that are left, where they pass
+abbrev pub passed : {A : Type 0} → Verdict → A → List ℕ → Read A
+passed (Ok _) a rest = got a rest
+passed (Err f) a rest = refused f
 
 -- the width, for a lent table of `room` bytes
 unfoldable pub read_width : ℕ → List ℕ → Read ℕ
-read_width room s =
-    and_then (read_number s) (λ m rest. choose (is_none (lent_fault room m)) (got m rest) (refused (lent_fault room m)))
+read_width room s = and_then (read_number s) (λ m rest. passed (lent_verdict room m) m rest)
 
 -- 14: "form not 1"
 unfoldable pub read_head : ℕ → List ℕ → Read ℕ

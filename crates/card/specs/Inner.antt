@@ -1,26 +1,21 @@
 -- Inner definitions, which no demand cites: what the code's steps through a card say. A place in a card's bytes stands for the
 -- bytes that are left from there.
-use Rattle.std.specs.Prelude.{◌≡◌, List, ℕ, ◌*◌, drop}
+use Rattle.std.specs.Prelude.{◌≡◌, List, ℕ, ◌*◌, drop, Result, Ok, Err}
 use Rattle.std.proofs.lemmas.List.Edits.{sets}
 use Rattle.gf2.specs.Operands.{bytes_for, carried_bytes, from_coords}
 use Rattle.card.specs.Numbers.{Read, refused, got}
 use Rattle.card.specs.Rows.{is_place, read_rows}
-use Rattle.card.specs.declared.reading.Step.{Step}
-use Rattle.card.specs.declared.reading.Step.TheVariants.{Got, Refused}
-use Rattle.card.specs.declared.reading.Row.{Row}
+use Rattle.judging.specs.declared.fault.Fault.{Fault}
 
--- a value and where it ends
-abbrev pub told : List ℕ → Step → Read ℕ
-told s (Got value next) = got value (drop next s)
-told s (Refused f) = refused f
+-- a value and the place where it ends, or a fault
+abbrev pub told : {A : Type 0} → List ℕ → Result (A × ℕ) Fault → Read A
+told s (Ok (value, next)) = got value (drop next s)
+told s (Err f) = refused f
 
--- where a row ends, and the bytes found beside it
-abbrev pub told_bytes : List ℕ → List ℕ → Step → Read (List ℕ)
-told_bytes bytes s (Got value next) = got bytes (drop next s)
-told_bytes bytes s (Refused f) = refused f
-
-abbrev pub told_row : List ℕ → Row → Read (List ℕ)
-told_row s r = told_bytes r.bytes s r.end
+-- the place where a part ends, whatever its value
+abbrev pub told_end : List ℕ → Result ℕ Fault → Read ℕ
+told_end s (Ok next) = got 0 (drop next s)
+told_end s (Err f) = refused f
 
 -- a row's places as a carried operand
 abbrev pub carried_places : ℕ → Read (List ℕ) → Read (List ℕ)

@@ -1,11 +1,10 @@
 -- What is proved of cards beside the contract of reading: the statements alone, over the definitions that the contract cites.
 -- Numbers, rows and cards: what is written is read as it was, and what is read is written as it was. A table has exactly one card.
-use Rattle.std.specs.Prelude.{◌≡◌, List, ◌++◌, ℕ, ◌+◌, ◌*◌, ◌<◌, ◌≤◌, length, take}
+use Rattle.std.specs.Prelude.{◌≡◌, List, ◌++◌, ℕ, ◌+◌, ◌*◌, ◌<◌, ◌≤◌, length, take, Ok}
 use Rattle.std.proofs.lemmas.List.Edits.{sets}
 pub use Rattle.gf2.specs.Coordinates.{Bytes}
 use Rattle.gf2.specs.Operands.{max_width, bytes_for, IsOperand}
 use Rattle.gf2.specs.Tables.{row, IsTable}
-use Rattle.judging.specs.declared.fault.Fault.TheVariants.{None}
 use Rattle.card.specs.Numbers.{number, number_limit, got, read_number}
 use Rattle.card.specs.Rows.{rows_card, row_range, read_rows}
 use Rattle.card.specs.Cards.{card}
@@ -31,14 +30,14 @@ pub record RowTrips (m : ℕ) : Type 0 where
 -- a table of width m and its card
 pub record TableTrip (m : ℕ) (table : List ℕ) : Type 0 where
   -- reading its card into a buffer with room gives m and the table
-  pub answers : (old : List ℕ) → m * bytes_for m ≤ length old → read_call (card m table) old ≡ (record { fault = None; value = m })
+  pub answers : (old : List ℕ) → m * bytes_for m ≤ length old → read_call (card m table) old ≡ Ok m
   pub fills : (old : List ℕ) → m * bytes_for m ≤ length old → read_table (card m table) old ≡ in_front table old
   -- and it is the only card from which these are read
-  pub only : (s old : List ℕ) → Bytes s → read_call s old ≡ (record { fault = None; value = m }) → read_table s old ≡ in_front table old → s ≡ card m table
+  pub only : (s old : List ℕ) → Bytes s → read_call s old ≡ Ok m → read_table s old ≡ in_front table old → s ≡ card m table
 
--- the width and the table that reading the card s finds, where the lent table is `old`
+-- the width, 0 beside a fault, and the table that reading the card s finds, where the lent table is `old`
 abbrev pub width_read : List ℕ → List ℕ → ℕ
-width_read s old = (read_call s old).value
+width_read s old = result_unwrap_or (read_call s old) 0
 
 abbrev pub table_read : List ℕ → List ℕ → List ℕ
 table_read s old = take (width_read s old * bytes_for (width_read s old)) (read_table s old)
@@ -55,4 +54,4 @@ pub record CardLaws : Type 0 where
   pub rows : (m : ℕ) → m ≤ max_width → RowTrips m
   pub tables : (m : ℕ) (table : List ℕ) → 2 ≤ m → m ≤ max_width → IsTable m table → TableTrip m table
   -- a card that is read without fault is that of the width and the table that are read
-  pub cards : (s old : List ℕ) → Bytes s → (read_call s old).fault ≡ None → CardOf s (width_read s old) (table_read s old)
+  pub cards : (s old : List ℕ) → Bytes s → IsOk (read_call s old) → CardOf s (width_read s old) (table_read s old)

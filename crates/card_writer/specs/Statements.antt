@@ -1,9 +1,8 @@
 -- What is proved of writing beside its contract: the statements alone, over the definitions that the contracts cite.
 -- A card that was read is written as it was. How long a card can be. The cards of the four carried tables, byte by byte.
-use Rattle.std.specs.Prelude.{◌≡◌, List, [], ◌∷◌, ◌++◌, ℕ, zero, suc, ◌≤◌, length}
+use Rattle.std.specs.Prelude.{◌≡◌, List, [], ◌∷◌, ◌++◌, ℕ, zero, suc, ◌≤◌, length, Ok}
 use Rattle.gf2.specs.Operands.{bytes_for, ones}
 use Rattle.gf2.specs.Tables.{IsTable}
-use Rattle.judging.specs.declared.fault.Fault.TheVariants.{None}
 use Rattle.table.specs.Carried.{carried2, carried3, carried4, carried5}
 use Rattle.card.specs.Cards.{card}
 use Rattle.card.specs.Calls.{in_front, read_call}
@@ -13,11 +12,11 @@ use Rattle.card_writer.specs.Calls.{longest, write_call, write_card}
 -- a card s, and the table of width m that is read from it: writing the table gives the very card back
 pub record CardTrip (s : List ℕ) (m : ℕ) (table : List ℕ) : Type 0 where
   pub of_table : CardOf s m table
-  pub answers : (out : List ℕ) → length s ≤ length out → write_call m table out ≡ (record { fault = None; value = length s })
+  pub answers : (out : List ℕ) → length s ≤ length out → write_call m table out ≡ Ok (length s)
   pub writes : (out : List ℕ) → length s ≤ length out → write_card m table out ≡ in_front s out
 
 abbrev pub CardTrips : Type 0
-CardTrips = (s old : List ℕ) → Bytes s → (read_call s old).fault ≡ None → CardTrip s (width_read s old) (table_read s old)
+CardTrips = (s old : List ℕ) → Bytes s → IsOk (read_call s old) → CardTrip s (width_read s old) (table_read s old)
 
 -- `count` rows, each the operand one
 unfoldable pub one_rows : ℕ → ℕ → List ℕ

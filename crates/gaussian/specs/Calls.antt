@@ -1,30 +1,28 @@
 -- What each call answers, for every input.
-use Rattle.std.specs.Prelude.{List, ℕ, length}
+use Rattle.std.specs.Prelude.{List, ℕ, length, Result, is_ok}
 use Rattle.gf2.specs.Operands.{choose}
 use Rattle.judging.specs.declared.fault.Fault.{Fault}
-use Rattle.judging.specs.Faults.{is_none}
-use Rattle.judging.specs.Causes.{fault_of}
-use Rattle.gaussian.specs.declared.TypeAnswer.{TypeAnswer}
+use Rattle.judging.specs.Causes.{Verdict, judged, answered}
 use Rattle.gaussian.specs.Types.{type_of}
 use Rattle.gaussian.specs.Table.{drawn}
 use Rattle.gaussian.specs.Causes.{type_causes, draw_causes}
 
--- a fault with no type, or no fault and the type of m
-unfoldable pub answer : Fault → ℕ → TypeAnswer
-answer f m = record { fault = f; t = choose (is_none f) (type_of m) 0 }
+-- a fault, or the type of m
+abbrev pub answer : Verdict → ℕ → Result ℕ Fault
+answer v m = answered v (type_of m)
 
 -- "A fixed list holds the type of each width 2 to 571"
-abbrev pub type_call : ℕ → TypeAnswer
-type_call m = answer (fault_of (type_causes m)) m
+abbrev pub type_call : ℕ → Result ℕ Fault
+type_call m = answer (judged (type_causes m)) m
 
--- the fault of drawing into a buffer of this length
-abbrev pub draw_fault : ℕ → ℕ → Fault
-draw_fault m size = fault_of (draw_causes m size)
+-- the verdict on drawing into a buffer of this length
+abbrev pub draw_verdict : ℕ → ℕ → Verdict
+draw_verdict m size = judged (draw_causes m size)
 
 -- "drawing a table returns its type T"
-abbrev pub draw_call : ℕ → ℕ → TypeAnswer
-draw_call m size = answer (draw_fault m size) m
+abbrev pub draw_call : ℕ → ℕ → Result ℕ Fault
+draw_call m size = answer (draw_verdict m size) m
 
 -- the table of m and its type; on a fault the buffer as it was
 abbrev pub drawn_into : ℕ → List ℕ → List ℕ
-drawn_into m old = choose (is_none (draw_fault m (length old))) (drawn m (type_of m)) old
+drawn_into m old = choose (is_ok (draw_verdict m (length old))) (drawn m (type_of m)) old

@@ -27,6 +27,11 @@ unfoldable pub answered : {A : Type 0} → Verdict → A → Result A Fault
 answered (Ok _) value = Ok value
 answered (Err f) value = Err f
 
+-- the verdict in an answer
+abbrev pub verdict_of : {A : Type 0} → Result A Fault → Verdict
+verdict_of (Ok _) = Ok tt
+verdict_of (Err f) = Err f
+
 -- the causes c start, c (start + 1), .., `count` of them, in this order
 unfoldable pub from : ℕ → ℕ → (ℕ → List Cause) → List Cause
 from start zero c = []

@@ -1,51 +1,50 @@
 -- What each call of the C interface answers, for every input: its fault packed with what it returns. What a call leaves in the lent buffers is
 -- what the call below leaves: zero_into .. solve_into of crate operand, product_into .. of product, those of runner, gaussian, card and list_writer.
-use Rattle.std.specs.Prelude.{List, ℕ}
+use Rattle.std.specs.Prelude.{List, ℕ, Result}
 use Rattle.gf2.specs.Quadratic.{trace}
 use Rattle.gf2.specs.Inverse.{products_made}
-use Rattle.judging.specs.Causes.{Cause, fault_of}
-use Rattle.operand.specs.Causes.{bytes_causes}
+use Rattle.judging.specs.Causes.{Cause, judged}
+use Rattle.operand.specs.Calls.{trace_of}
 use Rattle.table.specs.Calls.{ones_call}
-use Rattle.product.specs.Causes.{inverse_bytes_causes}
-use Rattle.netlist.specs.declared.CountsAnswer.{CountsAnswer}
+use Rattle.product.specs.Calls.{inverse_count}
+use Rattle.judging.specs.declared.fault.Fault.{Fault}
+use Rattle.netlist.specs.declared.Counts.{Counts}
 use Rattle.runner.specs.Causes.{run_bytes_causes}
 use Rattle.runner.specs.Calls.{run_bytes_result, run_bytes_wires}
-use Rattle.gaussian.specs.declared.TypeAnswer.{TypeAnswer}
-use Rattle.card.specs.declared.CardAnswer.{CardAnswer}
-use Rattle.nb.specs.Packing.{packed_answer}
+use Rattle.nb.specs.Packing.{packed_verdict, packed_value, packed_counts}
 
 -- a call that returns nothing beside its fault: nb_check, with 5 "number, least d", with 6 "number, i, j"; nb_zero, nb_one, nb_turn, nb_sum,
 -- nb_solve, nb_product, nb_product_reduced and nb_run
 abbrev pub fault_answer : List Cause → ℕ
-fault_answer causes = packed_answer (fault_of causes) 0 0
+fault_answer causes = packed_verdict (judged causes)
 
 -- nb_ones: "C is the number of ones in the table"
 abbrev pub ones_answer : ℕ → List ℕ → ℕ
-ones_answer m table = packed_answer (ones_call m table).fault (ones_call m table).ones 0
+ones_answer m table = packed_value (ones_call m table)
 
 -- nb_trace: "The trace is the sum of coordinates modulo 2"
 abbrev pub trace_answer : ℕ → List ℕ → ℕ
-trace_answer m a = packed_answer (fault_of (bytes_causes m a)) (trace m a) 0
+trace_answer m a = packed_value (trace_of m a)
 
 -- nb_inverse: "the result carries the last count as the number of products made"
 abbrev pub inverse_answer : ℕ → List ℕ → List ℕ → List ℕ → ℕ
-inverse_answer m table a old = packed_answer (fault_of (inverse_bytes_causes m table a old)) (products_made m table a) 0
+inverse_answer m table a old = packed_value (inverse_count m table a old)
 
 -- nb_counts_.. and nb_list_..: "AND gates and XOR gates are counted apart and both counts returned"; nb_accept, those of the list handed in
-abbrev pub counts_answer : CountsAnswer → ℕ
-counts_answer r = packed_answer r.fault r.ands.0 r.xors.0
+abbrev pub counts_answer : Result Counts Fault → ℕ
+counts_answer r = packed_counts r
 
 -- nb_run: what is left in the result and in the wires
 abbrev pub ran_result : ℕ → List ℕ → List ℕ → List ℕ → List ℕ → List ℕ → List ℕ
-ran_result m list a b result wires = run_bytes_result (fault_of (run_bytes_causes m list a b result wires)) m list a b result
+ran_result m list a b result wires = run_bytes_result (judged (run_bytes_causes m list a b result wires)) m list a b result
 
 abbrev pub ran_wires : ℕ → List ℕ → List ℕ → List ℕ → List ℕ → List ℕ → List ℕ
-ran_wires m list a b result wires = run_bytes_wires (fault_of (run_bytes_causes m list a b result wires)) m list a b wires
+ran_wires m list a b result wires = run_bytes_wires (judged (run_bytes_causes m list a b result wires)) m list a b wires
 
 -- nb_type and nb_draw: "drawing a table returns its type T"
-abbrev pub type_answer : TypeAnswer → ℕ
-type_answer r = packed_answer r.fault r.t 0
+abbrev pub type_answer : Result ℕ Fault → ℕ
+type_answer r = packed_value r
 
 -- nb_card_write and nb_card_read: "Writing a card returns its length in bytes, reading one returns m"
-abbrev pub card_answer : CardAnswer → ℕ
-card_answer r = packed_answer r.fault r.value 0
+abbrev pub card_answer : Result ℕ Fault → ℕ
+card_answer r = packed_value r

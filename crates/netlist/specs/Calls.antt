@@ -1,64 +1,62 @@
--- What each call answers, for every input: its fault, its counts, and its buffers afterwards.
-use Rattle.std.specs.Prelude.{List, [], ◌∷◌, ◌++◌, ℕ, length, drop}
+-- What each call answers, for every input: its counts, or its fault alone; and its buffers afterwards.
+use Rattle.std.specs.Prelude.{List, [], ◌∷◌, ◌++◌, ℕ, length, drop, Result, Ok, is_ok}
 use Rattle.gf2.specs.Operands.{choose}
 use Rattle.judging.specs.declared.fault.Fault.{Fault}
-use Rattle.judging.specs.declared.fault.Fault.TheVariants.{None}
-use Rattle.judging.specs.Faults.{is_none}
-use Rattle.judging.specs.Causes.{Cause, fault_of}
+use Rattle.judging.specs.Causes.{Cause, Verdict, judged, answered}
 use Rattle.judging.specs.FaultTable.{too_short, symmetry_causes}
-use Rattle.table.specs.Judgements.{symmetry_fault}
-use Rattle.netlist.specs.declared.CountsAnswer.{CountsAnswer}
+use Rattle.table.specs.Judgements.{symmetry_verdict}
+use Rattle.netlist.specs.declared.Counts.{Counts}
 use Rattle.netlist.specs.declared.AllCounts.{AllCounts}
 use Rattle.netlist.specs.Gates.{Netlist, words, and_gates, xor_gates}
 use Rattle.netlist.specs.Lists.{plain, reduced, common}
 
--- a fault and no counts, or no fault and both counts
-unfoldable pub answer : Fault → ℕ → ℕ → CountsAnswer
-answer f ands xors =
-    record { fault = f; ands = record { 0 = choose (is_none f) ands 0 }; xors = record { 0 = choose (is_none f) xors 0 } }
+-- both counts
+abbrev pub both : ℕ → ℕ → Counts
+both ands xors = record { ands = record { 0 = ands }; xors = record { 0 = xors } }
 
--- the two cases
-abbrev pub refused_with : Fault → CountsAnswer
-refused_with f = record { fault = f; ands = record { 0 = 0 }; xors = record { 0 = 0 } }
+-- those of a list: "the numbers of kind 0 and of kind 1 gates among the g"
+abbrev pub counts_of : Netlist → Counts
+counts_of list = both (and_gates list.gates) (xor_gates list.gates)
 
-abbrev pub counted_as : ℕ → ℕ → CountsAnswer
-counted_as ands xors = record { fault = None; ands = record { 0 = ands }; xors = record { 0 = xors } }
+-- both counts, where there is no fault
+abbrev pub counted_as : ℕ → ℕ → Result Counts Fault
+counted_as ands xors = Ok (both ands xors)
 
 -- "The same two counts can be had without writing the list. They are the numbers of kind 0 and of kind 1 gates among the g."
-abbrev pub counts_call : ℕ → List ℕ → Netlist → CountsAnswer
-counts_call m table list = answer (symmetry_fault m table) (and_gates list.gates) (xor_gates list.gates)
+abbrev pub counts_call : ℕ → List ℕ → Netlist → Result Counts Fault
+counts_call m table list = answered (symmetry_verdict m table) (counts_of list)
 
 -- of each of the three lists
-abbrev pub counts_plain_call : ℕ → List ℕ → CountsAnswer
+abbrev pub counts_plain_call : ℕ → List ℕ → Result Counts Fault
 counts_plain_call m table = counts_call m table (plain m table)
 
-abbrev pub counts_reduced_call : ℕ → List ℕ → CountsAnswer
+abbrev pub counts_reduced_call : ℕ → List ℕ → Result Counts Fault
 counts_reduced_call m table = counts_call m table (reduced m table)
 
-abbrev pub counts_common_call : ℕ → List ℕ → CountsAnswer
+abbrev pub counts_common_call : ℕ → List ℕ → Result Counts Fault
 counts_common_call m table = counts_call m table (common m table)
 
 -- of all three
-abbrev pub all_counts_call : ℕ → List ℕ → AllCounts
+abbrev pub all_counts_call : ℕ → List ℕ → Result AllCounts Fault
 all_counts_call m table =
-    record { plain = counts_plain_call m table; reduced = counts_reduced_call m table; common = counts_common_call m table }
+    answered (symmetry_verdict m table)
+    (record { plain = counts_of (plain m table); reduced = counts_of (reduced m table); common = counts_of (common m table) })
 
 -- "4 and 5 also for the .. gate lists"; 11 where the list is longer than the buffer
 abbrev pub list_causes : ℕ → List ℕ → Netlist → List ℕ → List Cause
 list_causes m table list old = symmetry_causes m table ++ (too_short (length old) (length (words m list)) ∷ [])
 
-abbrev pub list_fault : ℕ → List ℕ → Netlist → List ℕ → Fault
-list_fault m table list old = fault_of (list_causes m table list old)
+abbrev pub list_verdict : ℕ → List ℕ → Netlist → List ℕ → Verdict
+list_verdict m table list old = judged (list_causes m table list old)
 
 -- "AND gates and XOR gates are counted apart and both counts returned"
-abbrev pub list_call : ℕ → List ℕ → Netlist → List ℕ → CountsAnswer
-list_call m table list old =
-    answer (list_fault m table list old) (and_gates list.gates) (xor_gates list.gates)
+abbrev pub list_call : ℕ → List ℕ → Netlist → List ℕ → Result Counts Fault
+list_call m table list old = answered (list_verdict m table list old) (counts_of list)
 
 -- "Words after a written list .. stay"; on a fault the buffer as it was
 abbrev pub list_buffer : ℕ → List ℕ → Netlist → List ℕ → List ℕ
 list_buffer m table list old =
     choose
-    (is_none (list_fault m table list old))
+    (is_ok (list_verdict m table list old))
     (words m list ++ drop (length (words m list)) old)
     old

@@ -1,10 +1,10 @@
 -- Inner: the three lists by their method, and all numbers of a list in one answer. The writer's calls are told by them.
-use Rattle.std.specs.Prelude.{List, ℕ, length}
-use Rattle.gf2.specs.Operands.{choose}
+use Rattle.std.specs.Prelude.{List, ℕ, length, Result}
 use Rattle.judging.specs.declared.fault.Fault.{Fault}
-use Rattle.judging.specs.Faults.{is_none}
-use Rattle.table.specs.Judgements.{symmetry_fault}
-use Rattle.netlist.specs.declared.Numbers.{Numbers}
+use Rattle.table.specs.Judgements.{symmetry_verdict}
+use Rattle.judging.specs.Causes.{answered}
+use Rattle.netlist.specs.declared.Tally.{Tally}
+use Rattle.netlist.specs.Calls.{counts_of}
 use Rattle.netlist.specs.declared.counts.Method.{Method}
 use Rattle.netlist.specs.declared.counts.Method.TheVariants.{Plain, Reduced, Common}
 use Rattle.netlist.specs.Gates.{Netlist, and_gates, xor_gates}
@@ -33,16 +33,10 @@ gates_by Plain m ones q = plain_gates m ones
 gates_by Reduced m ones q = reduced_gates m ones
 gates_by Common m ones q = common_gates m ones q
 
--- a fault and zeros, or no fault and the numbers
-unfoldable pub tallied : Fault → Netlist → ℕ → Numbers
-tallied f list q =
-    record {
-      fault = f;
-      ands = record { 0 = choose (is_none f) (and_gates list.gates) 0 };
-      xors = record { 0 = choose (is_none f) (xor_gates list.gates) 0 };
-      gates = choose (is_none f) (length list.gates) 0;
-      full = choose (is_none f) q 0;
-    }
+-- all numbers of a list of a table
+abbrev pub tallied : Method → ℕ → List ℕ → Tally
+tallied method m table =
+    record { counts = counts_of (list_by method m table); gates = length (list_by method m table).gates; full = shared_by method m table }
 
-abbrev pub tally_call : Method → ℕ → List ℕ → Numbers
-tally_call method m table = tallied (symmetry_fault m table) (list_by method m table) (shared_by method m table)
+abbrev pub tally_call : Method → ℕ → List ℕ → Result Tally Fault
+tally_call method m table = answered (symmetry_verdict m table) (tallied method m table)

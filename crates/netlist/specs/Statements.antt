@@ -4,14 +4,13 @@
 -- ListsHold: all of this for each of the three lists, under rules 4 and 5.
 -- CountsHold: what the calls that count answer for a table that passes.
 -- CommonCounts: an accepted table has at most one all-ones row, and so the common list's gates.
-use Rattle.std.specs.Prelude.{◌≡◌, List, ℕ, ◌+◌, ◌-◌, ◌*◌, ◌<◌, ◌≤◌, length, get_or}
+use Rattle.std.specs.Prelude.{◌≡◌, List, ℕ, ◌+◌, ◌-◌, ◌*◌, ◌<◌, ◌≤◌, length, get_or, Ok}
 use Rattle.gf2.specs.Coordinates.{coord}
 use Rattle.gf2.specs.Operands.{bytes_for, from_coords, ones}
 use Rattle.gf2.specs.Tables.{IsTable, row, ones_in}
 use Rattle.gf2.specs.Products.{product}
 use Rattle.gf2.specs.Check.{Symmetric, Accepted}
-use Rattle.judging.specs.declared.fault.Fault.TheVariants.{None}
-use Rattle.table.specs.Judgements.{symmetry_fault}
+use Rattle.table.specs.Judgements.{symmetry_verdict}
 use Rattle.netlist.specs.Gates.{Netlist, words, and_gates, xor_gates}
 use Rattle.netlist.specs.Lists.{plain, reduced, full_rows, common}
 use Rattle.netlist.specs.Running.{value_on, wires, result}
@@ -64,7 +63,7 @@ pub record CountsHold (m : ℕ) (table : List ℕ) : Type 0 where
   pub of_common : counts_common_call m table ≡ counted_as (list_ands m) (common_xors m (ones_in m table) (full_rows m table))
 
 abbrev pub TheoremCounts : Type 0
-TheoremCounts = (m : ℕ) (table : List ℕ) → symmetry_fault m table ≡ None → CountsHold m table
+TheoremCounts = (m : ℕ) (table : List ℕ) → symmetry_verdict m table ≡ Ok tt → CountsHold m table
 
 -- "if common m(C-m)+m-1 where a row is all ones, else m(C-1)"
 pub record CommonCounts (m : ℕ) (table : List ℕ) : Type 0 where

@@ -3,12 +3,12 @@
 -- Sums: associative, commutative, each operand its own inverse.
 -- Quadratic: the solution's coordinate 0 is 0, it solves, it is the only one, and 10 is given exactly when there is none.
 -- Transfer: an operand written and read comes back, and so do bytes read and written.
-use Rattle.std.specs.Prelude.{◌≡◌, ◌↔◌, List, ℕ, zero, suc, ◌+◌, ◌*◌, ◌%◌, ◌<◌, ◌≤◌, length, get_or}
+use Rattle.std.specs.Prelude.{◌≡◌, ◌↔◌, List, ℕ, zero, suc, ◌+◌, ◌*◌, ◌%◌, ◌<◌, ◌≤◌, length, get_or, Ok, Err}
 use Rattle.gf2.specs.Coordinates.{coord}
 use Rattle.gf2.specs.Operands.{max_width, bytes_for, carried_bytes, IsOperand, zeroes, added, turned, squared}
 use Rattle.gf2.specs.Quadratic.{trace, root}
 use Rattle.operand.specs.declared.Operand.{Operand}
-use Rattle.judging.specs.declared.fault.Fault.TheVariants.{None, Call}
+use Rattle.judging.specs.declared.fault.Fault.TheVariants.{Call}
 use Rattle.judging.specs.declared.fault.CallFault.TheVariants.{TraceOne}
 use Rattle.operand.specs.Calls.{turn_call, solve_call, read_call, write_call}
 
@@ -60,10 +60,10 @@ pub record CallLaws : Type 0 where
   pub modulo : (a : Operand) (k : ℕ) → turn_call a k ≡ turn_call a (k % a.width)
   -- 10 is given exactly when no z solves the equation
   pub unsolvable : (c : Operand) → IsCarried c →
-      ((solve_call c).fault ≡ (Call TraceOne)) ↔ ((z : List ℕ) → IsOperand carried_bytes c.width z → ¬ (quadratic c.width z ≡ c.bytes))
+      (solve_call c ≡ Err (Call TraceOne)) ↔ ((z : List ℕ) → IsOperand carried_bytes c.width z → ¬ (quadratic c.width z ≡ c.bytes))
   -- writing an operand and reading it gives it back
   pub read_written : (a : Operand) (old : List ℕ) → IsCarried a → length old ≡ bytes_for a.width →
-      read_call a.width (write_call a old) ≡ (record { fault = None; value = a })
+      read_call a.width (write_call a old) ≡ Ok a
   -- reading bytes and writing them gives them back
-  pub written_read : (m : ℕ) (bytes old : List ℕ) → ((b : ℕ) → get_or bytes b 0 < 256) → (read_call m bytes).fault ≡ None → length old ≡ length bytes →
-      write_call (read_call m bytes).value old ≡ bytes
+  pub written_read : (m : ℕ) (bytes old : List ℕ) → (a : Operand) → ((b : ℕ) → get_or bytes b 0 < 256) → read_call m bytes ≡ Ok a → length old ≡ length bytes →
+      write_call a old ≡ bytes

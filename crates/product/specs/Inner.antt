@@ -1,6 +1,6 @@
 -- Inner definitions, of which only inner functions speak: operands without fault, the rows that a method looks at and what they
 -- add, and the states of the inverse's chain. No demand cites them.
-use Rattle.std.specs.Prelude.{◌≡◌, Bool, true, List, [], ◌∷◌, ◌++◌, ℕ, ◌+◌, ◌-◌, ◌*◌, ◌/◌, ◌%◌, ◌^◌, ◌<◌, ◌≤◌, eqb}
+use Rattle.std.specs.Prelude.{◌≡◌, Bool, true, List, [], ◌∷◌, ◌++◌, ℕ, ◌+◌, ◌-◌, ◌*◌, ◌/◌, ◌%◌, ◌^◌, ◌<◌, ◌≤◌, eqb, Ok}
 use Rattle.gf2.specs.Sums.{sum}
 use Rattle.gf2.specs.Operands.{max_width, carried_bytes, IsOperand, minus, choose, from_coords, turned}
 use Rattle.gf2.specs.Tables.{row}
@@ -9,14 +9,13 @@ use Rattle.gf2.specs.Check.{Symmetric}
 use Rattle.gf2.specs.Inverse.{Chain, adding, digits, inverse, products_made}
 use Rattle.limbs.specs.Limbs.{reach, limb_coord}
 use Rattle.operand.specs.declared.Operand.{Operand}
-use Rattle.operand.specs.declared.OperandAnswer.{OperandAnswer}
-use Rattle.judging.specs.declared.fault.Fault.TheVariants.{None}
-use Rattle.judging.specs.Causes.{Cause, fault_of}
+use Rattle.judging.specs.declared.fault.Fault.{Fault}
+use Rattle.judging.specs.Causes.{Cause, judged}
 use Rattle.judging.specs.FaultTable.{not_table, high_bit, high_bit_in_row, is_zero, rule_causes}
 use Rattle.operand.specs.Calls.{answer, written}
 use Rattle.table.specs.Rows.{Shaped}
 use Rattle.scatter.specs.Cells.{HasSlots, slot_sum, total_at}
-use Rattle.product.specs.declared.InverseAnswer.{InverseAnswer}
+use Rattle.product.specs.declared.Inverse.{Inverse}
 use Rattle.scatter.specs.declared.methods.Method.{Method}
 use Rattle.scatter.specs.declared.methods.Method.TheVariants.{Plain, Reduced}
 use Rattle.product.specs.declared.chain.State.{State}
@@ -70,21 +69,21 @@ unit_causes m table x = row_causes m table ++ (high_bit m x ∷ is_zero carried_
 abbrev pub method_causes : Method → ℕ → List ℕ → Operand → Operand → List Cause
 method_causes k m table a b = product_causes m table a b ++ rules_by k m table
 
-abbrev pub multiply_call : Method → ℕ → List ℕ → Operand → Operand → OperandAnswer
-multiply_call k m table a b = answer (fault_of (method_causes k m table a b)) m (multiplied k m table a.bytes b.bytes)
+abbrev pub multiply_call : Method → ℕ → List ℕ → Operand → Operand → Result Operand Fault
+multiply_call k m table a b = answer (judged (method_causes k m table a b)) m (multiplied k m table a.bytes b.bytes)
 
 -- what is answered where the widths or the lengths have passed
-abbrev pub product_answer : Method → ℕ → List ℕ → List ℕ → List ℕ → OperandAnswer
-product_answer k m table x y = answer (fault_of (factor_causes k m table x y)) m (multiplied k m table x y)
+abbrev pub product_answer : Method → ℕ → List ℕ → List ℕ → List ℕ → Result Operand Fault
+product_answer k m table x y = answer (judged (factor_causes k m table x y)) m (multiplied k m table x y)
 
-abbrev pub inverse_answer : ℕ → List ℕ → List ℕ → InverseAnswer
-inverse_answer m table x = counted (answer (fault_of (unit_causes m table x)) m (inverse m table x)) (products_made m table x)
+abbrev pub inverse_answer : ℕ → List ℕ → List ℕ → Result Inverse Fault
+inverse_answer m table x = answered (judged (unit_causes m table x)) (counted m (inverse m table x) (products_made m table x))
 
 abbrev pub method_bytes_causes : Method → ℕ → List ℕ → List ℕ → List ℕ → List ℕ → List Cause
 method_bytes_causes k m table a b result = product_bytes_causes m table a b result ++ rules_by k m table
 
 abbrev pub multiply_into : Method → ℕ → List ℕ → List ℕ → List ℕ → List ℕ → List ℕ
-multiply_into k m table a b old = written (fault_of (method_bytes_causes k m table a b old)) (multiplied k m table a b) old
+multiply_into k m table a b old = written (judged (method_bytes_causes k m table a b old)) (multiplied k m table a b) old
 
 -- whether row d meets its pairs one way round: always in the plain product, and in the reduced at distance m/2, where the other way gives the same pairs
 abbrev pub is_one_way : Method → ℕ → ℕ → Bool
@@ -136,8 +135,8 @@ abbrev pub added_from : ℕ → List ℕ → List ℕ → ℕ → Chain → Stat
 added_from m table a unread s = state_of m (digits m table a (m - 1) unread (adding m table a ((m - 1) / 2 ^ unread % 2) s))
 
 -- an inverse without fault
-abbrev pub inverted_by : ℕ → List ℕ → List ℕ → InverseAnswer
-inverted_by m table a = record { fault = None; value = operand_of m (inverse m table a); count = products_made m table a }
+abbrev pub inverted_by : ℕ → List ℕ → List ℕ → Inverse
+inverted_by m table a = counted m (inverse m table a) (products_made m table a)
 
 -- `unread` digits of m - 1 are left, and `owed`, 0 or 1, is the digit before them if it has yet to be added
 pub record Underway (m : ℕ) (table : List ℕ) (a : Operand) (s : State) (unread owed : ℕ) : Type 0 where

@@ -1,21 +1,20 @@
 -- Document 02, (b), over the calls of the C interface: which gate lists nb_accept accepts. Its causes, number by number, stand in demand 1.
-use Rattle.std.specs.Prelude.{◌≡◌, ◌↔◌, List, ℕ, ◌+◌, ◌*◌, ◌≤◌, length}
+use Rattle.std.specs.Prelude.{◌≡◌, ◌↔◌, List, ℕ, ◌+◌, ◌*◌, ◌≤◌, length, Ok}
 use Rattle.gf2.specs.Operands.{bytes_for}
 use Rattle.gf2.specs.Field.{Op}
-use Rattle.judging.specs.declared.fault.Fault.TheVariants.{None}
-use Rattle.judging.specs.Causes.{fault_of}
-use Rattle.table.specs.Judgements.{symmetry_fault}
+use Rattle.judging.specs.Causes.{judged}
+use Rattle.table.specs.Judgements.{symmetry_verdict}
 use Rattle.product.specs.Calls.{product_into}
 use Rattle.netlist.specs.Running.{gate_count}
 use Rattle.runner.specs.Causes.{run_bytes_causes}
 use Rattle.equivalence.specs.Causes.{most_width}
-use Rattle.equivalence.specs.Calls.{accept_fault}
+use Rattle.equivalence.specs.Calls.{accept_verdict}
 use Rattle.equivalence.specs.Statements.{Comparable, OwnLists}
 use Rattle.nb.specs.Calls.{ran_result}
 
 -- nb_run of a list on two operands, with a result of W bytes and a byte for each wire: no fault, and the bytes of nb_product
 pub record RunsToProduct (m : ℕ) (table list a b old lent : List ℕ) : Type 0 where
-  pub no_fault : fault_of (run_bytes_causes m list a b old lent) ≡ None
+  pub no_fault : judged (run_bytes_causes m list a b old lent) ≡ Ok tt
   pub value : ran_result m list a b old lent ≡ product_into m table a b old
 
 -- "whose run gives the product for all operands"
@@ -26,7 +25,7 @@ RunsToAllProducts m table list = (a b old lent : List ℕ) → Op m a → Op m b
 pub record Acceptance : Type 0 where
   -- "Under a table not refused, and among lists of at most 2,000 gates where each AND takes one a wire and one b wire and each XOR takes
   -- earlier gates, it accepts exactly those whose run gives the product for all operands."
-  pub exactly : (m : ℕ) (table list : List ℕ) → symmetry_fault m table ≡ None → Comparable m list →
-      (accept_fault m table list ≡ None) ↔ RunsToAllProducts m table list
+  pub exactly : (m : ℕ) (table list : List ℕ) → symmetry_verdict m table ≡ Ok tt → Comparable m list →
+      (accept_verdict m table list ≡ Ok tt) ↔ RunsToAllProducts m table list
   -- so the lists that nb_list_plain, nb_list_reduced and nb_list_common write, where they have at most 2,000 gates
-  pub own : (m : ℕ) (table : List ℕ) → symmetry_fault m table ≡ None → m ≤ most_width → OwnLists m table
+  pub own : (m : ℕ) (table : List ℕ) → symmetry_verdict m table ≡ Ok tt → m ≤ most_width → OwnLists m table

@@ -1,14 +1,15 @@
 -- The causes of a card's faults: "a card is judged in byte order, 11 following its width".
 -- Each cause says what stands well before it, by the rules by which a card is written, and what does not.
-use Rattle.std.specs.Prelude.{◌≡◌, ◌↔◌, ◌⊎◌, List, [], ◌∷◌, ◌++◌, ℕ, zero, suc, ◌+◌, ◌*◌, ◌<◌, ◌≤◌, length}
+use Rattle.std.specs.Prelude.{◌≡◌, ◌↔◌, ◌⊎◌, List, [], ◌∷◌, ◌++◌, ℕ, zero, suc, ◌+◌, ◌*◌, ◌<◌, ◌≤◌, length, Ok, Err}
 use Rattle.gf2.specs.Operands.{max_width, bytes_for, IsOperand}
 use Rattle.gf2.specs.Tables.{IsTable}
 use Rattle.judging.specs.declared.fault.Fault.{Fault}
-use Rattle.judging.specs.declared.fault.Fault.TheVariants.{None, Width, Call}
+use Rattle.judging.specs.declared.fault.Fault.TheVariants.{Width, Call}
 use Rattle.judging.specs.declared.fault.CallFault.TheVariants.{OutputShort}
 use Rattle.card.specs.Numbers.{number, number_limit}
 use Rattle.card.specs.Rows.{steps, row_card}
 use Rattle.card.specs.Cards.{card}
+use Rattle.judging.specs.Causes.{Verdict}
 use Rattle.judging.specs.FaultTable.{BadWidth}
 use Rattle.judging.specs.Faults.{card_ends, card_number, card_form, card_place, card_tail}
 
@@ -91,6 +92,6 @@ pub record GoodCard (room : ℕ) (s : List ℕ) (m : ℕ) (table : List ℕ) : T
   pub is_card : s ≡ card m table
 
 -- A fault is given exactly when its cause holds; none is given exactly when s is a card.
-pub record ExactCard (room : ℕ) (s : List ℕ) (fault : Fault) : Type 0 where
-  pub given : (f : Fault) → ¬ (f ≡ None) → (fault ≡ f) ↔ BadCard room s f
-  pub none : (fault ≡ None) ↔ ((m : ℕ) × (table : List ℕ) × GoodCard room s m table)
+pub record ExactCard (room : ℕ) (s : List ℕ) (verdict : Verdict) : Type 0 where
+  pub given : (f : Fault) → (verdict ≡ Err f) ↔ BadCard room s f
+  pub none : (verdict ≡ Ok tt) ↔ ((m : ℕ) × (table : List ℕ) × GoodCard room s m table)

@@ -1,14 +1,14 @@
 -- Demand 1: every call of the C interface, every call on carried operands, and the report program. Each definition named here is the one
 -- that the contract of the call names, the list of causes among them. Answers has what a call's answer and its buffers are, CarriedCalls and
 -- Reports the records of the other two.
-use Rattle.std.specs.Prelude.{◌≡◌, List, ◌++◌, ℕ, length, drop}
+use Rattle.std.specs.Prelude.{◌≡◌, List, ◌++◌, ℕ, length, drop, Result, Err}
 use Rattle.gf2.specs.Operands.{bytes_for, zeroes, ones as one_operand, added, turned}
 use Rattle.gf2.specs.Quadratic.{trace, root}
 use Rattle.gf2.specs.Tables.{ones_in}
 use Rattle.gf2.specs.Products.{product, reduced}
 use Rattle.gf2.specs.Inverse.{inverse, products_made}
-use Rattle.judging.specs.declared.fault.Fault.TheVariants.{None}
-use Rattle.judging.specs.Causes.{fault_of}
+use Rattle.judging.specs.declared.fault.Fault.{Fault}
+use Rattle.judging.specs.Causes.{judged, verdict_of}
 use Rattle.judging.specs.FaultTable.{shape_causes, symmetry_causes, check_causes}
 use Rattle.operand.specs.Causes.{bytes_causes, constant_causes, turn_bytes_causes, sum_bytes_causes, solve_bytes_causes}
 use Rattle.operand.specs.Calls.{zero_into, one_into, turn_into, sum_into, solve_into}
@@ -18,7 +18,7 @@ use Rattle.netlist.specs.Gates.{Netlist, words, and_gates, xor_gates}
 use Rattle.netlist.specs.Lists.{plain, reduced as reduced_list, common}
 use Rattle.netlist.specs.Running.{read_list, wires as wires_of, result as result_of}
 use Rattle.netlist.specs.Calls.{counts_plain_call, counts_reduced_call, counts_common_call, list_causes, list_call, list_buffer}
-use Rattle.netlist.specs.declared.CountsAnswer.{CountsAnswer}
+use Rattle.netlist.specs.declared.Counts.{Counts as CountsOf}
 use Rattle.runner.specs.Causes.{run_bytes_causes}
 use Rattle.equivalence.specs.Causes.{accept_causes}
 use Rattle.equivalence.specs.Calls.{accept_call}
@@ -38,7 +38,7 @@ use Rattle.promises.specs.CarriedCalls.{CarriedCalls}
 use Rattle.promises.specs.Reports.{Reports}
 
 -- the counts of a list without the list: "They are the numbers of kind 0 and of kind 1 gates among the g"
-abbrev pub Counts : ℕ → List ℕ → Netlist → CountsAnswer → Type 0
+abbrev pub Counts : ℕ → List ℕ → Netlist → Result CountsOf Fault → Type 0
 Counts m table list reported =
     Asks (symmetry_causes m table) (counts_answer reported) (and_gates list.gates) (xor_gates list.gates)
 
@@ -56,9 +56,9 @@ Lists m table list old =
 
 -- reading a card s into a lent table that holds `old`: "Reading fills the first m·W bytes of the lent table", "returns m"
 pub record Reads (s old : List ℕ) : Type 0 where
-  pub exact : ExactCard (length old) s (read_call s old).fault
-  pub number : ¬ ((read_call s old).fault ≡ None) → Refuses (card_answer (read_call s old)) (read_call s old).fault
-  pub kept : ¬ ((read_call s old).fault ≡ None) → read_table s old ≡ old
+  pub exact : ExactCard (length old) s (verdict_of (read_call s old))
+  pub number : (f : Fault) → read_call s old ≡ Err f → Refuses (card_answer (read_call s old)) f
+  pub kept : (f : Fault) → read_call s old ≡ Err f → read_table s old ≡ old
   pub answered : (m : ℕ) (table : List ℕ) → GoodCard (length old) s m table → Unpacks (card_answer (read_call s old)) 0 m 0
   pub filled : (m : ℕ) (table : List ℕ) → GoodCard (length old) s m table → read_table s old ≡ in_front table old
 
@@ -100,7 +100,7 @@ pub record Demand1 : Type 0 where
       Fills (run_bytes_causes m list a b result wires) (fault_answer (run_bytes_causes m list a b result wires)) 0 0
       (ran_result m list a b result wires) result (result_of (bytes_for m) m (read_list list m) a b)
   pub runs_wires : (m : ℕ) (list a b result wires : List ℕ) →
-      Lent (fault_of (run_bytes_causes m list a b result wires)) (ran_wires m list a b result wires) wires (wires_of m (read_list list m) a b)
+      Lent (judged (run_bytes_causes m list a b result wires)) (ran_wires m list a b result wires) wires (wires_of m (read_list list m) a b)
   -- a gate list from elsewhere
   pub accept : (m : ℕ) (table list : List ℕ) →
       Asks (accept_causes m table list) (counts_answer (accept_call m table list))

@@ -1,18 +1,17 @@
 -- Demand 2, sentence by sentence, over the calls of the C interface. Each definition named here is the one that the call's contract names.
-use Rattle.std.specs.Prelude.{◌≡◌, List, ℕ, ◌+◌, ◌*◌, ◌%◌, ◌<◌, ◌≤◌, length}
+use Rattle.std.specs.Prelude.{◌≡◌, List, ℕ, ◌+◌, ◌*◌, ◌%◌, ◌<◌, ◌≤◌, length, Ok, IsOk}
 use Rattle.std.specs.Int.{◌∣◌}
 use Rattle.gf2.specs.Sums.{sum}
 use Rattle.gf2.specs.Coordinates.{coord}
 use Rattle.gf2.specs.Operands.{max_width, bytes_for, minus, IsOperand}
 use Rattle.gf2.specs.Tables.{IsTable, row, pair_product}
-use Rattle.judging.specs.declared.fault.Fault.TheVariants.{None}
 use Rattle.gaussian.specs.Types.{modulus, IsType, AnsiType, type_of}
 use Rattle.gaussian.specs.Table.{row_coord}
-use Rattle.gaussian.specs.Calls.{draw_fault, drawn_into}
+use Rattle.gaussian.specs.Calls.{draw_verdict, drawn_into}
 use Rattle.card.specs.Calls.{read_call}
 use Rattle.card.specs.Statements.{Bytes, TableTrip, width_read, table_read}
 use Rattle.card_writer.specs.Statements.{CardTrip}
-use Rattle.judging.specs.Causes.{fault_of}
+use Rattle.judging.specs.Causes.{judged}
 use Rattle.product.specs.Causes.{product_bytes_causes, reduced_bytes_causes}
 use Rattle.product.specs.Calls.{product_into, reduced_into}
 
@@ -41,16 +40,16 @@ pub record DrawnBy (m t : ℕ) (table : List ℕ) : Type 0 where
 
 pub record Demand2 : Type 0 where
   -- "Products equal the bilinear product of document 01,"
-  pub products : (m : ℕ) (table a b old : List ℕ) → fault_of (product_bytes_causes m table a b old) ≡ None →
+  pub products : (m : ℕ) (table a b old : List ℕ) → judged (product_bytes_causes m table a b old) ≡ Ok tt →
       HasCoords m (product_into m table a b old) (bilinear m table a b)
   -- the reduced product as document 01 has it; demand 3 says where it is the same
-  pub reduced_products : (m : ℕ) (table a b old : List ℕ) → fault_of (reduced_bytes_causes m table a b old) ≡ None →
+  pub reduced_products : (m : ℕ) (table a b old : List ℕ) → judged (reduced_bytes_causes m table a b old) ≡ Ok tt →
       HasCoords m (reduced_into m table a b old) (halved m table a b)
   -- "drawn tables equal the Gaussian rule of IEEE 1363,"
-  pub drawn : (m : ℕ) (old : List ℕ) → draw_fault m (length old) ≡ None → DrawnBy m (type_of m) (drawn_into m old)
+  pub drawn : (m : ℕ) (old : List ℕ) → draw_verdict m (length old) ≡ Ok tt → DrawnBy m (type_of m) (drawn_into m old)
   -- a width that can't be drawn has no type
   pub undrawn : (m : ℕ) → 2 ≤ m → m ≤ max_width → type_of m ≡ 0 → (8 ∣ m) × ((t : ℕ) → ¬ IsType m t)
   -- "and cards are read and written so that each gives back the other": reading the card of a table gives the table,
   pub read_written : (m : ℕ) (table : List ℕ) → 2 ≤ m → m ≤ max_width → IsTable m table → TableTrip m table
   -- and writing the table that was read from a card gives the card
-  pub written_read : (s old : List ℕ) → Bytes s → (read_call s old).fault ≡ None → CardTrip s (width_read s old) (table_read s old)
+  pub written_read : (s old : List ℕ) → Bytes s → IsOk (read_call s old) → CardTrip s (width_read s old) (table_read s old)

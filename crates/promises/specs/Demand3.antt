@@ -1,22 +1,22 @@
 -- Demand 3, sentence by sentence. Operands are those of the C interface, W bytes, and each definition named here is one that a call's
--- contract names: `check_fault` that of nb_check; `product_into`, `reduced_into`, `inverse_into` and the causes `.._bytes_causes` those of
+-- contract names: `check_verdict` that of nb_check; `product_into`, `reduced_into`, `inverse_into` and the causes `.._bytes_causes` those of
 -- the products and the inverse, `products_made` the count; `plain`, `reduced_list`, `common`, `words`, `list_buffer` those of the writers;
 -- `ran_result`, `ran_wires` those of the runner; `counts_plain_call` and its like those of the counts.
-use Rattle.std.specs.Prelude.{◌≡◌, ◌↔◌, List, ℕ, ◌+◌, ◌-◌, ◌*◌, ◌^◌, ◌<◌, ◌≤◌, length, take}
+use Rattle.std.specs.Prelude.{◌≡◌, ◌↔◌, List, ℕ, ◌+◌, ◌-◌, ◌*◌, ◌^◌, ◌<◌, ◌≤◌, length, take, Result, Ok}
 use Rattle.gf2.specs.Operands.{bytes_for, zeroes, ones}
 use Rattle.gf2.specs.Tables.{row, ones_in}
 use Rattle.gf2.specs.Products.{product}
 use Rattle.gf2.specs.Field.{Op, IsUnit, Field, Squares}
 use Rattle.gf2.specs.Inverse.{log2, binary_ones, products_made}
-use Rattle.judging.specs.declared.fault.Fault.TheVariants.{None}
 use Rattle.table.specs.Rows.{Shaped}
-use Rattle.table.specs.Judgements.{check_fault}
-use Rattle.netlist.specs.declared.CountsAnswer.{CountsAnswer}
+use Rattle.table.specs.Judgements.{check_verdict}
+use Rattle.netlist.specs.declared.Counts.{Counts}
+use Rattle.judging.specs.declared.fault.Fault.{Fault}
 use Rattle.netlist.specs.Gates.{Netlist, words, and_gates, xor_gates}
 use Rattle.netlist.specs.Lists.{plain, reduced as reduced_list, common}
 use Rattle.netlist.specs.Running.{wires}
-use Rattle.netlist.specs.Calls.{counted_as, counts_plain_call, counts_reduced_call, counts_common_call, list_fault, list_buffer}
-use Rattle.judging.specs.Causes.{fault_of}
+use Rattle.netlist.specs.Calls.{counted_as, counts_plain_call, counts_reduced_call, counts_common_call, list_verdict, list_buffer}
+use Rattle.judging.specs.Causes.{judged}
 use Rattle.product.specs.Causes.{product_bytes_causes, reduced_bytes_causes, inverse_bytes_causes}
 use Rattle.product.specs.Calls.{product_into, reduced_into, inverse_into}
 use Rattle.runner.specs.Causes.{run_bytes_causes}
@@ -24,12 +24,12 @@ use Rattle.nb.specs.Calls.{ran_result, ran_wires}
 
 -- nb_product of two operands into a result of W bytes: no fault, and the plain product
 pub record Multiplies (m : ℕ) (table a b old : List ℕ) : Type 0 where
-  pub no_fault : fault_of (product_bytes_causes m table a b old) ≡ None
+  pub no_fault : judged (product_bytes_causes m table a b old) ≡ Ok tt
   pub value : product_into m table a b old ≡ product m table a b
 
 -- nb_product_reduced of the same: no fault, and the bytes of nb_product
 pub record Reduces (m : ℕ) (table a b old : List ℕ) : Type 0 where
-  pub no_fault : fault_of (reduced_bytes_causes m table a b old) ≡ None
+  pub no_fault : judged (reduced_bytes_causes m table a b old) ≡ Ok tt
   pub value : reduced_into m table a b old ≡ product_into m table a b old
 
 -- the words that nb_list_.. wrote in front of the lent buffer `out`
@@ -39,25 +39,25 @@ words_written m table list out = take (length (words m list)) (list_buffer m tab
 -- nb_run on these words and two operands, with a result of W bytes and a byte for each wire: no fault, every wire's value, and the
 -- bytes of nb_product
 pub record Runs (m : ℕ) (table : List ℕ) (list : Netlist) (out a b old lent : List ℕ) : Type 0 where
-  pub no_fault : fault_of (run_bytes_causes m (words_written m table list out) a b old lent) ≡ None
+  pub no_fault : judged (run_bytes_causes m (words_written m table list out) a b old lent) ≡ Ok tt
   pub value : ran_result m (words_written m table list out) a b old lent ≡ product_into m table a b old
   pub wire : ran_wires m (words_written m table list out) a b old lent ≡ wires m list a b
 
 -- a list is written, by nb_list_.., wherever it has room, and gives the product of any two operands when it is run
 pub record RunsToProduct (m : ℕ) (table : List ℕ) (list : Netlist) : Type 0 where
   pub is_written : (out : List ℕ) → length (words m list) ≤ length out →
-      (list_fault m table list out ≡ None) × (words_written m table list out ≡ words m list)
+      (list_verdict m table list out ≡ Ok tt) × (words_written m table list out ≡ words m list)
   pub runs : (out a b old lent : List ℕ) → length (words m list) ≤ length out → Op m a → Op m b → length old ≡ bytes_for m →
       length lent ≡ 2 * m + length list.gates → Runs m table list out a b old lent
 
 -- nb_inverse of an operand: no fault, and an operand that times it is one
 pub record Inverts (m : ℕ) (table a old : List ℕ) : Type 0 where
-  pub no_fault : fault_of (inverse_bytes_causes m table a old) ≡ None
+  pub no_fault : judged (inverse_bytes_causes m table a old) ≡ Ok tt
   pub operand : Op m (inverse_into m table a old)
   pub value : product m table (inverse_into m table a old) a ≡ ones (bytes_for m) m
 
 -- the gates that a list holds, and those that its counts report
-pub record HasGates (list : Netlist) (reported : CountsAnswer) (ands xors : ℕ) : Type 0 where
+pub record HasGates (list : Netlist) (reported : Result Counts Fault) (ands xors : ℕ) : Type 0 where
   pub holds_ands : and_gates list.gates ≡ ands
   pub holds_xors : xor_gates list.gates ≡ xors
   pub reports : reported ≡ counted_as ands xors
@@ -106,6 +106,6 @@ pub record UnderAccepted (m : ℕ) (table : List ℕ) : Type 0 where
 pub record Demand3 : Type 0 where
   -- "For every table of every width m from 2 to 571, the check accepts it exactly when the operands .. form a field in which each operand
   -- times itself is that operand turned one place": of every number m and every list of numbers, tables (`Shaped`) or not
-  pub check : (m : ℕ) (table : List ℕ) → (check_fault m table ≡ None) ↔ (Shaped m table × Field m table × Squares m table)
+  pub check : (m : ℕ) (table : List ℕ) → (check_verdict m table ≡ Ok tt) ↔ (Shaped m table × Field m table × Squares m table)
   -- "Under every accepted table .."
-  pub accepted : (m : ℕ) (table : List ℕ) → check_fault m table ≡ None → UnderAccepted m table
+  pub accepted : (m : ℕ) (table : List ℕ) → check_verdict m table ≡ Ok tt → UnderAccepted m table

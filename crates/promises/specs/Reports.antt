@@ -2,7 +2,7 @@
 use Rattle.std.specs.Prelude.{◌≡◌, List, [], ◌∷◌, ◌++◌, ℕ, ◌<◌, ◌≤◌, length}
 use Rattle.gf2.specs.Tables.{ones_in}
 use Rattle.judging.specs.declared.fault.Fault.{Fault}
-use Rattle.judging.specs.declared.fault.Fault.TheVariants.{None, Length}
+use Rattle.judging.specs.declared.fault.Fault.TheVariants.{Length}
 use Rattle.netlist.specs.Gates.{Netlist, and_gates, xor_gates}
 use Rattle.netlist.specs.Lists.{plain, reduced, common}
 use Rattle.reporting.specs.Text.{ascii, line}
@@ -24,7 +24,7 @@ pub record Reports (s : List ℕ) : Type 0 where
   -- "Input above 65,536 bytes prints `refused 2`"
   pub too_long : input_limit < length s → report s ≡ refusal Length
   -- "A card fault prints only `refused` and the number"
-  pub bad_card : length s ≤ input_limit → (f : Fault) → ¬ (f ≡ None) → BadCard lent s f → report s ≡ refusal f
+  pub bad_card : length s ≤ input_limit → (f : Fault) → BadCard lent s f → report s ≡ refusal f
   -- "a check fault the first two lines and then that"
   pub refused : length s ≤ input_limit → (m : ℕ) (table : List ℕ) → GoodCard lent s m table →
       (f : Fault) → First (check_causes m table) f → report s ≡ head m table ++ refusal f

@@ -1,21 +1,20 @@
 -- Document 02, (d), over the calls on operands: a turn takes every count.
-use Rattle.std.specs.Prelude.{◌≡◌, List, ℕ, ◌+◌, ◌%◌, ◌≤◌, length}
+use Rattle.std.specs.Prelude.{◌≡◌, List, ℕ, ◌+◌, ◌%◌, ◌≤◌, length, Ok}
 use Rattle.gf2.specs.Operands.{max_width, bytes_for, turned, squared}
 use Rattle.gf2.specs.Products.{product}
 use Rattle.gf2.specs.Field.{Op}
 use Rattle.judging.specs.declared.fault.Fault.{Fault}
-use Rattle.judging.specs.declared.fault.Fault.TheVariants.{None}
 use Rattle.judging.specs.Faults.{number_of}
-use Rattle.judging.specs.Causes.{fault_of}
+use Rattle.judging.specs.Causes.{judged}
 use Rattle.operand.specs.declared.Operand.{Operand}
 use Rattle.operand.specs.Causes.{turn_bytes_causes}
 use Rattle.operand.specs.Calls.{turn_call, turn_into}
 use Rattle.operand.specs.Statements.{times}
-use Rattle.table.specs.Judgements.{check_fault}
+use Rattle.table.specs.Judgements.{check_verdict}
 
 -- what nb_turn answers for an operand of width m and leaves in results of W bytes, whatever the counts
 pub record TurnsOf (m : ℕ) (a : List ℕ) : Type 0 where
-  pub no_fault : (old : List ℕ) → length old ≡ bytes_for m → fault_of (turn_bytes_causes m a old) ≡ None
+  pub no_fault : (old : List ℕ) → length old ≡ bytes_for m → judged (turn_bytes_causes m a old) ≡ Ok tt
   pub turn : (k : ℕ) (old : List ℕ) → length old ≡ bytes_for m → turn_into m a k old ≡ turned m k a
   -- two turns are the turn by both counts
   pub twice : (j k : ℕ) (old result : List ℕ) → length old ≡ bytes_for m → length result ≡ bytes_for m →
@@ -35,4 +34,4 @@ pub record Turns : Type 0 where
   -- so of every operand
   pub operands : (m : ℕ) (a : List ℕ) → 2 ≤ m → m ≤ max_width → Op m a → TurnsOf m a
   -- "Programmers write powers as turns": under an accepted table k squarings, each a product, are the turn by k
-  pub powers : (m : ℕ) (table a : List ℕ) → check_fault m table ≡ None → Op m a → (k : ℕ) → times k (λ x. product m table x x) a ≡ turned m k a
+  pub powers : (m : ℕ) (table a : List ℕ) → check_verdict m table ≡ Ok tt → Op m a → (k : ℕ) → times k (λ x. product m table x x) a ≡ turned m k a

@@ -1,7 +1,7 @@
 -- What is proved of the report beside the contracts: the statements alone.
-use Rattle.std.specs.Prelude.{◌≡◌, false, List, ◌++◌, ℕ, ◌≤◌, length}
+use Rattle.std.specs.Prelude.{◌≡◌, List, ◌++◌, ℕ, ◌≤◌, length, Err}
 use Rattle.judging.specs.declared.fault.Fault.{Fault}
-use Rattle.judging.specs.Faults.{number_of, is_none}
+use Rattle.judging.specs.Faults.{number_of}
 use Rattle.io.specs.Digits.{IsDigitCount}
 use Rattle.card.specs.Statements.{Bytes}
 use Rattle.reporting.specs.Text.{digit_count, room}
@@ -17,7 +17,7 @@ pub record ReportLaws : Type 0 where
   -- nothing of a report is cut off
   pub fits : (s : List ℕ) → Bytes s → length (report s) ≤ room
   -- a report that does not accept ends with the number of its fault
-  pub refuses : (s : List ℕ) → is_none (verdict s) ≡ false → (front : List ℕ) × (report s ≡ front ++ refusal (verdict s))
+  pub refuses : (s : List ℕ) (f : Fault) → verdict s ≡ Err f → (front : List ℕ) × (report s ≡ front ++ refusal f)
   -- 3 and 11 can't come out
-  pub three : (s : List ℕ) → Bytes s → Not 3 (verdict s)
-  pub eleven : (s : List ℕ) → Bytes s → Not 11 (verdict s)
+  pub three : (s : List ℕ) (f : Fault) → Bytes s → verdict s ≡ Err f → Not 3 f
+  pub eleven : (s : List ℕ) (f : Fault) → Bytes s → verdict s ≡ Err f → Not 11 f
