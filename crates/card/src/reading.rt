@@ -3,7 +3,7 @@ ghost use Rattle.std.specs.Prelude.{◌≡◌, ◌+◌, ◌≤◌, drop};
 ghost use Rattle.gf2.specs.Operands.{max_width};
 ghost use Rattle.card.specs.Numbers.{read_number};
 ghost use Rattle.card.specs.Rows.{read_places, read_row};
-ghost use Rattle.card.specs.Cards.{lent_fault, read_width, read_head};
+ghost use Rattle.card.specs.Cards.{lent_verdict, read_width, read_head};
 ghost use Rattle.card.specs.Calls.{read_call, read_table};
 ghost use Rattle.card.specs.Inner.{told, told_row, carried_places, RowsRead};
 
@@ -143,17 +143,14 @@ fn rows_at(
 }
 
 // 1, and 11 where the lent table has fewer than m·W bytes, which are worked out only for a width that has passed.
-fn judge_lent(room: usize, width: usize) -> Fault
-    ensures { result ≡ lent_fault room width }
+fn judge_lent(room: usize, width: usize) -> Result<(), Fault>
+    ensures { result ≡ lent_verdict room width }
 {
-    let fault = judging::judge_width(width);
-    if !judging::is_none(fault) {
-        return fault;
-    }
+    judging::judge_width(width)?;
     if room < width * limbs::bytes_for(width) {
-        Fault::Call(CallFault::OutputShort)
+        Err(Fault::Call(CallFault::OutputShort))
     } else {
-        Fault::None
+        Ok(())
     }
 }
 

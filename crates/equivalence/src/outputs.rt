@@ -2,7 +2,7 @@
 ghost use Rattle.std.specs.Prelude.{◌≡◌, ◌<◌, ◌≤◌, eqb};
 ghost use Rattle.gf2.specs.Sums.{every};
 ghost use Rattle.gf2.specs.Operands.{minus as minus_of};
-ghost use Rattle.judging.specs.Causes.{fault_of};
+ghost use Rattle.judging.specs.Causes.{judged};
 ghost use Rattle.table.specs.Rows.{Shaped};
 ghost use Rattle.netlist.specs.Sets.{wanted, same_products, is_right_output};
 ghost use Rattle.equivalence.specs.Causes.{most_width, most_gates, output_causes};
@@ -81,16 +81,16 @@ fn is_right(width: usize, table: &[u8], list: &[u32], squares: &[u64], r: usize)
 }
 
 // All outputs, to the first that is wrong.
-pub(crate) fn judge_outputs(width: usize, table: &[u8], list: &[u32], squares: &[u64]) -> Fault
+pub(crate) fn judge_outputs(width: usize, table: &[u8], list: &[u32], squares: &[u64]) -> Result<(), Fault>
     requires { Shaped width table.now × AllGathered width list.now squares.now }
-    ensures { result ≡ fault_of (output_causes width table.now list.now) }
+    ensures { result ≡ judged (output_causes width table.now list.now) }
 {
     let mut r = 0;
     while r < width {
         if !is_right(width, table, list, squares, r) {
-            return Fault::List(ListFault::Output(r));
+            return Err(Fault::List(ListFault::Output(r)));
         }
         r += 1;
     }
-    Fault::None
+    Ok(())
 }

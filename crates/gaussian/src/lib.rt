@@ -3,7 +3,7 @@
 
 ghost use Rattle.std.specs.Prelude.{◌≡◌, [], ◌∷◌, ◌≤◌, length};
 ghost use Rattle.gf2.specs.Operands.{max_width};
-ghost use Rattle.judging.specs.Causes.{fault_of};
+ghost use Rattle.judging.specs.Causes.{judged};
 ghost use Rattle.gaussian.specs.Causes.{type_zero};
 ghost use Rattle.gaussian.specs.Calls.{answer, type_call, draw_call, drawn_into};
 
@@ -23,7 +23,7 @@ pub struct TypeAnswer {
 // The type of a width, or 17.
 fn listed_type(width: usize) -> TypeAnswer
     requires { (2 ≤ width) × (width ≤ max_width) }
-    ensures { result ≡ answer (fault_of (type_zero width ∷ [])) width }
+    ensures { result ≡ answer (judged (type_zero width ∷ [])) width }
 {
     let t = types::listed(width);
     if t == 0 {

@@ -125,10 +125,7 @@ fn list_by(width: usize, table: &[u8], out: &mut [u32], method: Method) -> Count
         × (out.new ≡ list_buffer width table.now (list_by method width table.now) out.old) }
 {
     let all = netlist::tally(width, table, method);
-    let fault = all.fault;
-    if !judging::is_none(fault) {
-        return refused(fault);
-    }
+    all.fault?;
     let g = all.gates;
     let q = 2 + 3 * g;
     if out.len() < q + width {

@@ -4,7 +4,7 @@ ghost use Rattle.operand.specs.Calls.{no_operand};
 ghost use Rattle.product.specs.Inner.{operand_of, IsWidth, Sound, Serves, multiplied, product_answer, inverse_answer};
 
 use crate::{InverseAnswer, chain, judge, times};
-use judging::{Fault, is_none};
+use judging::Fault;
 use operand::{Operand, OperandAnswer};
 use scatter::Method;
 
@@ -42,10 +42,7 @@ pub(crate) fn product(
     requires { IsWidth width }
     ensures { result ≡ product_answer method width table.now x y }
 {
-    let fault = judge::judge_factors(method, width, table, x, y);
-    if !is_none(fault) {
-        return operand::refused(fault);
-    }
+    judge::judge_factors(method, width, table, x, y)?;
     OperandAnswer {
         fault: Fault::None,
         value: product_of(method, width, table, x, y),
@@ -70,10 +67,7 @@ pub(crate) fn inverse(width: usize, table: &[u8], x: [u8; Operand::BYTES]) -> In
     requires { IsWidth width }
     ensures { result ≡ inverse_answer width table.now x }
 {
-    let fault = judge::judge_unit(width, table, x);
-    if !is_none(fault) {
-        return refused(fault);
-    }
+    judge::judge_unit(width, table, x)?;
     let a = Operand {
         bytes: x,
         width: width as u16,

@@ -3,13 +3,13 @@ ghost use Rattle.std.specs.Prelude.{◌≡◌, length};
 ghost use Rattle.gf2.specs.Coordinates.{coord, pack};
 ghost use Rattle.gf2.specs.Operands.{choose};
 ghost use Rattle.judging.specs.Faults.{is_none};
-ghost use Rattle.judging.specs.Causes.{fault_of};
+ghost use Rattle.judging.specs.Causes.{judged};
 ghost use Rattle.product.specs.Causes.{product_bytes_causes, reduced_bytes_causes};
 ghost use Rattle.product.specs.Calls.{product_into, reduced_into, inverse_into, inverse_count};
 ghost use Rattle.product.specs.Inner.{method_bytes_causes, multiply_into};
 
 use crate::answers;
-use judging::{Fault, is_none};
+use judging::Fault;
 use operand::Operand;
 use scatter::Method;
 
@@ -38,14 +38,11 @@ fn multiply_into(
     a: &[u8],
     b: &[u8],
     res: &mut [u8],
-) -> Fault
-    ensures { (result ≡ fault_of (method_bytes_causes method width table.now a.now b.now res.old))
+) -> Result<(), Fault>
+    ensures { (result ≡ judged (method_bytes_causes method width table.now a.now b.now res.old))
         × (res.new ≡ multiply_into method width table.now a.now b.now res.old) }
 {
-    let sizes = judging::judge_pair_sizes(width, a.len(), b.len(), res.len());
-    if !is_none(sizes) {
-        return sizes;
-    }
+    judging::judge_pair_sizes(width, a.len(), b.len(), res.len())?;
     let x = limbs::carried(a);
     let y = limbs::carried(b);
     let answer = answers::product(method, width, table, x, y);
@@ -55,16 +52,16 @@ fn multiply_into(
 }
 
 // The plain product, under any table of the right shape.
-pub fn product_into(width: usize, table: &[u8], a: &[u8], b: &[u8], res: &mut [u8]) -> Fault
-    ensures { (result ≡ fault_of (product_bytes_causes width table.now a.now b.now res.old))
+pub fn product_into(width: usize, table: &[u8], a: &[u8], b: &[u8], res: &mut [u8]) -> Result<(), Fault>
+    ensures { (result ≡ judged (product_bytes_causes width table.now a.now b.now res.old))
         × (res.new ≡ product_into width table.now a.now b.now res.old) }
 {
     multiply_into(Method::Plain, width, table, a, b, res)
 }
 
 // The reduced product, under a table that keeps rules 4 and 5.
-pub fn reduced_into(width: usize, table: &[u8], a: &[u8], b: &[u8], res: &mut [u8]) -> Fault
-    ensures { (result ≡ fault_of (reduced_bytes_causes width table.now a.now b.now res.old))
+pub fn reduced_into(width: usize, table: &[u8], a: &[u8], b: &[u8], res: &mut [u8]) -> Result<(), Fault>
+    ensures { (result ≡ judged (reduced_bytes_causes width table.now a.now b.now res.old))
         × (res.new ≡ reduced_into width table.now a.now b.now res.old) }
 {
     multiply_into(Method::Reduced, width, table, a, b, res)

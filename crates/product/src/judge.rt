@@ -1,18 +1,18 @@
 // What the calls judge after the widths and the lengths: the table, the bits of the operands, and what a call has of its own.
 // Each part is judged only where those before it give no fault.
 ghost use Rattle.std.specs.Prelude.{◌≡◌};
-ghost use Rattle.judging.specs.Causes.{fault_of};
+ghost use Rattle.judging.specs.Causes.{judged};
 ghost use Rattle.table.specs.Rows.{Shaped};
 ghost use Rattle.product.specs.Inner.{IsWidth, rules_by, factor_causes, unit_causes};
 
-use judging::{CallFault, Fault, is_none};
+use judging::{CallFault, Fault};
 use operand::Operand;
 use scatter::Method;
 
 // For the reduced product the rules 4 and 5.
-fn judge_rules(method: Method, width: usize, table: &[u8]) -> Fault
+fn judge_rules(method: Method, width: usize, table: &[u8]) -> Result<(), Fault>
     requires { Shaped width table.now }
-    ensures { result ≡ fault_of (rules_by method width table.now) }
+    ensures { result ≡ judged (rules_by method width table.now) }
 {
     match method {
         Method::Plain => Fault::None,
@@ -27,36 +27,24 @@ pub(crate) fn judge_factors(
     table: &[u8],
     x: [u8; Operand::BYTES],
     y: [u8; Operand::BYTES],
-) -> Fault
+) -> Result<(), Fault>
     requires { IsWidth width }
-    ensures { result ≡ fault_of (factor_causes method width table.now x y) }
+    ensures { result ≡ judged (factor_causes method width table.now x y) }
 {
-    let shape = table::judge_shape(width, table);
-    if !is_none(shape) {
-        return shape;
-    }
-    let bits = judging::judge_both_high(x, width, y, width);
-    if !is_none(bits) {
-        return bits;
-    }
+    table::judge_shape(width, table)?;
+    judging::judge_both_high(x, width, y, width)?;
     judge_rules(method, width, table)
 }
 
 // A table and an operand that isn't zero: zero is the operand with no bit at 0 or above.
-pub(crate) fn judge_unit(width: usize, table: &[u8], x: [u8; Operand::BYTES]) -> Fault
+pub(crate) fn judge_unit(width: usize, table: &[u8], x: [u8; Operand::BYTES]) -> Result<(), Fault>
     requires { IsWidth width }
-    ensures { result ≡ fault_of (unit_causes width table.now x) }
+    ensures { result ≡ judged (unit_causes width table.now x) }
 {
-    let shape = table::judge_shape(width, table);
-    if !is_none(shape) {
-        return shape;
-    }
-    let bits = judging::judge_high(x, width);
-    if !is_none(bits) {
-        return bits;
-    }
+    table::judge_shape(width, table)?;
+    judging::judge_high(x, width)?;
     if limbs::is_clear(x, 0) {
-        return Fault::Call(CallFault::InverseOfZero);
+        return Err(Fault::Call(CallFault::InverseOfZero));
     }
-    Fault::None
+    Ok(())
 }

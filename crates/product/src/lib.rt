@@ -6,7 +6,7 @@ ghost use Rattle.std.specs.Prelude.{◌≡◌};
 ghost use Rattle.product.specs.Calls.{product_call, reduced_call, inverse_call};
 ghost use Rattle.product.specs.Inner.{multiply_call};
 
-use judging::{Fault, is_none};
+use judging::Fault;
 use operand::{Operand, OperandAnswer};
 use scatter::Method;
 
@@ -34,10 +34,7 @@ fn multiply(method: Method, width: usize, table: &[u8], a: Operand, b: Operand) 
 {
     let x = a.bytes;
     let y = b.bytes;
-    let widths = judging::judge_pair_widths(width, a.width as usize, b.width as usize);
-    if !is_none(widths) {
-        return operand::refused(widths);
-    }
+    judging::judge_pair_widths(width, a.width as usize, b.width as usize)?;
     answers::product(method, width, table, x, y)
 }
 
@@ -60,9 +57,6 @@ pub fn inverse(width: usize, table: &[u8], a: Operand) -> InverseAnswer
     ensures { result ≡ inverse_call width table.now a }
 {
     let x = a.bytes;
-    let widths = judging::judge_widths(width, a.width as usize);
-    if !is_none(widths) {
-        return answers::refused(widths);
-    }
+    judging::judge_widths(width, a.width as usize)?;
     answers::inverse(width, table, x)
 }

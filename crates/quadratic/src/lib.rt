@@ -8,19 +8,6 @@ ghost use Rattle.gf2.specs.Operands.{carried_bytes, below, from_coords};
 ghost use Rattle.gf2.specs.Quadratic.{root_coord};
 ghost use Rattle.limbs.specs.Limbs.{carried_limbs, limb_coord, pack_limbs};
 
-// The sum of the limbs, bit by bit modulo 2.
-fn folded(x: [u64; limbs::LIMBS]) -> u64
-    ensures { result ≡ value 64 (λ j. sum carried_limbs (λ w. limb_coord x (w * 64 + j))) }
-{
-    let mut total: u64 = 0;
-    let mut w = 0;
-    while w < limbs::LIMBS {
-        total = total ^ x[w];
-        w += 1;
-    }
-    total
-}
-
 // The sum of the bits of a limb, modulo 2.
 fn parity(x: u64) -> u8
     ensures { result ≡ sum 64 (λ j. x / 2 ^ j % 2) % 2 }
@@ -28,11 +15,17 @@ fn parity(x: u64) -> u8
     (u64::count_ones(x) % 2) as u8
 }
 
-// The sum of all carried coordinates, modulo 2.
-pub fn trace(x: [u8; limbs::BYTES]) -> u8
-    ensures { result ≡ sum (8 * carried_bytes) (coord x) % 2 }
+// The sum of the coordinates of a slice, modulo 2.
+pub fn trace(s: &[u8]) -> u8
+    ensures { result ≡ sum (8 * length s.now) (coord s.now) % 2 }
 {
-    parity(folded(limbs::to_limbs(x)))
+    let mut total: u64 = 0;
+    let mut w = 0;
+    while w * 8 < s.len() {
+        total = total ^ limbs::limb_of(s, w);
+        w += 1;
+    }
+    parity(total)
 }
 
 // Bit j of the result is the sum of `carry` and the bits 0 to j of x, modulo 2.
@@ -47,19 +40,6 @@ fn prefix_sums(x: u64, carry: u64) -> u64
     let e = d ^ (d << 16);
     let f = e ^ (e << 32);
     f ^ (carry * limbs::FULL)
-}
-
-// The sum of the coordinates of a slice, modulo 2.
-pub fn trace_of(s: &[u8]) -> u8
-    ensures { result ≡ sum (8 * length s.now) (coord s.now) % 2 }
-{
-    let mut total: u64 = 0;
-    let mut w = 0;
-    while w * 8 < s.len() {
-        total = total ^ limbs::limb_of(s, w);
-        w += 1;
-    }
-    parity(total)
 }
 
 // The solution's coordinates below m. It starts from coordinate 0 as the carry, so that its own coordinate 0 is 0.

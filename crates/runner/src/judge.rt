@@ -4,7 +4,7 @@
 ghost use Rattle.std.specs.Prelude.{◌≡◌, [], ◌∷◌, ◌<◌, ◌≤◌};
 ghost use Rattle.gf2.specs.Sums.{every};
 ghost use Rattle.gf2.specs.Operands.{max_width};
-ghost use Rattle.judging.specs.Causes.{fault_of};
+ghost use Rattle.judging.specs.Causes.{judged};
 ghost use Rattle.netlist.specs.Gates.{word_limit};
 ghost use Rattle.netlist.specs.Running.{gate_count};
 ghost use Rattle.netlist.specs.Judgements.{is_gate, is_output};
@@ -13,74 +13,53 @@ ghost use Rattle.runner.specs.Causes.{list_word_causes, bad_gates};
 ghost use Rattle.runner.specs.Inner.{width_causes, length_causes, carried_causes, word_causes, list_causes};
 
 use crate::words;
-use judging::{CallFault, Fault, is_none, judge_length, judge_width};
+use judging::{CallFault, Fault, judge_length, judge_width};
 use operand::Operand;
 
 // The width given, and those carried.
-fn judge_widths(width: usize, a: usize, b: usize) -> Fault
-    ensures { result ≡ fault_of (width_causes width a b) }
+fn judge_widths(width: usize, a: usize, b: usize) -> Result<(), Fault>
+    ensures { result ≡ judged (width_causes width a b) }
 {
-    let given = judge_width(width);
-    if !is_none(given) {
-        return given;
-    }
-    let left = judge_width(a);
-    if !is_none(left) {
-        return left;
-    }
+    judge_width(width)?;
+    judge_width(a)?;
     judge_width(b)
 }
 
 // Three lengths, each as laid down.
-fn judge_lengths(a: usize, m: usize, b: usize, n: usize, c: usize, k: usize) -> Fault
-    ensures { result ≡ fault_of (length_causes a m b n c k) }
+fn judge_lengths(a: usize, m: usize, b: usize, n: usize, c: usize, k: usize) -> Result<(), Fault>
+    ensures { result ≡ judged (length_causes a m b n c k) }
 {
-    let first = judge_length(a, m);
-    if !is_none(first) {
-        return first;
-    }
-    let second = judge_length(b, n);
-    if !is_none(second) {
-        return second;
-    }
+    judge_length(a, m)?;
+    judge_length(b, n)?;
     judge_length(c, k)
 }
 
-pub(crate) fn judge_carried(width: usize, a: Operand, b: Operand, res: usize) -> Fault
-    ensures { result ≡ fault_of (carried_causes width a b res) }
+pub(crate) fn judge_carried(width: usize, a: Operand, b: Operand, res: usize) -> Result<(), Fault>
+    ensures { result ≡ judged (carried_causes width a b res) }
 {
     let m = a.width as usize;
     let n = b.width as usize;
-    let widths = judge_widths(width, m, n);
-    if !is_none(widths) {
-        return widths;
-    }
+    judge_widths(width, m, n)?;
     judge_lengths(m, width, n, width, res, limbs::bytes_for(width))
 }
 
 // The words of a list. Its length is worked out where the first word is the width: that is a word, and no sum too great.
-pub fn judge_words(width: usize, list: &[u32]) -> Fault
-    ensures { result ≡ fault_of (list_word_causes width list.now) }
+pub fn judge_words(width: usize, list: &[u32]) -> Result<(), Fault>
+    ensures { result ≡ judged (list_word_causes width list.now) }
 {
     if list.len() < 2 {
-        return Fault::Length;
+        return Err(Fault::Length);
     }
-    let first = judge_length(words::word(list, 0), width);
-    if !is_none(first) {
-        return first;
-    }
+    judge_length(words::word(list, 0), width)?;
     judge_length(list.len(), 2 + 3 * words::word(list, 1) + width)
 }
 
 // The same, and the length of the buffer for its wires.
-fn judge_wires(width: usize, list: &[u32], wires: usize) -> Fault
+fn judge_wires(width: usize, list: &[u32], wires: usize) -> Result<(), Fault>
     requires { width ≤ max_width }
-    ensures { result ≡ fault_of (word_causes width list.now wires) }
+    ensures { result ≡ judged (word_causes width list.now wires) }
 {
-    let words = judge_words(width, list);
-    if !is_none(words) {
-        return words;
-    }
+    judge_words(width, list)?;
     judge_length(wires, 2 * width + words::word(list, 1))
 }
 
@@ -128,21 +107,18 @@ fn are_outputs(width: usize, list: &[u32], g: usize) -> bool
 }
 
 // Every gate and every output wire, where the width is one.
-pub fn judge_gates(width: usize, list: &[u32]) -> Fault
-    ensures { result ≡ fault_of (bad_width width ∷ bad_gates width list.now ∷ []) }
+pub fn judge_gates(width: usize, list: &[u32]) -> Result<(), Fault>
+    ensures { result ≡ judged (bad_width width ∷ bad_gates width list.now ∷ []) }
 {
-    let first = judge_width(width);
-    if !is_none(first) {
-        return first;
-    }
+    judge_width(width)?;
     let g = words::word(list, 1);
     if !are_gates(width, list, g) {
-        return Fault::Call(CallFault::BadGate);
+        return Err(Fault::Call(CallFault::BadGate));
     }
     if are_outputs(width, list, g) {
-        Fault::None
+        Ok(())
     } else {
-        Fault::Call(CallFault::BadGate)
+        Err(Fault::Call(CallFault::BadGate))
     }
 }
 
@@ -153,17 +129,11 @@ pub(crate) fn judge_list(
     x: [u8; limbs::BYTES],
     y: [u8; limbs::BYTES],
     wires: usize,
-) -> Fault
+) -> Result<(), Fault>
     requires { (2 ≤ width) × (width ≤ max_width) }
-    ensures { result ≡ fault_of (list_causes width list.now x y wires) }
+    ensures { result ≡ judged (list_causes width list.now x y wires) }
 {
-    let words = judge_wires(width, list, wires);
-    if !is_none(words) {
-        return words;
-    }
-    let bits = judging::judge_both_high(x, width, y, width);
-    if !is_none(bits) {
-        return bits;
-    }
+    judge_wires(width, list, wires)?;
+    judging::judge_both_high(x, width, y, width)?;
     judge_gates(width, list)
 }

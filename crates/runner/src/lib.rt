@@ -4,12 +4,12 @@
 
 ghost use Rattle.std.specs.Prelude.{◌≡◌, ◌≤◌, length};
 ghost use Rattle.gf2.specs.Operands.{max_width, bytes_for};
-ghost use Rattle.judging.specs.Causes.{fault_of};
+ghost use Rattle.judging.specs.Causes.{judged};
 ghost use Rattle.runner.specs.Causes.{run_causes, run_bytes_causes};
 ghost use Rattle.runner.specs.Calls.{run_bytes_result, run_bytes_wires, run_result, run_wires};
 ghost use Rattle.runner.specs.Inner.{list_causes};
 
-use judging::{Fault, is_none};
+use judging::Fault;
 use operand::Operand;
 
 mod judge;
@@ -28,9 +28,9 @@ fn run_sized(
     y: [u8; limbs::BYTES],
     res: &mut [u8],
     wires: &mut [u8],
-) -> Fault
+) -> Result<(), Fault>
     requires { (2 ≤ width) × (width ≤ max_width) × (length res.old ≡ bytes_for width) }
-    ensures { (result ≡ fault_of (list_causes width list.now x y (length wires.old)))
+    ensures { (result ≡ judged (list_causes width list.now x y (length wires.old)))
         × (res.new ≡ run_bytes_result result width list.now x y res.old)
         × (wires.new ≡ run_bytes_wires result width list.now x y wires.old) }
 {
@@ -49,15 +49,12 @@ pub fn run(
     b: Operand,
     res: &mut [u8],
     wires: &mut [u8],
-) -> Fault
-    ensures { (result ≡ fault_of (run_causes width list.now a b (length res.old) (length wires.old)))
+) -> Result<(), Fault>
+    ensures { (result ≡ judged (run_causes width list.now a b (length res.old) (length wires.old)))
         × (res.new ≡ run_result result width list.now a b res.old)
         × (wires.new ≡ run_wires result width list.now a b wires.old) }
 {
-    let sizes = judge::judge_carried(width, a, b, res.len());
-    if !is_none(sizes) {
-        return sizes;
-    }
+    judge::judge_carried(width, a, b, res.len())?;
     let x = a.bytes;
     let y = b.bytes;
     run_sized(width, list, x, y, res, wires)
@@ -70,15 +67,12 @@ pub fn run_bytes(
     b: &[u8],
     res: &mut [u8],
     wires: &mut [u8],
-) -> Fault
-    ensures { (result ≡ fault_of (run_bytes_causes width list.now a.now b.now res.old wires.old))
+) -> Result<(), Fault>
+    ensures { (result ≡ judged (run_bytes_causes width list.now a.now b.now res.old wires.old))
         × (res.new ≡ run_bytes_result result width list.now a.now b.now res.old)
         × (wires.new ≡ run_bytes_wires result width list.now a.now b.now wires.old) }
 {
-    let sizes = judging::judge_pair_sizes(width, a.len(), b.len(), res.len());
-    if !is_none(sizes) {
-        return sizes;
-    }
+    judging::judge_pair_sizes(width, a.len(), b.len(), res.len())?;
     run_sized(
         width,
         list,

@@ -1,11 +1,11 @@
 // The shape of a table, its rows as carried operands, and the turn of an operand without fault.
 ghost use Rattle.std.specs.Prelude.{◌≡◌, [], ◌∷◌, ◌*◌, ◌<◌, ◌≤◌, length};
 ghost use Rattle.gf2.specs.Operands.{max_width, bytes_for, carried_bytes, IsOperand, turned};
-ghost use Rattle.judging.specs.Causes.{fault_of};
+ghost use Rattle.judging.specs.Causes.{judged};
 ghost use Rattle.judging.specs.FaultTable.{high_bit_in_row};
 ghost use Rattle.table.specs.Rows.{Shaped};
 ghost use Rattle.table.specs.Inner.{carried_row};
-ghost use Rattle.table.specs.Judgements.{shape_fault};
+ghost use Rattle.table.specs.Judgements.{shape_verdict};
 
 use judging::Fault;
 
@@ -21,13 +21,13 @@ pub(crate) fn row_bytes(width: usize, table: &[u8], d: usize) -> [u8; limbs::BYT
 
 // Bits at the width and above can stand only in the last byte of a row, and in none where the width is a multiple of 8.
 // The last bytes of all rows are looked at together.
-fn judge_ends(width: usize, table: &[u8]) -> Fault
+fn judge_ends(width: usize, table: &[u8]) -> Result<(), Fault>
     requires { (width ≤ max_width) × (length table.now ≡ width * bytes_for width) }
-    ensures { result ≡ fault_of (high_bit_in_row width table.now ∷ []) }
+    ensures { result ≡ judged (high_bit_in_row width table.now ∷ []) }
 {
     let used = width % 8;
     if used == 0 {
-        return Fault::None;
+        return Ok(());
     }
     let size = limbs::bytes_for(width);
     let mut all: u8 = 0;
@@ -37,19 +37,16 @@ fn judge_ends(width: usize, table: &[u8]) -> Fault
         d += 1;
     }
     if all >> used != 0 {
-        return Fault::HighBit;
+        return Err(Fault::HighBit);
     }
-    Fault::None
+    Ok(())
 }
 
 // The shape of a table: width, length, and the bits of each row.
-pub fn judge_shape(width: usize, table: &[u8]) -> Fault
-    ensures { result ≡ shape_fault width table.now }
+pub fn judge_shape(width: usize, table: &[u8]) -> Result<(), Fault>
+    ensures { result ≡ shape_verdict width table.now }
 {
-    let fault = judging::judge_table_size(width, table.len());
-    if !judging::is_none(fault) {
-        return fault;
-    }
+    judging::judge_table_size(width, table.len())?;
     judge_ends(width, table)
 }
 

@@ -5,11 +5,11 @@ ghost use Rattle.gf2.specs.Coordinates.{coord};
 ghost use Rattle.gf2.specs.Operands.{max_width, bytes_for, IsOperand, carried_by, same};
 ghost use Rattle.gf2.specs.Tables.{basis};
 ghost use Rattle.limbs.specs.Limbs.{limb_coord};
-ghost use Rattle.judging.specs.Causes.{fault_of};
+ghost use Rattle.judging.specs.Causes.{judged};
 ghost use Rattle.judging.specs.FaultTable.{row_zero_wrong, row_pair_causes};
 ghost use Rattle.table.specs.Rows.{Shaped};
 ghost use Rattle.table.specs.Inner.{ClearLimbs, mirrors};
-ghost use Rattle.table.specs.Judgements.{symmetry_fault};
+ghost use Rattle.table.specs.Judgements.{symmetry_verdict};
 
 use crate::rows;
 use judging::Fault;
@@ -39,14 +39,14 @@ fn basis_bytes(width: usize, k: usize) -> [u8; limbs::BYTES]
     out
 }
 
-fn judge_row_zero(width: usize, table: &[u8]) -> Fault
+fn judge_row_zero(width: usize, table: &[u8]) -> Result<(), Fault>
     requires { Shaped width table.now }
-    ensures { result ≡ fault_of (row_zero_wrong width table.now ∷ []) }
+    ensures { result ≡ judged (row_zero_wrong width table.now ∷ []) }
 {
     if same_bytes(rows::row_bytes(width, table, 0), basis_bytes(width, 1)) {
-        Fault::None
+        Ok(())
     } else {
-        Fault::RowZero
+        Err(Fault::RowZero)
     }
 }
 
@@ -82,31 +82,25 @@ fn mirrored(width: usize, table: &[u8], d: usize) -> bool
 }
 
 // Rows d and m-d are looked at once: if one is the other turned, so is the other.
-fn judge_row_pairs(width: usize, table: &[u8]) -> Fault
+fn judge_row_pairs(width: usize, table: &[u8]) -> Result<(), Fault>
     requires { Shaped width table.now }
-    ensures { result ≡ fault_of (row_pair_causes width table.now) }
+    ensures { result ≡ judged (row_pair_causes width table.now) }
 {
     let mut d = 1;
     while d <= width / 2 {
         if !mirrored(width, table, d) {
-            return Fault::RowPair(d);
+            return Err(Fault::RowPair(d));
         }
         d += 1;
     }
-    Fault::None
+    Ok(())
 }
 
 // 1 to 5, which the check, the reduced product and the gate lists have in common.
-pub fn judge_symmetry(width: usize, table: &[u8]) -> Fault
-    ensures { result ≡ symmetry_fault width table.now }
+pub fn judge_symmetry(width: usize, table: &[u8]) -> Result<(), Fault>
+    ensures { result ≡ symmetry_verdict width table.now }
 {
-    let shape = rows::judge_shape(width, table);
-    if !judging::is_none(shape) {
-        return shape;
-    }
-    let zero = judge_row_zero(width, table);
-    if !judging::is_none(zero) {
-        return zero;
-    }
+    rows::judge_shape(width, table)?;
+    judge_row_zero(width, table)?;
     judge_row_pairs(width, table)
 }

@@ -4,7 +4,7 @@ ghost use Rattle.gf2.specs.Check.{Symmetric};
 ghost use Rattle.table.specs.Rows.{Shaped};
 ghost use Rattle.table.specs.Inner.{left_product, right_product, associates};
 ghost use Rattle.gf2.specs.Operands.{carried_by};
-ghost use Rattle.table.specs.Judgements.{triple_fault, check_fault};
+ghost use Rattle.table.specs.Judgements.{triple_verdict, check_verdict};
 
 use crate::{first, rows, sums, symmetry};
 use judging::Fault;
@@ -45,9 +45,9 @@ fn associative(width: usize, table: &[u8], i: usize, j: usize) -> bool
 
 // The search ends at the first pair that differs. It is made only where some triple with i = 0 differs, so that it is left in the
 // first round of the outer loop.
-fn search_triples(width: usize, table: &[u8]) -> Fault
+fn search_triples(width: usize, table: &[u8]) -> Result<(), Fault>
     requires { (Shaped width table.now) × (Symmetric width table.now) }
-    ensures { result ≡ triple_fault width table.now }
+    ensures { result ≡ triple_verdict width table.now }
 {
     let mut fault = Fault::None;
     let mut i = 0;
@@ -66,23 +66,20 @@ fn search_triples(width: usize, table: &[u8]) -> Fault
 }
 
 // Where no triple with i = 0 differs, none does, and no other is looked at.
-fn judge_triples(width: usize, table: &[u8]) -> Fault
+fn judge_triples(width: usize, table: &[u8]) -> Result<(), Fault>
     requires { (Shaped width table.now) × (Symmetric width table.now) }
-    ensures { result ≡ triple_fault width table.now }
+    ensures { result ≡ triple_verdict width table.now }
 {
     if first::all_act_twice(width, table) {
-        return Fault::None;
+        return Ok(());
     }
     search_triples(width, table)
 }
 
 // No fault exactly where the operands of the width form a field under the table, whose square is the turn by one.
-pub fn check(width: usize, table: &[u8]) -> Fault
-    ensures { result ≡ check_fault width table.now }
+pub fn check(width: usize, table: &[u8]) -> Result<(), Fault>
+    ensures { result ≡ check_verdict width table.now }
 {
-    let fault = symmetry::judge_symmetry(width, table);
-    if !judging::is_none(fault) {
-        return fault;
-    }
+    symmetry::judge_symmetry(width, table)?;
     judge_triples(width, table)
 }
