@@ -8,7 +8,6 @@ ghost use Rattle.card.specs.Cards.{card};
 ghost use Rattle.card_writer.specs.Calls.{longest, write_call, write_card};
 ghost use Rattle.card_writer.specs.Inner.{CardPut, InCard, limb_ones, Writable};
 
-use card::CardAnswer;
 use judging::{CallFault, Fault};
 
 fn put_number(out: &mut [u8], at: usize, n: usize) -> usize
@@ -86,28 +85,16 @@ fn put_card(out: &mut [u8], width: usize, table: &[u8]) -> usize
 }
 
 // The output is written only in a second pass, once the card's length is known.
-pub fn write(width: usize, table: &[u8], out: &mut [u8]) -> CardAnswer
+pub fn write(width: usize, table: &[u8], out: &mut [u8]) -> Result<usize, Fault>
     ensures answer { result ≡ write_call width table.now out.old }
     ensures out { out.new ≡ write_card width table.now out.old }
 {
-    let shape = table::judge_shape(width, table);
-    if !judging::is_none(shape) {
-        return CardAnswer {
-            fault: shape,
-            value: 0,
-        };
-    }
+    table::judge_shape(width, table)?;
     let mut spare = [0u8; 1];
     let size = put_card(&mut spare, width, table);
     if out.len() < size {
-        return CardAnswer {
-            fault: Fault::Call(CallFault::OutputShort),
-            value: 0,
-        };
+        return Err(Fault::Call(CallFault::OutputShort));
     }
     put_card(out, width, table);
-    CardAnswer {
-        fault: Fault::None,
-        value: size,
-    }
+    Ok(size)
 }

@@ -5,8 +5,8 @@
 ghost use Rattle.std.specs.Prelude.{◌≡◌};
 ghost use Rattle.equivalence.specs.Calls.{accept_call};
 
-use judging::is_none;
-use netlist::{AndCount, CountsAnswer, XorCount};
+use judging::Fault;
+use netlist::{AndCount, Counts, XorCount};
 
 mod gates;
 mod judge;
@@ -18,18 +18,14 @@ pub(crate) const MOST_WIDTH: usize = 16;
 
 pub(crate) const MOST_GATES: usize = 2000;
 
-pub fn accept(width: usize, table: &[u8], list: &[u32]) -> CountsAnswer
+pub fn accept(width: usize, table: &[u8], list: &[u32]) -> Result<Counts, Fault>
     ensures { result ≡ accept_call width table.now list.now }
 {
-    let fault = judge::judge_all(width, table, list);
-    if !is_none(fault) {
-        let ands = AndCount(0);
-        let xors = XorCount(0);
-        return CountsAnswer { fault, ands, xors };
-    }
+    judge::judge_all(width, table, list)?;
     let g = runner::word(list, 1);
     let n = gates::count_ands(list, g);
-    let ands = AndCount(n);
-    let xors = XorCount(g - n);
-    CountsAnswer { fault, ands, xors }
+    Ok(Counts {
+        ands: AndCount(n),
+        xors: XorCount(g - n),
+    })
 }

@@ -40,3 +40,11 @@ in_row d k e i = choose (eqb e d) (k i) 0
 -- h d s is added to coordinate s of row d, for all d and s
 abbrev pub Adds : ℕ → (ℕ → ℕ → ℕ) → List ℕ → List ℕ → Type 0
 Adds m h old new = (f : ℕ → ℕ → ℕ) → old ≡ rows_of m m f → new ≡ rows_of m m (λ d s. f d s + h d s)
+
+-- the list's entry for a width, where it isn't 0
+abbrev pub some_type : ℕ → Option ℕ
+some_type zero = None
+some_type (suc t) = Some (suc t)
+
+unfoldable pub listed : ℕ → Option ℕ
+listed m = some_type (type_of m)

@@ -13,61 +13,28 @@ mod drawing;
 mod residues;
 mod types;
 
-// A fault, or none and a type T.
-#[derive(Clone, Copy)]
-pub struct TypeAnswer {
-    pub fault: Fault,
-    pub t: usize,
-}
-
 // The type of a width, or 17.
-fn listed_type(width: usize) -> TypeAnswer
+fn listed_type(width: usize) -> Result<usize, Fault>
     requires { (2 ≤ width) × (width ≤ max_width) }
     ensures { result ≡ answer (judged (type_zero width ∷ [])) width }
 {
-    let t = types::listed(width);
-    if t == 0 {
-        return TypeAnswer {
-            fault: Fault::Call(CallFault::NoType),
-            t: 0,
-        };
-    }
-    TypeAnswer {
-        fault: Fault::None,
-        t,
-    }
+    types::listed(width).ok_or(Fault::Call(CallFault::NoType))
 }
 
-pub fn type_of(width: usize) -> TypeAnswer
+pub fn type_of(width: usize) -> Result<usize, Fault>
     ensures { result ≡ type_call width }
 {
-    let first = judging::judge_width(width);
-    if !judging::is_none(first) {
-        return TypeAnswer { fault: first, t: 0 };
-    }
-    listed_type(width)
-}
-
-// What drawing judges, and the type.
-fn judge_draw(width: usize, size: usize) -> TypeAnswer
-    ensures { result ≡ draw_call width size }
-{
-    let first = judging::judge_table_size(width, size);
-    if !judging::is_none(first) {
-        return TypeAnswer { fault: first, t: 0 };
-    }
+    judging::judge_width(width)?;
     listed_type(width)
 }
 
 // The table of a width's type, and the type.
-pub fn draw(width: usize, table: &mut [u8]) -> TypeAnswer
+pub fn draw(width: usize, table: &mut [u8]) -> Result<usize, Fault>
     ensures answer { result ≡ draw_call width (length table.old) }
     ensures bytes { table.new ≡ drawn_into width table.old }
 {
-    let answer = judge_draw(width, table.len());
-    let fault = answer.fault;
-    if judging::is_none(fault) {
-        drawing::fill(table, width, answer.t);
-    }
-    answer
+    judging::judge_table_size(width, table.len())?;
+    let t = listed_type(width)?;
+    drawing::fill(table, width, t);
+    Ok(t)
 }

@@ -1,7 +1,7 @@
 // The fixed list of types, and its entry for a width.
 ghost use Rattle.std.specs.Prelude.{◌≡◌, ◌≤◌};
 ghost use Rattle.gf2.specs.Operands.{max_width};
-ghost use Rattle.gaussian.specs.Types.{type_of};
+ghost use Rattle.gaussian.specs.Inner.{listed};
 
 // Widths 2 to the greatest.
 const LISTED: usize = limbs::MAX_WIDTH - 1;
@@ -34,16 +34,13 @@ const TYPES: [u8; LISTED] = [
     10,
 ];
 
-fn wide(x: u8) -> usize
-    ensures { result ≡ x }
-{
-    x as usize
-}
-
-// The entry for a width.
-pub(crate) fn listed(width: usize) -> usize
+// The entry for a width, where it has a type.
+pub(crate) fn listed(width: usize) -> Option<usize>
     requires { (2 ≤ width) × (width ≤ max_width) }
-    ensures { result ≡ type_of width }
+    ensures { result ≡ listed width }
 {
-    wide(TYPES[width - 2])
+    match TYPES[width - 2] {
+        0 => None,
+        t => Some(usize::from(t)),
+    }
 }

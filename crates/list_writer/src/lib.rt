@@ -3,4 +3,4 @@
 
 mod lists;
 
-pub use lists::{list_common, list_plain, list_reduced};
+pub use lists::list;

@@ -3,14 +3,14 @@ ghost use Rattle.std.specs.Prelude.{◌≡◌, ◌+◌, ◌*◌, ◌<◌, ◌≤
 ghost use Rattle.std.proofs.lemmas.List.Edits.{sets};
 ghost use Rattle.table.specs.Rows.{Shaped};
 ghost use Rattle.netlist.specs.Gates.{word_limit};
-ghost use Rattle.netlist.specs.Lists.{plain, reduced, sharing, common};
-ghost use Rattle.netlist.specs.Calls.{refused_with, list_call, list_buffer};
+ghost use Rattle.netlist.specs.Lists.{plain, reduced, sharing};
+ghost use Rattle.netlist.specs.Calls.{list_call, list_buffer};
 ghost use Rattle.netlist.specs.Methods.{list_by};
 ghost use Rattle.list_writer.specs.Inner.{Written, Told, listed};
 
 use judging::{CallFault, Fault};
 use list_folds::{Rows, Terms};
-use netlist::{AndCount, CountsAnswer, Method, XorCount};
+use netlist::{Counts, Method};
 
 // The first n words, from place `at` on.
 fn put_words(out: &mut [u32], at: usize, words: &[u32], n: usize)
@@ -110,50 +110,21 @@ fn put_list(out: &mut [u32], width: usize, table: &[u8], method: Method, full: u
     put_words(out, 2 + 3 * g, &ends, width);
 }
 
-fn refused(fault: Fault) -> CountsAnswer
-    ensures { result ≡ refused_with fault }
-{
-    CountsAnswer {
-        fault,
-        ands: AndCount(0),
-        xors: XorCount(0),
-    }
-}
-
-fn list_by(width: usize, table: &[u8], out: &mut [u32], method: Method) -> CountsAnswer
+// A list by a method, from a table that keeps rules 4 and 5, where the buffer has room for it.
+pub fn list(
+    width: usize,
+    table: &[u8],
+    out: &mut [u32],
+    method: Method,
+) -> Result<Counts, Fault>
     ensures { (result ≡ list_call width table.now (list_by method width table.now) out.old)
         × (out.new ≡ list_buffer width table.now (list_by method width table.now) out.old) }
 {
-    let all = netlist::tally(width, table, method);
-    all.fault?;
-    let g = all.gates;
-    let q = 2 + 3 * g;
-    if out.len() < q + width {
-        return refused(Fault::Call(CallFault::OutputShort));
+    let tally = netlist::tally(width, table, method)?;
+    let g = tally.gates;
+    if out.len() < 2 + 3 * g + width {
+        return Err(Fault::Call(CallFault::OutputShort));
     }
-    put_list(out, width, table, method, all.full, g);
-    let ands = all.ands;
-    let xors = all.xors;
-    CountsAnswer { fault, ands, xors }
-}
-
-pub fn list_plain(width: usize, table: &[u8], out: &mut [u32]) -> CountsAnswer
-    ensures { (result ≡ list_call width table.now (plain width table.now) out.old)
-        × (out.new ≡ list_buffer width table.now (plain width table.now) out.old) }
-{
-    list_by(width, table, out, Method::Plain)
-}
-
-pub fn list_reduced(width: usize, table: &[u8], out: &mut [u32]) -> CountsAnswer
-    ensures { (result ≡ list_call width table.now (reduced width table.now) out.old)
-        × (out.new ≡ list_buffer width table.now (reduced width table.now) out.old) }
-{
-    list_by(width, table, out, Method::Reduced)
-}
-
-pub fn list_common(width: usize, table: &[u8], out: &mut [u32]) -> CountsAnswer
-    ensures { (result ≡ list_call width table.now (common width table.now) out.old)
-        × (out.new ≡ list_buffer width table.now (common width table.now) out.old) }
-{
-    list_by(width, table, out, Method::Common)
+    put_list(out, width, table, method, tally.full, g);
+    Ok(tally.counts)
 }

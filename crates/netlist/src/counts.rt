@@ -5,14 +5,14 @@ ghost use Rattle.gf2.specs.Check.{Symmetric};
 ghost use Rattle.table.specs.Rows.{Shaped};
 ghost use Rattle.netlist.specs.Counts.{plain_xors, reduced_xors, common_xors, plain_gates, reduced_gates, common_gates};
 ghost use Rattle.netlist.specs.Inner.{Countable};
-ghost use Rattle.netlist.specs.Calls.{counts_call, counts_plain_call, counts_reduced_call, counts_common_call, all_counts_call};
-ghost use Rattle.netlist.specs.Methods.{list_by, shared_by, xors_by, gates_by, tally_call};
+ghost use Rattle.netlist.specs.Calls.{counts_call, all_counts_call};
+ghost use Rattle.netlist.specs.Methods.{list_by, shared_by, xors_by, gates_by, tallied, tally_call};
 
-use crate::{AllCounts, AndCount, CountsAnswer, Numbers, XorCount, entries};
+use crate::{AllCounts, AndCount, Counts, Tally, XorCount, entries};
 use judging::Fault;
 
 // The three lists of a table.
-#[derive(Clone, Copy)]
+#[derive(Clone, Copy, Debug, PartialEq, Eq)]
 pub enum Method {
     Plain,
     Reduced,
@@ -106,104 +106,47 @@ fn gates_by(width: usize, ones: usize, full: usize, method: Method) -> usize
 }
 
 // All numbers of a list of a table that has passed. C is the number of ones of all bytes: no row has a bit at the width or above.
-fn numbers(width: usize, table: &[u8], method: Method) -> Numbers
+fn numbers(width: usize, table: &[u8], method: Method) -> Tally
     requires { Shaped width table.now × Symmetric width table.now }
-    ensures { result ≡ tally_call method width table.now }
+    ensures { result ≡ tallied method width table.now }
 {
     let ones = ones::ones_of(table);
     let full = shared_by(width, table, method);
     let xors = xors_by(width, ones, full, method);
-    let gates = gates_by(width, ones, full, method);
-    let ands = width * width;
-    Numbers {
-        fault: Fault::None,
-        ands: AndCount(ands),
-        xors: XorCount(xors),
-        gates,
+    Tally {
+        counts: Counts {
+            ands: AndCount(width * width),
+            xors: XorCount(xors),
+        },
+        gates: gates_by(width, ones, full, method),
         full,
     }
 }
 
 // 1 to 5 judged once, and all numbers of a list.
-pub fn tally(width: usize, table: &[u8], method: Method) -> Numbers
+pub fn tally(width: usize, table: &[u8], method: Method) -> Result<Tally, Fault>
     ensures { result ≡ tally_call method width table.now }
 {
-    let fault = table::judge_symmetry(width, table);
-    if judging::is_none(fault) {
-        numbers(width, table, method)
-    } else {
-        Numbers {
-            fault,
-            ands: AndCount(0),
-            xors: XorCount(0),
-            gates: 0,
-            full: 0,
-        }
-    }
-}
-
-// The gates by kind of a list of a table that has passed.
-fn counted(width: usize, table: &[u8], method: Method) -> CountsAnswer
-    requires { Shaped width table.now × Symmetric width table.now }
-    ensures { result ≡ counts_call width table.now (list_by method width table.now) }
-{
-    let all = numbers(width, table, method);
-    let fault = all.fault;
-    let ands = all.ands;
-    let xors = all.xors;
-    CountsAnswer { fault, ands, xors }
+    table::judge_symmetry(width, table)?;
+    Ok(numbers(width, table, method))
 }
 
 // 1 to 5 judged once, and the gates of all three lists.
-pub fn all_counts(width: usize, table: &[u8]) -> AllCounts
+pub fn all_counts(width: usize, table: &[u8]) -> Result<AllCounts, Fault>
     ensures { result ≡ all_counts_call width table.now }
 {
-    let fault = table::judge_symmetry(width, table);
-    if judging::is_none(fault) {
-        let plain = counted(width, table, Method::Plain);
-        let reduced = counted(width, table, Method::Reduced);
-        let common = counted(width, table, Method::Common);
-        AllCounts {
-            plain,
-            reduced,
-            common,
-        }
-    } else {
-        let ands = AndCount(0);
-        let xors = XorCount(0);
-        let none = CountsAnswer { fault, ands, xors };
-        AllCounts {
-            plain: none,
-            reduced: none,
-            common: none,
-        }
-    }
+    table::judge_symmetry(width, table)?;
+    Ok(AllCounts {
+        plain: numbers(width, table, Method::Plain).counts,
+        reduced: numbers(width, table, Method::Reduced).counts,
+        common: numbers(width, table, Method::Common).counts,
+    })
 }
 
-fn counts_by(width: usize, table: &[u8], method: Method) -> CountsAnswer
+// The gates of a list by kind.
+pub fn counts(width: usize, table: &[u8], method: Method) -> Result<Counts, Fault>
     ensures { result ≡ counts_call width table.now (list_by method width table.now) }
 {
-    let all = tally(width, table, method);
-    let fault = all.fault;
-    let ands = all.ands;
-    let xors = all.xors;
-    CountsAnswer { fault, ands, xors }
-}
-
-pub fn counts_plain(width: usize, table: &[u8]) -> CountsAnswer
-    ensures { result ≡ counts_plain_call width table.now }
-{
-    counts_by(width, table, Method::Plain)
-}
-
-pub fn counts_reduced(width: usize, table: &[u8]) -> CountsAnswer
-    ensures { result ≡ counts_reduced_call width table.now }
-{
-    counts_by(width, table, Method::Reduced)
-}
-
-pub fn counts_common(width: usize, table: &[u8]) -> CountsAnswer
-    ensures { result ≡ counts_common_call width table.now }
-{
-    counts_by(width, table, Method::Common)
+    let tally = tally(width, table, method)?;
+    Ok(tally.counts)
 }

@@ -1,11 +1,10 @@
 // The calls where the widths or the lengths have passed: what is left is judged, and the answer made where it has no fault.
 ghost use Rattle.std.specs.Prelude.{◌≡◌};
-ghost use Rattle.operand.specs.Calls.{no_operand};
 ghost use Rattle.product.specs.Inner.{operand_of, IsWidth, Sound, Serves, multiplied, product_answer, inverse_answer};
 
-use crate::{InverseAnswer, chain, judge, times};
+use crate::{Inverse, chain, judge, times};
 use judging::Fault;
-use operand::{Operand, OperandAnswer};
+use operand::Operand;
 use scatter::Method;
 
 // The product of factors that have passed.
@@ -38,32 +37,16 @@ pub(crate) fn product(
     table: &[u8],
     x: [u8; Operand::BYTES],
     y: [u8; Operand::BYTES],
-) -> OperandAnswer
+) -> Result<Operand, Fault>
     requires { IsWidth width }
     ensures { result ≡ product_answer method width table.now x y }
 {
     judge::judge_factors(method, width, table, x, y)?;
-    OperandAnswer {
-        fault: Fault::None,
-        value: product_of(method, width, table, x, y),
-    }
-}
-
-// No inverse, for a fault.
-pub(crate) fn refused(fault: Fault) -> InverseAnswer
-    ensures { result ≡ record { fault = fault; value = no_operand; count = 0 } }
-{
-    let none = operand::refused(fault);
-    let value = none.value;
-    InverseAnswer {
-        fault,
-        value,
-        count: 0,
-    }
+    Ok(product_of(method, width, table, x, y))
 }
 
 // The inverse by the chain.
-pub(crate) fn inverse(width: usize, table: &[u8], x: [u8; Operand::BYTES]) -> InverseAnswer
+pub(crate) fn inverse(width: usize, table: &[u8], x: [u8; Operand::BYTES]) -> Result<Inverse, Fault>
     requires { IsWidth width }
     ensures { result ≡ inverse_answer width table.now x }
 {
@@ -72,5 +55,5 @@ pub(crate) fn inverse(width: usize, table: &[u8], x: [u8; Operand::BYTES]) -> In
         bytes: x,
         width: width as u16,
     };
-    chain::inverted(width, table, a)
+    Ok(chain::inverted(width, table, a))
 }

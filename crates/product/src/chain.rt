@@ -6,8 +6,7 @@ ghost use Rattle.table.specs.Rows.{Shaped};
 ghost use Rattle.scatter.specs.Cells.{HasSlots};
 ghost use Rattle.product.specs.Inner.{Sound, Ready, chain_of, state_of, stepped, added_from, Underway, inverted_by};
 
-use crate::{InverseAnswer, times};
-use judging::Fault;
+use crate::{Inverse, times};
 use operand::Operand;
 use scatter::Method;
 
@@ -24,11 +23,10 @@ fn doubling_step(width: usize, table: &[u8], s: State, g: &mut [u64]) -> State
     requires { Ready width table.now s g.old }
     ensures { result ≡ stepped width table.now s.k s.t.bytes s.t.bytes (2 * s.k) (s.count + 1) }
 {
-    let t = s.t;
-    let turned = t.turn(s.k);
+    let turned = s.t.turn(s.k).unwrap();
     scatter::clear(g);
     State {
-        t: times::times(Method::Plain, width, table, turned.value, t, g),
+        t: times::times(Method::Plain, width, table, turned, s.t, g),
         k: 2 * s.k,
         count: s.count + 1,
     }
@@ -39,11 +37,10 @@ fn adding_step(width: usize, table: &[u8], a: Operand, doubled: State, g: &mut [
     requires { Ready width table.now doubled g.old × Sound width a }
     ensures { result ≡ stepped width table.now 1 doubled.t.bytes a.bytes (doubled.k + 1) (doubled.count + 1) }
 {
-    let t = doubled.t;
-    let turned = t.turn(1);
+    let turned = doubled.t.turn(1).unwrap();
     scatter::clear(g);
     State {
-        t: times::times(Method::Plain, width, table, turned.value, a, g),
+        t: times::times(Method::Plain, width, table, turned, a, g),
         k: doubled.k + 1,
         count: doubled.count + 1,
     }
@@ -98,17 +95,13 @@ fn last(width: usize, table: &[u8], a: Operand) -> State
 }
 
 // The chain's power turned by one, with the number of products made.
-pub(crate) fn inverted(width: usize, table: &[u8], a: Operand) -> InverseAnswer
+pub(crate) fn inverted(width: usize, table: &[u8], a: Operand) -> Inverse
     requires { Shaped width table.now × Sound width a }
     ensures { result ≡ inverted_by width table.now a.bytes }
 {
     let end = last(width, table, a);
-    let t = end.t;
-    let turned = t.turn(1);
-    let value = turned.value;
-    InverseAnswer {
-        fault: Fault::None,
-        value,
+    Inverse {
+        value: end.t.turn(1).unwrap(),
         count: end.count,
     }
 }

@@ -15,7 +15,7 @@ fn judge_rules(method: Method, width: usize, table: &[u8]) -> Result<(), Fault>
     ensures { result ≡ judged (rules_by method width table.now) }
 {
     match method {
-        Method::Plain => Fault::None,
+        Method::Plain => Ok(()),
         Method::Reduced => table::judge_symmetry(width, table),
     }
 }
@@ -32,7 +32,7 @@ pub(crate) fn judge_factors(
     ensures { result ≡ judged (factor_causes method width table.now x y) }
 {
     table::judge_shape(width, table)?;
-    judging::judge_both_high(x, width, y, width)?;
+    judging::judge_both_high(&x, width, &y, width)?;
     judge_rules(method, width, table)
 }
 
@@ -42,8 +42,8 @@ pub(crate) fn judge_unit(width: usize, table: &[u8], x: [u8; Operand::BYTES]) ->
     ensures { result ≡ judged (unit_causes width table.now x) }
 {
     table::judge_shape(width, table)?;
-    judging::judge_high(x, width)?;
-    if limbs::is_clear(x, 0) {
+    judging::judge_high(&x, width)?;
+    if limbs::is_clear(&x, 0) {
         return Err(Fault::Call(CallFault::InverseOfZero));
     }
     Ok(())

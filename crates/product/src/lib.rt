@@ -1,14 +1,13 @@
 // Products of operands under a table, plain and reduced, and the inverse, carried by value and as W bytes.
-// Each call judges what it is given; a fault stands beside the operand of width 0.
+// Each call judges what it is given, and answers its value or the fault.
 #![tactic(auto)]
 
 ghost use Rattle.std.specs.Prelude.{◌≡◌};
-ghost use Rattle.product.specs.Calls.{product_call, reduced_call, inverse_call};
+ghost use Rattle.product.specs.Calls.{inverse_call};
 ghost use Rattle.product.specs.Inner.{multiply_call};
 
 use judging::Fault;
-use operand::{Operand, OperandAnswer};
-use scatter::Method;
+use operand::Operand;
 
 mod answers;
 mod bytes;
@@ -18,45 +17,34 @@ mod kernel;
 mod slots;
 mod times;
 
-pub use bytes::{CountAnswer, inverse_into, product_into, reduced_into};
+pub use bytes::{inverse_into, multiply_into};
+pub use scatter::Method;
 
-// A fault, or none and an inverse with the number of products that it took.
-#[derive(Clone, Copy)]
-pub struct InverseAnswer {
-    pub fault: Fault,
+// An inverse, with the number of products that it took.
+#[derive(Clone, Copy, Debug, PartialEq, Eq)]
+pub struct Inverse {
     pub value: Operand,
     pub count: usize,
 }
 
-// A product by a method, judged first.
-fn multiply(method: Method, width: usize, table: &[u8], a: Operand, b: Operand) -> OperandAnswer
+// The product by a method: plain under any table of the right shape, reduced under one that keeps rules 4 and 5.
+pub fn multiply(
+    method: Method,
+    width: usize,
+    table: &[u8],
+    a: Operand,
+    b: Operand,
+) -> Result<Operand, Fault>
     ensures { result ≡ multiply_call method width table.now a b }
 {
-    let x = a.bytes;
-    let y = b.bytes;
-    judging::judge_pair_widths(width, a.width as usize, b.width as usize)?;
-    answers::product(method, width, table, x, y)
-}
-
-// The plain product, under any table of the right shape.
-pub fn product(width: usize, table: &[u8], a: Operand, b: Operand) -> OperandAnswer
-    ensures { result ≡ product_call width table.now a b }
-{
-    multiply(Method::Plain, width, table, a, b)
-}
-
-// The reduced product, under a table that keeps rules 4 and 5.
-pub fn product_reduced(width: usize, table: &[u8], a: Operand, b: Operand) -> OperandAnswer
-    ensures { result ≡ reduced_call width table.now a b }
-{
-    multiply(Method::Reduced, width, table, a, b)
+    judging::judge_pair_widths(width, usize::from(a.width), usize::from(b.width))?;
+    answers::product(method, width, table, a.bytes, b.bytes)
 }
 
 // The inverse by the chain, under any table of the right shape.
-pub fn inverse(width: usize, table: &[u8], a: Operand) -> InverseAnswer
+pub fn inverse(width: usize, table: &[u8], a: Operand) -> Result<Inverse, Fault>
     ensures { result ≡ inverse_call width table.now a }
 {
-    let x = a.bytes;
-    judging::judge_widths(width, a.width as usize)?;
-    answers::inverse(width, table, x)
+    judging::judge_widths(width, usize::from(a.width))?;
+    answers::inverse(width, table, a.bytes)
 }

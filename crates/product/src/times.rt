@@ -24,9 +24,8 @@ fn plus_diagonal(
         Method::Plain => rows,
         Method::Reduced => {
             let products = slots::below_width(scatter::masked(x, y), width);
-            let diagonal = products.square();
-            let sum = rows.sum(diagonal.value);
-            sum.value
+            let diagonal = products.square().unwrap();
+            rows.sum(diagonal).unwrap()
         }
     }
 }

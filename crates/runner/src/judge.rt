@@ -134,6 +134,6 @@ pub(crate) fn judge_list(
     ensures { result ≡ judged (list_causes width list.now x y wires) }
 {
     judge_wires(width, list, wires)?;
-    judging::judge_both_high(x, width, y, width)?;
+    judging::judge_both_high(&x, width, &y, width)?;
     judge_gates(width, list)
 }

@@ -34,12 +34,10 @@ fn run_sized(
         × (res.new ≡ run_bytes_result result width list.now x y res.old)
         × (wires.new ≡ run_bytes_wires result width list.now x y wires.old) }
 {
-    let fault = judge::judge_list(width, list, x, y, wires.len());
-    if is_none(fault) {
-        wires::fill_wires(width, list, &x, &y, wires);
-        output::fill_result(width, list, wires, res);
-    }
-    fault
+    judge::judge_list(width, list, x, y, wires.len())?;
+    wires::fill_wires(width, list, &x, &y, wires);
+    output::fill_result(width, list, wires, res);
+    Ok(())
 }
 
 pub fn run(

@@ -2,18 +2,12 @@
 ghost use Rattle.std.specs.Prelude.{◌≡◌};
 ghost use Rattle.table.specs.Calls.{ones_call};
 
-use crate::{OnesAnswer, rows};
+use crate::rows;
+use judging::Fault;
 
-pub fn ones(width: usize, table: &[u8]) -> OnesAnswer
+pub fn ones(width: usize, table: &[u8]) -> Result<usize, Fault>
     ensures { result ≡ ones_call width table.now }
 {
-    let fault = rows::judge_shape(width, table);
-    if judging::is_none(fault) {
-        OnesAnswer {
-            fault,
-            ones: ones::ones_of(table),
-        }
-    } else {
-        OnesAnswer { fault, ones: 0 }
-    }
+    rows::judge_shape(width, table)?;
+    Ok(ones::ones_of(table))
 }

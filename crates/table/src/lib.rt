@@ -1,8 +1,6 @@
 // Tables of products of basis elements: their shape, their rows, their ones, the four that are carried, and the check.
 #![tactic(auto)]
 
-use judging::Fault;
-
 mod carried;
 mod counts;
 mod first;
@@ -16,10 +14,3 @@ pub use counts::ones;
 pub use rows::judge_shape;
 pub use symmetry::judge_symmetry;
 pub use triples::check;
-
-// A fault, or none and a number of ones.
-#[derive(Clone, Copy)]
-pub struct OnesAnswer {
-    pub fault: Fault,
-    pub ones: usize,
-}

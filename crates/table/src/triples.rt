@@ -49,20 +49,14 @@ fn search_triples(width: usize, table: &[u8]) -> Result<(), Fault>
     requires { (Shaped width table.now) × (Symmetric width table.now) }
     ensures { result ≡ triple_verdict width table.now }
 {
-    let mut fault = Fault::None;
-    let mut i = 0;
-    'search: while i < width {
-        let mut j = 0;
-        while j < width {
+    for i in 0..width {
+        for j in 0..width {
             if !associative(width, table, i, j) {
-                fault = Fault::Triple(i, j);
-                break 'search;
+                return Err(Fault::Triple(i, j));
             }
-            j += 1;
         }
-        i += 1;
     }
-    fault
+    Ok(())
 }
 
 // Where no triple with i = 0 differs, none does, and no other is looked at.
