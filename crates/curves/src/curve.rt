@@ -1,42 +1,60 @@
 // Whether a point lies on a curve y² + x·y = x³ + a·x² + b, by the calls on operands.
 ghost use Rattle.std.specs.Prelude.{◌≡◌};
-ghost use Rattle.curves.specs.Curve.{sums_to_zero, left_side, right_side, on_curve};
+ghost use Rattle.curves.specs.Curve.{left_side, cube_and_term, right_side, difference, on_curve};
 
-use operand::{Operand, OperandAnswer};
+use judging::Fault;
+use operand::Operand;
+use product::Method;
 
 // y² + x·y
-fn left_side(width: usize, table: &[u8], x: Operand, y: Operand) -> OperandAnswer
+fn left_side(width: usize, table: &[u8], x: Operand, y: Operand) -> Result<Operand, Fault>
     ensures { result ≡ left_side width table.now x y }
 {
-    let square = y.square();
-    let product = product::product(width, table, x, y);
-    square.value.sum(product.value)
+    let square = y.square()?;
+    let product = product::multiply(Method::Plain, width, table, x, y)?;
+    square.sum(product)
+}
+
+// x³ + a·x²
+fn cube_and_term(width: usize, table: &[u8], a: Operand, x: Operand) -> Result<Operand, Fault>
+    ensures { result ≡ cube_and_term width table.now a x }
+{
+    let square = x.square()?;
+    let cube = product::multiply(Method::Plain, width, table, square, x)?;
+    let term = product::multiply(Method::Plain, width, table, a, square)?;
+    cube.sum(term)
 }
 
 // x³ + a·x² + b
-fn right_side(width: usize, table: &[u8], a: Operand, b: Operand, x: Operand) -> OperandAnswer
+fn right_side(
+    width: usize,
+    table: &[u8],
+    a: Operand,
+    b: Operand,
+    x: Operand,
+) -> Result<Operand, Fault>
     ensures { result ≡ right_side width table.now a b x }
 {
-    let square = x.square();
-    let cube = product::product(width, table, square.value, x);
-    let term = product::product(width, table, a, square.value);
-    let sum = cube.value.sum(term.value);
-    sum.value.sum(b)
+    cube_and_term(width, table, a, x)?.sum(b)
 }
 
-// Whether an answer is zero, and no fault.
-fn is_zero(answer: OperandAnswer) -> bool
-    ensures { result ≡ sums_to_zero answer }
+// The sum of both sides.
+fn difference(
+    width: usize,
+    table: &[u8],
+    a: Operand,
+    b: Operand,
+    x: Operand,
+    y: Operand,
+) -> Result<Operand, Fault>
+    ensures { result ≡ difference width table.now a b x y }
 {
-    let fault = answer.fault;
-    if judging::is_none(fault) {
-        let bytes = answer.value.bytes;
-        return limbs::is_clear(bytes, 0);
-    }
-    false
+    let left = left_side(width, table, x, y)?;
+    let right = right_side(width, table, a, b, x)?;
+    left.sum(right)
 }
 
-// Whether the sum of both sides is zero. A fault in any call makes the sum a fault, and the answer false.
+// Whether the sum of both sides is zero. Where a call on the way gives a fault it is not.
 pub(crate) fn on_curve(
     width: usize,
     table: &[u8],
@@ -47,7 +65,8 @@ pub(crate) fn on_curve(
 ) -> bool
     ensures { result ≡ on_curve width table.now a b x y }
 {
-    let left = left_side(width, table, x, y);
-    let right = right_side(width, table, a, b, x);
-    is_zero(left.value.sum(right.value))
+    match difference(width, table, a, b, x, y) {
+        Ok(sum) => limbs::is_clear(&sum.bytes, 0),
+        Err(_) => false,
+    }
 }

@@ -23,13 +23,15 @@ pub fn lies(
         return false;
     }
     let m = width as u16;
-    let changed = published::operand(m, y).sum(published::operand(m, change));
-    curve::on_curve(
-        width,
-        table,
-        published::operand(m, a),
-        published::operand(m, b),
-        published::operand(m, x),
-        changed.value,
-    )
+    match published::operand(m, y).sum(published::operand(m, change)) {
+        Ok(changed) => curve::on_curve(
+            width,
+            table,
+            published::operand(m, a),
+            published::operand(m, b),
+            published::operand(m, x),
+            changed,
+        ),
+        Err(_) => false,
+    }
 }

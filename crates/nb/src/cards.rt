@@ -10,16 +10,12 @@ pub fn nb_card_write(width: u64, table: &[u8], out: &mut [u8]) -> u64
     ensures { (result ≡ card_answer (write_call width table.now out.old))
         × (out.new ≡ write_card width table.now out.old) }
 {
-    let written = card_writer::write(width as usize, table, out);
-    let fault = written.fault;
-    packing::answer(fault, written.value, 0)
+    packing::value(card_writer::write(width as usize, table, out))
 }
 
 pub fn nb_card_read(card: &[u8], table: &mut [u8]) -> u64
     ensures { (result ≡ card_answer (read_call card.now table.old))
         × (table.new ≡ read_table card.now table.old) }
 {
-    let read = card::read(card, table);
-    let fault = read.fault;
-    packing::answer(fault, read.value, 0)
+    packing::value(card::read(card, table))
 }

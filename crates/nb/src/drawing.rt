@@ -9,16 +9,12 @@ use crate::packing;
 pub fn nb_type(width: u64) -> u64
     ensures { result ≡ type_answer (type_call width) }
 {
-    let found = gaussian::type_of(width as usize);
-    let fault = found.fault;
-    packing::answer(fault, found.t, 0)
+    packing::value(gaussian::type_of(width as usize))
 }
 
 pub fn nb_draw(width: u64, table: &mut [u8]) -> u64
     ensures { (result ≡ type_answer (draw_call width (length table.old)))
         × (table.new ≡ drawn_into width table.old) }
 {
-    let drawn = gaussian::draw(width as usize, table);
-    let fault = drawn.fault;
-    packing::answer(fault, drawn.t, 0)
+    packing::value(gaussian::draw(width as usize, table))
 }

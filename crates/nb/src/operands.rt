@@ -10,41 +10,39 @@ pub fn nb_zero(width: u64, res: &mut [u8]) -> u64
     ensures { (result ≡ fault_answer (constant_causes width res.old))
         × (res.new ≡ zero_into width res.old) }
 {
-    packing::answer(operand::zero_into(width as usize, res), 0, 0)
+    packing::verdict(operand::zero_into(width as usize, res))
 }
 
 pub fn nb_one(width: u64, res: &mut [u8]) -> u64
     ensures { (result ≡ fault_answer (constant_causes width res.old))
         × (res.new ≡ one_into width res.old) }
 {
-    packing::answer(operand::one_into(width as usize, res), 0, 0)
+    packing::verdict(operand::one_into(width as usize, res))
 }
 
 pub fn nb_turn(width: u64, a: &[u8], k: u64, res: &mut [u8]) -> u64
     ensures { (result ≡ fault_answer (turn_bytes_causes width a.now res.old))
         × (res.new ≡ turn_into width a.now k res.old) }
 {
-    packing::answer(operand::turn_into(width as usize, a, k as usize, res), 0, 0)
+    packing::verdict(operand::turn_into(width as usize, a, k as usize, res))
 }
 
 pub fn nb_sum(width: u64, a: &[u8], b: &[u8], res: &mut [u8]) -> u64
     ensures { (result ≡ fault_answer (sum_bytes_causes width a.now b.now res.old))
         × (res.new ≡ sum_into width a.now b.now res.old) }
 {
-    packing::answer(operand::sum_into(width as usize, a, b, res), 0, 0)
+    packing::verdict(operand::sum_into(width as usize, a, b, res))
 }
 
 pub fn nb_trace(width: u64, a: &[u8]) -> u64
     ensures { result ≡ trace_answer width a.now }
 {
-    let found = operand::trace_of(width as usize, a);
-    let fault = found.fault;
-    packing::answer(fault, found.trace, 0)
+    packing::value(operand::trace_of(width as usize, a))
 }
 
 pub fn nb_solve(width: u64, c: &[u8], res: &mut [u8]) -> u64
     ensures { (result ≡ fault_answer (solve_bytes_causes width c.now res.old))
         × (res.new ≡ solve_into width c.now res.old) }
 {
-    packing::answer(operand::solve_into(width as usize, c, res), 0, 0)
+    packing::verdict(operand::solve_into(width as usize, c, res))
 }

@@ -6,48 +6,37 @@ ghost use Rattle.product.specs.Calls.{product_into, reduced_into, inverse_into};
 ghost use Rattle.nb.specs.Calls.{fault_answer, ones_answer, inverse_answer};
 
 use crate::packing;
+use product::Method;
 
 pub fn nb_check(width: u64, table: &[u8]) -> u64
     ensures { result ≡ fault_answer (check_causes width table.now) }
 {
-    packing::answer(table::check(width as usize, table), 0, 0)
+    packing::verdict(table::check(width as usize, table))
 }
 
 pub fn nb_ones(width: u64, table: &[u8]) -> u64
     ensures { result ≡ ones_answer width table.now }
 {
-    let counted = table::ones(width as usize, table);
-    let fault = counted.fault;
-    packing::answer(fault, counted.ones, 0)
+    packing::value(table::ones(width as usize, table))
 }
 
 pub fn nb_product(width: u64, table: &[u8], a: &[u8], b: &[u8], res: &mut [u8]) -> u64
     ensures { (result ≡ fault_answer (product_bytes_causes width table.now a.now b.now res.old))
         × (res.new ≡ product_into width table.now a.now b.now res.old) }
 {
-    packing::answer(
-        product::product_into(width as usize, table, a, b, res),
-        0,
-        0,
-    )
+    packing::verdict(product::multiply_into(Method::Plain, width as usize, table, a, b, res))
 }
 
 pub fn nb_product_reduced(width: u64, table: &[u8], a: &[u8], b: &[u8], res: &mut [u8]) -> u64
     ensures { (result ≡ fault_answer (reduced_bytes_causes width table.now a.now b.now res.old))
         × (res.new ≡ reduced_into width table.now a.now b.now res.old) }
 {
-    packing::answer(
-        product::reduced_into(width as usize, table, a, b, res),
-        0,
-        0,
-    )
+    packing::verdict(product::multiply_into(Method::Reduced, width as usize, table, a, b, res))
 }
 
 pub fn nb_inverse(width: u64, table: &[u8], a: &[u8], res: &mut [u8]) -> u64
     ensures { (result ≡ inverse_answer width table.now a.now res.old)
         × (res.new ≡ inverse_into width table.now a.now res.old) }
 {
-    let found = product::inverse_into(width as usize, table, a, res);
-    let fault = found.fault;
-    packing::answer(fault, found.count, 0)
+    packing::value(product::inverse_into(width as usize, table, a, res))
 }

@@ -3,12 +3,12 @@ ghost use Rattle.std.specs.Prelude.{◌≡◌, []};
 ghost use Rattle.io.specs.Counts.{IsPrefixLen};
 ghost use Rattle.table.specs.Rows.{Shaped};
 ghost use Rattle.reporting.specs.Text.{text_of};
-ghost use Rattle.reporting.specs.Steps.{appended, front, InFront};
-ghost use Rattle.reporting.specs.Report.{refusal, counts_line, acceptance, table_report, report as printed};
+ghost use Rattle.reporting.specs.Steps.{appended, accepted_lines, judged_counts, front, InFront};
+ghost use Rattle.reporting.specs.Report.{refusal, counts_line, table_report, report as printed};
 
 use crate::text::Text;
 use judging::Fault;
-use netlist::CountsAnswer;
+use netlist::{AllCounts, Counts};
 
 // Document 01's limit. A card of a table whose row 0 is right is shorter: docs/DECISIONS.md.
 pub const INPUT_LIMIT: usize = 65536;
@@ -19,26 +19,30 @@ const LENT: usize = limbs::MAX_WIDTH * limbs::BYTES;
 fn refused(text: Text, fault: Fault) -> Text
     ensures { result ≡ appended text (refusal fault) }
 {
-    let number = judging::number(fault);
-    text.append_line(b"refused", number.0)
+    text.append_line(b"refused", fault.number().0)
 }
 
-fn counts(text: Text, word: &[u8], counts: CountsAnswer) -> Text
+fn counts(text: Text, word: &[u8], counts: Counts) -> Text
     ensures { result ≡ appended text (counts_line word.now counts) }
 {
-    let ands = counts.ands;
-    let xors = counts.xors;
-    text.append_pair(word, ands.0, xors.0)
+    text.append_pair(word, counts.ands.0, counts.xors.0)
 }
 
-fn accepted(text: Text, width: usize, table: &[u8]) -> Text
-    ensures { result ≡ appended text (acceptance width table.now) }
+fn accepted(text: Text, all: AllCounts) -> Text
+    ensures { result ≡ appended text (accepted_lines all) }
 {
-    let all = netlist::all_counts(width, table);
     let verdict = text.append(b"accepted\n");
     let first = counts(verdict, b"plain", all.plain);
     let second = counts(first, b"reduced", all.reduced);
     counts(second, b"common", all.common)
+}
+
+// The verdict of the check, and where it accepts the gates of the lists, or the fault.
+fn judged(width: usize, table: &[u8]) -> Result<AllCounts, Fault>
+    ensures { result ≡ judged_counts width table.now }
+{
+    table::check(width, table)?;
+    netlist::all_counts(width, table)
 }
 
 // The report of a table that was read.
@@ -50,11 +54,9 @@ fn table_report(width: usize, table: &[u8]) -> Text
     let start = Text::empty();
     let first = start.append_line(b"width", width);
     let head = first.append_line(b"ones", ones);
-    let fault = table::check(width, table);
-    if judging::is_none(fault) {
-        accepted(head, width, table)
-    } else {
-        refused(head, fault)
+    match judged(width, table) {
+        Ok(all) => accepted(head, all),
+        Err(fault) => refused(head, fault),
     }
 }
 
@@ -75,11 +77,8 @@ pub fn report(card: &[u8]) -> Text
         return refused(Text::empty(), Fault::Length);
     }
     let mut lent = [0u8; LENT];
-    let answer = card::read(card, &mut lent);
-    let fault = answer.fault;
-    if judging::is_none(fault) {
-        front_report(answer.value, &lent)
-    } else {
-        refused(Text::empty(), fault)
+    match card::read(card, &mut lent) {
+        Ok(width) => front_report(width, &lent),
+        Err(fault) => refused(Text::empty(), fault),
     }
 }
