@@ -2,6 +2,7 @@
 -- Places: the loop over the places of a row, and the row's count.
 -- Rows: the loop over the rows, and what it stores.
 -- Head and card: form, width, and the card as a whole.
+use Rattle.std.specs.Prelude.{Ok, is_ok}
 use mathlib.Core.Path.{◌≡◌, refl, sym, ap, ◌∙◌}
 use mathlib.Core.List.{List, [], ◌∷◌, ◌++◌, append_assoc, append-nil}
 use mathlib.Core.Bool.{Bool, true, false}
@@ -23,14 +24,13 @@ use Rattle.gf2.proofs.Sums.{every-at}
 use Rattle.gf2.proofs.Coordinates.{length-tabulate, length-pack, pack-byte, coord-pack, pack-eq, pack-ext, xor-bit}
 use Rattle.gf2.proofs.Operands.{below_in, below_out, length_from}
 use Rattle.judging.specs.declared.fault.Fault.{Fault}
-use Rattle.judging.specs.declared.fault.Fault.TheVariants.{None}
-use Rattle.judging.specs.Faults.{is_none, card_form, card_place, card_tail}
+use Rattle.judging.specs.Faults.{card_form, card_place, card_tail}
 use Rattle.card.specs.declared.CardAnswer.{CardAnswer}
 use Rattle.card.specs.declared.reading.Step.{Step}
 use Rattle.card.specs.declared.reading.Step.TheVariants.{Got, Refused}
 use Rattle.card.specs.Numbers.{Read, refused, got, read_number}
 use Rattle.card.specs.Rows.{after, read_places, read_row, is_place, row_of, read_rows}
-use Rattle.card.specs.Cards.{lent_fault, read_width, read_head, ended, read_card}
+use Rattle.card.specs.Cards.{lent_verdict, read_width, read_head, ended, read_card}
 use Rattle.card.specs.Calls.{read_call, read_table, read_answer, read_into}
 use Rattle.card.specs.Inner.{told, carried_places, end_of, RowsRead}
 use Rattle.card.proofs.Numbers.{no_value}
@@ -284,11 +284,11 @@ module _ (room : ℕ) (s : List ℕ) where
   unfolding read_width
   width-refused e = rw e
 
-  pub width_some : {m : ℕ} {r : List ℕ} → read_number s ≡ got m r → is_none (lent_fault room m) ≡ true → got m r ≡ read_width room s
+  pub width_some : {m : ℕ} {r : List ℕ} → read_number s ≡ got m r → is_ok (lent_verdict room m) ≡ true → got m r ≡ read_width room s
   unfolding read_width
   width_some e n = rw (e, n)
 
-  pub width-fault : {m : ℕ} {r : List ℕ} → read_number s ≡ got m r → is_none (lent_fault room m) ≡ false → refused (lent_fault room m) ≡ read_width room s
+  pub width-fault : {m : ℕ} {r : List ℕ} → read_number s ≡ got m r → is_ok (lent_verdict room m) ≡ false → refused (lent_verdict room m) ≡ read_width room s
   unfolding read_width
   width-fault e n = rw (e, n)
 

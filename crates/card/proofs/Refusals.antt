@@ -1,5 +1,6 @@
 -- What a refusal of a card can be: a fault of the card's own, or one of its width. A test of faults that is false of each of these
 -- is false of every refusal.
+use Rattle.std.specs.Prelude.{is_ok}
 use mathlib.Core.Path.{◌≡◌, refl, sym, ap, ◌∙◌}
 use mathlib.Core.Bool.{Bool, true, false}
 use mathlib.Core.List.{List, [], ◌∷◌}
@@ -7,10 +8,10 @@ use Prim.Native.Nat.{ℕ, zero, suc, ◌+◌, ◌-◌, ◌*◌}
 use lib.Dec.{ltb, leb, eqb}
 use Rattle.gf2.specs.Operands.{choose}
 use Rattle.judging.specs.declared.fault.Fault.{Fault}
-use Rattle.judging.specs.Faults.{is_none, card_ends, card_number, card_form, card_place, card_tail}
+use Rattle.judging.specs.Faults.{card_ends, card_number, card_form, card_place, card_tail}
 use Rattle.card.specs.Numbers.{Read, refused, got, and_then, second_group, read_number}
 use Rattle.card.specs.Rows.{after, read_places, read_row, row_of, read_rows}
-use Rattle.card.specs.Cards.{lent_fault, read_width, read_head, ended, read_card}
+use Rattle.card.specs.Cards.{lent_verdict, read_width, read_head, ended, read_card}
 
 -- the test is false of each fault that a card can have, where the lent table has `room` bytes
 pub record Apart (test : Fault → Bool) (room : ℕ) : Type 0 where
@@ -19,7 +20,7 @@ pub record Apart (test : Fault → Bool) (room : ℕ) : Type 0 where
   pub form : test card_form ≡ false
   pub place : test card_place ≡ false
   pub tail : test card_tail ≡ false
-  pub lent : (m : ℕ) → is_none (lent_fault room m) ≡ false → test (lent_fault room m) ≡ false
+  pub lent : (m : ℕ) → is_ok (lent_verdict room m) ≡ false → test (lent_verdict room m) ≡ false
 
 -- what was read is a refusal of which the test is true
 abbrev meets : {A : Type 0} → (Fault → Bool) → Read A → Bool
@@ -68,9 +69,9 @@ module _ (test : Fault → Bool) (room : ℕ) (apart : Apart test room) where
 
   width-apart : (s : List ℕ) → meets test (read_width room s) ≡ false
   unfolding read_width
-  width-apart s = then-apart test (read_number s) _ (number-apart s) (λ m r. go m r (is_none (lent_fault room m)) refl)
+  width-apart s = then-apart test (read_number s) _ (number-apart s) (λ m r. go m r (is_ok (lent_verdict room m)) refl)
     where
-      go : (m : ℕ) (r : List ℕ) (b : Bool) → is_none (lent_fault room m) ≡ b → meets test (choose (is_none (lent_fault room m)) (got m r) (refused (lent_fault room m))) ≡ false
+      go : (m : ℕ) (r : List ℕ) (b : Bool) → is_ok (lent_verdict room m) ≡ b → meets test (choose (is_ok (lent_verdict room m)) (got m r) (refused (lent_verdict room m))) ≡ false
       go m r true e = rw e
       go m r false e = rw e (apart.lent m e)
 

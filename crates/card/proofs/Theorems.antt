@@ -1,5 +1,6 @@
 -- The proofs of the statements in specs/Statements.antt.
 -- A refusal has a number. A card without fault has a table, and the call answers as the statements say.
+use Rattle.std.specs.Prelude.{Ok, is_ok}
 use mathlib.Core.Path.{◌≡◌, refl, sym, ap, ap₂, ◌∙◌}
 use mathlib.Core.List.{List, []}
 use mathlib.Core.Bool.{true, false, true≢false}
@@ -9,9 +10,6 @@ use lib.Seq.{take_at}
 use Rattle.gf2.specs.Operands.{max_width, bytes_for}
 use Rattle.gf2.specs.Tables.{IsTable}
 use Rattle.judging.specs.declared.fault.Fault.{Fault}
-use Rattle.judging.specs.declared.fault.Fault.TheVariants.{None}
-use Rattle.judging.specs.Faults.{is_none}
-use Rattle.judging.proofs.CauseLaws.{none_true}
 use Rattle.card.specs.Numbers.{Read, refused, got}
 use Rattle.card.specs.Cards.{card, Table, read_card}
 use Rattle.card.specs.Calls.{in_front, read_answer, read_into, read_call}
@@ -21,25 +19,25 @@ use Rattle.card.proofs.Trips.{rows-placed, rows-read, rows_written, card-read, c
 use Rattle.card.proofs.Refusals.{card-refusals}
 
 -- a refusal has a number
-card-blank : (room : ℕ) (s : List ℕ) (f : Fault) → read_card room s ≡ refused f → is_none f ≡ false
-unfolding is_none
+card-blank : (room : ℕ) (s : List ℕ) (f : Fault) → read_card room s ≡ refused f → is_ok f ≡ false
+unfolding is_ok
 card-blank room s f e =
-    card-refusals is_none room (record { ends = refl; number = refl; form = refl; place = refl; tail = refl; lent = λ m h. h }) s f e
+    card-refusals is_ok room (record { ends = refl; number = refl; form = refl; place = refl; tail = refl; lent = λ m h. h }) s f e
 
 -- an answer without fault rests on a table
-pub found : (room : ℕ) (s : List ℕ) → (read_answer (read_card room s)).fault ≡ None → (t : Table) × (rest : List ℕ) × (read_card room s ≡ got t rest)
+pub found : (room : ℕ) (s : List ℕ) → (read_answer (read_card room s)).fault ≡ Ok tt → (t : Table) × (rest : List ℕ) × (read_card room s ≡ got t rest)
 found room s e = go (read_card room s) refl e
   where
-    go : (x : Read Table) → read_card room s ≡ x → (read_answer x).fault ≡ None → (t : Table) × (rest : List ℕ) × (read_card room s ≡ got t rest)
+    go : (x : Read Table) → read_card room s ≡ x → (read_answer x).fault ≡ Ok tt → (t : Table) × (rest : List ℕ) × (read_card room s ≡ got t rest)
     go (refused f) q e =
         absurd (true≢false (sym (none_true e) ∙ card-blank room s f q))
     go (got t rest) q e = (t, rest, q)
 
 -- and one without a number has no fault
-pub read_none : (s old : List ℕ) → is_none (read_call s old).fault ≡ true → (read_call s old).fault ≡ None
+pub read_none : (s old : List ℕ) → is_ok (read_call s old).fault ≡ true → (read_call s old).fault ≡ Ok tt
 read_none s old n = go (read_card (length old) s) refl n
   where
-    go : (x : Read Table) → read_card (length old) s ≡ x → is_none (read_answer x).fault ≡ true → (read_answer x).fault ≡ None
+    go : (x : Read Table) → read_card (length old) s ≡ x → is_ok (read_answer x).fault ≡ true → (read_answer x).fault ≡ Ok tt
     go (refused f) q e = absurd (true≢false (sym e ∙ card-blank (length old) s f q))
     go (got t rest) q e = refl
 
@@ -49,7 +47,7 @@ front_of m table old h = take_at table _ (m * bytes_for m) h
 same-card : {s : List ℕ} {m n : ℕ} {table t : List ℕ} → m ≡ n → table ≡ t → CardOf s n t → CardOf s m table
 same-card e q c = rw (e, q) c
 
-cards : (s old : List ℕ) → Bytes s → (read_call s old).fault ≡ None → CardOf s (width_read s old) (table_read s old)
+cards : (s old : List ℕ) → Bytes s → (read_call s old).fault ≡ Ok tt → CardOf s (width_read s old) (table_read s old)
 cards s old small e =
     let (t, rest, q) = found (length old) s e in
     let r = card-written (length old) s t rest small q in

@@ -1,12 +1,11 @@
 -- The proofs of the statements in specs/Statements.antt.
+use Rattle.std.specs.Prelude.{Ok, is_ok}
 use mathlib.Core.Path.{◌≡◌, refl, ◌∙◌}
 use mathlib.Core.List.{List, [], ◌∷◌}
 use Prim.Native.Nat.{ℕ, ◌≤◌}
 use lib.ListN.{length}
 use Rattle.gf2.specs.Coordinates.{coord}
 use Rattle.gf2.specs.Tables.{row}
-use Rattle.judging.specs.declared.fault.Fault.TheVariants.{None}
-use Rattle.judging.specs.Faults.{is_none}
 use Rattle.judging.specs.FaultTable.{too_short, shape_causes}
 use Rattle.judging.proofs.CauseLaws.{none-given}
 use Rattle.judging.proofs.Searches.{fine-append}
@@ -19,22 +18,22 @@ use Rattle.card.specs.Cards.{card}
 use Rattle.card.specs.Calls.{in_front}
 use Rattle.card.specs.Statements.{CardOf}
 use Rattle.card.proofs.Theorems.{card-laws}
-use Rattle.card_writer.specs.Calls.{write_causes, write_fault, write_call, write_card}
+use Rattle.card_writer.specs.Calls.{write_causes, write_verdict, write_call, write_card}
 use Rattle.card_writer.specs.Statements.{CardTrip, CardTrips, CardLengths, CarriedCards}
 use Rattle.card_writer.proofs.Lengths.{card-le, ones-table, ones-longest}
 
 -- what is written where the table has a shape and the output room
 module _ (m : ℕ) (table out : List ℕ) (shape : Shaped m table) (fits : length (card m table) ≤ length out) where
-  write-none : write_fault m table (length out) ≡ None
+  write-none : write_verdict m table (length out) ≡ Ok tt
   write-none = none-given (write_causes m table (length out))
       (fine-append (shape_causes m table) (too_short (length out) (length (card m table)) ∷ []) (shape-passes shape) (room-passes (length out) (length (card m table)) fits, tt))
 
   write-answers : write_call m table out ≡ (record { fault = None; value = length (card m table) })
-  unfolding is_none
+  unfolding is_ok
   write-answers = rw write-none
 
   write-writes : write_card m table out ≡ in_front (card m table) out
-  unfolding is_none
+  unfolding is_ok
   write-writes = rw write-none
 
 -- a card, and the table of which it is the card

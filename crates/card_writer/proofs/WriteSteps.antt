@@ -2,6 +2,7 @@
 -- CardPut: bytes put at a place, one part after the other, and what is left to be put.
 -- Places and rows: the loops over the places of a row and over the rows.
 -- Calls: the answers of `write`, and the output afterwards.
+use Rattle.std.specs.Prelude.{Ok, is_ok}
 use mathlib.Core.Path.{◌≡◌, refl, sym, ap, ap₂, ◌∙◌}
 use mathlib.Core.List.{List, [], ◌∷◌, ◌++◌}
 use mathlib.Core.Bool.{Bool, true, false}
@@ -25,20 +26,19 @@ use Rattle.ones.specs.RowLimbs.{next_one, row_limbs}
 use Rattle.limbs.proofs.LimbCoords.{limb-lt, limb-past, limb-pack, length-limbs}
 use Rattle.ones.proofs.RowLimbs.{next_known, row-limbs}
 use Rattle.judging.specs.declared.fault.Fault.{Fault}
-use Rattle.judging.specs.declared.fault.Fault.TheVariants.{None, Call}
+use Rattle.judging.specs.declared.fault.Fault.TheVariants.{Call}
 use Rattle.judging.specs.declared.fault.CallFault.TheVariants.{OutputShort}
-use Rattle.judging.specs.Faults.{is_none}
 use Rattle.judging.specs.Causes.{Cause}
 use Rattle.judging.specs.FaultTable.{too_short, shape_causes}
-use Rattle.judging.proofs.CauseLaws.{some, fine, head-holds, none-given, ends, follows}
+use Rattle.judging.proofs.CauseLaws.{fine, head-holds, none-given, ends, follows}
 use Rattle.judging.proofs.Passed.{is-width, are-clear, room-passes}
-use Rattle.table.specs.Judgements.{shape_fault}
+use Rattle.table.specs.Judgements.{shape_verdict}
 use Rattle.table.proofs.Shapes.{clear_row}
 use Rattle.card.specs.declared.CardAnswer.{CardAnswer}
 use Rattle.card.specs.Numbers.{number}
 use Rattle.card.specs.Rows.{places, steps, ones_of, row_card, rows_card}
 use Rattle.card.specs.Cards.{card}
-use Rattle.card_writer.specs.Calls.{write_fault, write_call, write_card}
+use Rattle.card_writer.specs.Calls.{write_verdict, write_call, write_card}
 use Rattle.card_writer.specs.Inner.{CardPut, InCard, limb_ones, Writable}
 use Rattle.card.proofs.Places.{places-zero, places-one, places-ascend, place-high, place_is, places-are}
 use Rattle.card_writer.proofs.Lengths.{one_byte, two_bytes, card-most}
@@ -263,7 +263,7 @@ module _ (m : ℕ) (table : List ℕ) where
   card-put p q r = put_both p (put_both q r)
 
 -- a table without fault of shape can be written
-pub shape-writable : (m : ℕ) (table : List ℕ) → is_none (shape_fault m table) ≡ true → Writable m table
+pub shape-writable : (m : ℕ) (table : List ℕ) → is_ok (shape_verdict m table) ≡ true → Writable m table
 shape-writable m table e =
     let p = fine (shape_causes m table) e in
     record {
@@ -280,11 +280,11 @@ module _ (m : ℕ) (table old : List ℕ) where
   abbrev short : Cause
   short = too_short (length old) (length (card m table))
 
-  wrote-fault : {f : Fault} → f ≡ write_fault m table (length old) → is_none f ≡ false → Wrote m table old (record { fault = f; value = 0 }) old
+  wrote-fault : {f : Fault} → f ≡ write_verdict m table (length old) → is_ok f ≡ false → Wrote m table old (record { fault = f; value = 0 }) old
   wrote-fault e n = record { answers = rw (← e, n); leaves = rw (← e, n) }
 
   -- b is the test whether the shape has no fault
-  module _ {f : Fault} {b : Bool} (e : f ≡ shape_fault m table) (t : b ≡ is_none f) where
+  module _ {f : Fault} {b : Bool} (e : f ≡ shape_verdict m table) (t : b ≡ is_ok f) where
     pub wrote-shape : b ≡ false → Wrote m table old (record { fault = f; value = 0 }) old
     wrote-shape q = wrote-fault (ends (shape_causes m table) (short ∷ []) e t q) (sym t ∙ q)
 
@@ -294,7 +294,7 @@ module _ (m : ℕ) (table old : List ℕ) where
           wrote-fault (follows (shape_causes m table) (short ∷ []) e t q (sym (head-holds short [] (lt-ltb (length old) (length (card m table)) (omega arith))))) (some short)
 
       pub wrote-card : {new : List ℕ} → n ≤ length old → new ≡ sets old 0 (card m table) → Wrote m table old (record { fault = None; value = n }) new
-      unfolding is_none
+      unfolding is_ok
       wrote-card h s =
           let z = follows (shape_causes m table) (short ∷ []) e t q (sym (none-given (short ∷ []) (room-passes (length old) (length (card m table)) (omega arith), tt))) in
           record { answers = rw (← z, size, zero-add); leaves = s ∙ rw (← z) (sets-front old (card m table) (omega arith)) }

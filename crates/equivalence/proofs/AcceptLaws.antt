@@ -3,6 +3,7 @@
 -- Operands: the products of two basis operands, and of one that is zero.
 -- Right: a list whose outputs have the right products gives the product.
 -- Given: a list that gives the product of all operands has no wrong output; basis operands tell its products.
+use Rattle.std.specs.Prelude.{is_ok}
 use mathlib.Core.Path.{◌≡◌, refl, sym, ap, ap₂, ◌∙◌}
 use mathlib.Core.Logic.{inl, inr}
 use mathlib.Core.Bool.{true, false}
@@ -25,7 +26,6 @@ use Rattle.gf2.proofs.Parity.{and_both}
 use Rattle.gf2.proofs.Coordinates.{coord-lt, get_d_tabulate}
 use Rattle.gf2.proofs.Operands.{coord-from, from-operand}
 use Rattle.gf2.proofs.OperandVectors.{bytes_fit}
-use Rattle.judging.specs.Faults.{is_none}
 use Rattle.judging.specs.Causes.{Cause}
 use Rattle.judging.specs.FaultTable.{symmetry_causes}
 use Rattle.judging.proofs.CauseLaws.{Fine, fine, none-fine, none-given, exact}
@@ -48,7 +48,7 @@ use Rattle.netlist.proofs.Theorems.{computes}
 use Rattle.runner.specs.Causes.{bad_gates}
 use Rattle.runner.proofs.RunLaws.{output-there}
 use Rattle.equivalence.specs.Causes.{most_width, most_gates, other_gates, wrong_output, size_causes, table_causes, limit_causes, gate_causes, output_causes, accept_causes}
-use Rattle.equivalence.specs.Calls.{accept_fault}
+use Rattle.equivalence.specs.Calls.{accept_verdict}
 use Rattle.equivalence.specs.Inner.{Ready}
 use Rattle.equivalence.specs.Statements.{Comparable, GivesProduct}
 
@@ -82,7 +82,7 @@ outputs-right m table list p r l =
     not-not _ (fine-at (λ r. wrong_output m table list r ∷ []) 0 m q.1.1.1.1 r (omega arith) (omega arith)).0
 
 -- the counts of a list that is accepted
-pub counts-few : (m : ℕ) (table list : List ℕ) → is_none (accept_fault m table list) ≡ true → and_gates (read_list list m).gates + xor_gates (read_list list m).gates ≤ most_gates
+pub counts-few : (m : ℕ) (table list : List ℕ) → is_ok (accept_verdict m table list) ≡ true → and_gates (read_list list m).gates + xor_gates (read_list list m).gates ≤ most_gates
 unfolding read_list gates_to
 counts-few m table list n =
     let p = fine (accept_causes m table list) n in

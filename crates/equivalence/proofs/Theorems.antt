@@ -1,4 +1,5 @@
 -- The proofs of Statements: theorem_accepts, theorem_own_lists.
+use Rattle.std.specs.Prelude.{Ok}
 use mathlib.Core.Path.{◌≡◌, refl, sym, ap, ◌∙◌}
 use mathlib.Core.Bool.{true}
 use mathlib.Core.List.{List, [], ◌∷◌}
@@ -8,10 +9,9 @@ use Rattle.gf2.specs.Sums.{every}
 use Rattle.gf2.specs.Operands.{bytes_for}
 use Rattle.gf2.proofs.Sums.{every_of}
 use Rattle.gf2.proofs.OperandVectors.{bytes_fit}
-use Rattle.judging.specs.declared.fault.Fault.TheVariants.{None}
 use Rattle.judging.specs.FaultTable.{symmetry_causes}
 use Rattle.judging.proofs.CauseLaws.{none-fine, no-cause}
-use Rattle.table.specs.Judgements.{symmetry_fault}
+use Rattle.table.specs.Judgements.{symmetry_verdict}
 use Rattle.table.proofs.Theorems.{symmetry}
 use Rattle.netlist.specs.Gates.{Netlist, words, and_gates, xor_gates}
 use Rattle.netlist.specs.Lists.{plain, reduced, common}
@@ -63,7 +63,7 @@ module _ (m : ℕ) (table : List ℕ) (list : Netlist) (sound : Sound m list) (f
   words_product h a b oa ob =
       ap (λ l. result (bytes_for m) m l a b) (read_back_lem m list sound) ∙ ap (λ n. result n m list a b) (sym oa.size) ∙ h.bytes a b (rw oa.size (bytes_fit m))
 
-  words-accepted : symmetry_fault m table ≡ None → m ≤ most_width → Computes m table list → IsAccepted m table list
+  words-accepted : symmetry_verdict m table ≡ Ok tt → m ≤ most_width → Computes m table list → IsAccepted m table list
   words-accepted none narrow h few =
       answer-counted (accept_causes m table W) _ _ ((none-fine (accept_causes m table W)).0 ((theorem_accepts m table W none (words-comparable narrow few)).1 (words_product h)))
       ∙ ap (λ (l : Netlist). counted_as (and_gates l.gates) (xor_gates l.gates)) (read_back_lem m list sound)

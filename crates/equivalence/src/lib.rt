@@ -6,7 +6,7 @@ ghost use Rattle.std.specs.Prelude.{◌≡◌};
 ghost use Rattle.equivalence.specs.Calls.{accept_call};
 
 use judging::Fault;
-use netlist::{AndCount, Counts, XorCount};
+use netlist::{AndCount, GateCounts, XorCount};
 
 mod gates;
 mod judge;
@@ -18,13 +18,13 @@ pub(crate) const MOST_WIDTH: usize = 16;
 
 pub(crate) const MOST_GATES: usize = 2000;
 
-pub fn accept(width: usize, table: &[u8], list: &[u32]) -> Result<Counts, Fault>
+pub fn accept(width: usize, table: &[u8], list: &[u32]) -> Result<GateCounts, Fault>
     ensures { result ≡ accept_call width table.now list.now }
 {
     judge::judge_all(width, table, list)?;
     let g = runner::word(list, 1);
     let n = gates::count_ands(list, g);
-    Ok(Counts {
+    Ok(GateCounts {
         ands: AndCount(n),
         xors: XorCount(g - n),
     })

@@ -1,4 +1,5 @@
 -- Laws of the calls that write: what the counted gates tell of a table, and the answers and buffers.
+use Rattle.std.specs.Prelude.{Ok, is_ok}
 use mathlib.Core.Path.{◌≡◌, refl, sym, ap, ◌∙◌}
 use mathlib.Core.Bool.{true, false}
 use mathlib.Core.List.{List, [], ◌∷◌, ◌++◌}
@@ -8,20 +9,19 @@ use lib.ListN.{length, drop}
 use borrow.Author.Tests.{lt-ltb, le-ltb}
 use Rattle.gf2.specs.Operands.{choose}
 use Rattle.judging.specs.declared.fault.Fault.{Fault}
-use Rattle.judging.specs.declared.fault.Fault.TheVariants.{None, Call}
+use Rattle.judging.specs.declared.fault.Fault.TheVariants.{Call}
 use Rattle.judging.specs.declared.fault.CallFault.TheVariants.{OutputShort}
-use Rattle.judging.specs.Faults.{is_none}
-use Rattle.judging.specs.Causes.{fault_of}
+use Rattle.judging.specs.Causes.{judged}
 use Rattle.judging.specs.FaultTable.{too_short, symmetry_causes}
 use Rattle.judging.proofs.CauseLaws.{fine, head-holds, none-given, stops, goes_on}
-use Rattle.table.specs.Judgements.{symmetry_fault}
+use Rattle.table.specs.Judgements.{symmetry_verdict}
 use Rattle.netlist.specs.declared.CountsAnswer.{CountsAnswer}
 use Rattle.netlist.specs.declared.Numbers.{Numbers}
 use Rattle.netlist.specs.declared.counts.Method.{Method}
 use Rattle.netlist.specs.declared.counts.Method.TheVariants.{Common}
 use Rattle.netlist.specs.Gates.{Netlist, word_limit, words, and_gates, xor_gates}
 use Rattle.netlist.specs.Lists.{plain, sharing, common, full_rows, if_none}
-use Rattle.netlist.specs.Calls.{answer, refused_with, counted_as, list_fault, list_call, list_buffer}
+use Rattle.netlist.specs.Calls.{answer, refused_with, counted_as, list_verdict, list_call, list_buffer}
 use Rattle.netlist.specs.Methods.{list_by, shared_by, tallied, tally_call}
 use Rattle.netlist.proofs.CallLaws.{table-fine, sized-by, answer-counted, answer-refused, tally-answer}
 use Rattle.list_writer.specs.Inner.{listed, Told}
@@ -29,11 +29,11 @@ use Rattle.list_writer.proofs.ListLaws.{few_words_lem}
 
 -- what is told by the numbers
 module _ (method : Method) (m : ℕ) (table : List ℕ) {t : Numbers} (e : t ≡ tally_call method m table) where
-  pub tally-fault : t.fault ≡ symmetry_fault m table
+  pub tally-fault : t.fault ≡ symmetry_verdict m table
   unfolding tallied
   tally-fault = ap (λ (t : Numbers). t.fault) e
 
-  module _ (n : is_none (symmetry_fault m table) ≡ true) where
+  module _ (n : is_ok (symmetry_verdict m table) ≡ true) where
     pub tally-gates : t.gates ≡ length (list_by method m table).gates
     unfolding tallied
     tally-gates = ap (λ (t : Numbers). t.gates) e ∙ ap (λ b. choose b (length (list_by method m table).gates) 0) n
@@ -47,7 +47,7 @@ module _ (method : Method) (m : ℕ) (table : List ℕ) {t : Numbers} (e : t ≡
         same = unfold tallied in (ap (λ (t : Numbers). t.full) e ∙ ap (λ b. choose b (shared_by method m table) 0) n)
 
     pub counted : record { fault = t.fault; ands = t.ands; xors = t.xors } ≡ counted_as (and_gates (list_by method m table).gates) (xor_gates (list_by method m table).gates)
-    counted = tally-answer (symmetry_fault m table) (list_by method m table) (shared_by method m table) e ∙ answer-counted (symmetry_causes m table) _ _ (fine (symmetry_causes m table) n)
+    counted = tally-answer (symmetry_verdict m table) (list_by method m table) (shared_by method m table) e ∙ answer-counted (symmetry_causes m table) _ _ (fine (symmetry_causes m table) n)
 
 -- the words of a list that is told of
 module _ {method : Method} {m : ℕ} {table : List ℕ} {full : ℕ} (t : Told method m table full) {g : ℕ} (e : g ≡ length (list_by method m table).gates) where
@@ -80,39 +80,39 @@ module _ (m : ℕ) (table : List ℕ) (list : Netlist) (old : List ℕ) where
   abbrev pub Answered : CountsAnswer → List ℕ → Type 0
   Answered r out = (r ≡ list_call m table list old) × (out ≡ list_buffer m table list old)
 
-  pub list-refused : {f : Fault} {c : CountsAnswer} → c ≡ refused_with f → f ≡ symmetry_fault m table → is_none (symmetry_fault m table) ≡ false → Answered c old
+  pub list-refused : {f : Fault} {c : CountsAnswer} → c ≡ refused_with f → f ≡ symmetry_verdict m table → is_ok (symmetry_verdict m table) ≡ false → Answered c old
   list-refused {f} {c} e h n = (
-    e ∙ answer-refused (h ∙ sym first) (and_gates list.gates) (xor_gates list.gates) (ap is_none h ∙ n),
-    sym (ap (λ b. choose b (words m list ++ drop (length (words m list)) old) old) (ap is_none first ∙ n)),
+    e ∙ answer-refused (h ∙ sym first) (and_gates list.gates) (xor_gates list.gates) (ap is_ok h ∙ n),
+    sym (ap (λ b. choose b (words m list ++ drop (length (words m list)) old) old) (ap is_ok first ∙ n)),
   )
     where
-      first : list_fault m table list old ≡ symmetry_fault m table
+      first : list_verdict m table list old ≡ symmetry_verdict m table
       first = stops (symmetry_causes m table) (too_short (length old) (length (words m list)) ∷ []) n
 
-  module _ (n : is_none (symmetry_fault m table) ≡ true) where
-    second : list_fault m table list old ≡ fault_of (too_short (length old) (length (words m list)) ∷ [])
+  module _ (n : is_ok (symmetry_verdict m table) ≡ true) where
+    second : list_verdict m table list old ≡ judged (too_short (length old) (length (words m list)) ∷ [])
     second = goes_on (symmetry_causes m table) (too_short (length old) (length (words m list)) ∷ []) n
 
     pub list-short : {r : CountsAnswer} → length old < length (words m list) → r ≡ refused_with (Call OutputShort) → Answered r old
     list-short l e = (e ∙ sym none, sym buffer)
       where
-        fault : list_fault m table list old ≡ (Call OutputShort)
+        fault : list_verdict m table list old ≡ (Call OutputShort)
         fault = second ∙ head-holds (too_short (length old) (length (words m list))) [] (lt-ltb (length old) (length (words m list)) l)
 
         none : list_call m table list old ≡ refused_with (Call OutputShort)
-        none = unfold answer is_none in rw fault
+        none = unfold answer is_ok in rw fault
 
         buffer : list_buffer m table list old ≡ old
-        buffer = unfold is_none in rw fault
+        buffer = unfold is_ok in rw fault
 
     pub list-fits : {r : CountsAnswer} {out : List ℕ} → length (words m list) ≤ length old → r ≡ counted_as (and_gates list.gates) (xor_gates list.gates) → out ≡ listed m list old → Answered r out
     list-fits l e h = (e ∙ sym all, h ∙ sym buffer)
       where
-        fault : list_fault m table list old ≡ None
+        fault : list_verdict m table list old ≡ Ok tt
         fault = second ∙ none-given (too_short (length old) (length (words m list)) ∷ []) (le-ltb (length old) (length (words m list)) l, tt)
 
         all : list_call m table list old ≡ counted_as (and_gates list.gates) (xor_gates list.gates)
-        all = unfold answer is_none in rw fault
+        all = unfold answer is_ok in rw fault
 
         buffer : list_buffer m table list old ≡ words m list ++ drop (length (words m list)) old
-        buffer = unfold is_none in rw fault
+        buffer = unfold is_ok in rw fault

@@ -10,7 +10,7 @@ ghost use Rattle.list_writer.specs.Inner.{Written, Told, listed};
 
 use judging::{CallFault, Fault};
 use list_folds::{Rows, Terms};
-use netlist::{Counts, Method};
+use netlist::{GateCounts, Method};
 
 // The first n words, from place `at` on.
 fn put_words(out: &mut [u32], at: usize, words: &[u32], n: usize)
@@ -116,7 +116,7 @@ pub fn list(
     table: &[u8],
     out: &mut [u32],
     method: Method,
-) -> Result<Counts, Fault>
+) -> Result<GateCounts, Fault>
     ensures { (result ≡ list_call width table.now (list_by method width table.now) out.old)
         × (out.new ≡ list_buffer width table.now (list_by method width table.now) out.old) }
 {

@@ -8,7 +8,7 @@ use Rattle.operand.specs.Calls.{trace_of}
 use Rattle.table.specs.Calls.{ones_call}
 use Rattle.product.specs.Calls.{inverse_count}
 use Rattle.judging.specs.declared.fault.Fault.{Fault}
-use Rattle.netlist.specs.declared.Counts.{Counts}
+use Rattle.netlist.specs.declared.GateCounts.{GateCounts}
 use Rattle.runner.specs.Causes.{run_bytes_causes}
 use Rattle.runner.specs.Calls.{run_bytes_result, run_bytes_wires}
 use Rattle.nb.specs.Packing.{packed_verdict, packed_value, packed_counts}
@@ -31,7 +31,7 @@ abbrev pub inverse_answer : ℕ → List ℕ → List ℕ → List ℕ → ℕ
 inverse_answer m table a old = packed_value (inverse_count m table a old)
 
 -- nb_counts_.. and nb_list_..: "AND gates and XOR gates are counted apart and both counts returned"; nb_accept, those of the list handed in
-abbrev pub counts_answer : Result Counts Fault → ℕ
+abbrev pub counts_answer : Result GateCounts Fault → ℕ
 counts_answer r = packed_counts r
 
 -- nb_run: what is left in the result and in the wires

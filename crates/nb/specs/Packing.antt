@@ -3,7 +3,7 @@ use Rattle.std.specs.Prelude.{◌≡◌, Bool, true, ◌&&◌, ℕ, ◌+◌, ◌
 use Rattle.judging.specs.declared.fault.Fault.{Fault}
 use Rattle.judging.specs.Faults.{number_of}
 use Rattle.judging.specs.Causes.{Verdict}
-use Rattle.netlist.specs.declared.Counts.{Counts}
+use Rattle.netlist.specs.declared.GateCounts.{GateCounts}
 
 -- "number + 2^8 · first + 2^36 · second"
 abbrev pub packed : ℕ → ℕ → ℕ → ℕ
@@ -22,7 +22,7 @@ abbrev pub packed_value : Result ℕ Fault → ℕ
 packed_value (Ok value) = packed 0 value 0
 packed_value (Err f) = packed_fault f
 
-abbrev pub packed_counts : Result Counts Fault → ℕ
+abbrev pub packed_counts : Result GateCounts Fault → ℕ
 packed_counts (Ok counts) = packed 0 counts.ands.0 counts.xors.0
 packed_counts (Err f) = packed_fault f
 
@@ -46,7 +46,7 @@ PacksVerdict v = Packs (λ _. Unit {0}) v
 abbrev pub PacksValue : Result ℕ Fault → Type 0
 PacksValue r = Packs (λ value. value < value_limit) r
 
-abbrev pub PacksCounts : Result Counts Fault → Type 0
+abbrev pub PacksCounts : Result GateCounts Fault → Type 0
 PacksCounts r = Packs (λ counts. (counts.ands.0 < value_limit) × (counts.xors.0 < value_limit)) r
 
 -- what comes back out of an answer: its low 8 bits are the number n, the 28 above them the first value x, the rest the second value y

@@ -12,19 +12,19 @@ use netlist::Method;
 pub fn nb_counts_plain(width: u64, table: &[u8]) -> u64
     ensures { result ≡ counts_answer (counts_plain_call width table.now) }
 {
-    packing::counts(netlist::counts(width as usize, table, Method::Plain))
+    packing::counts(netlist::gate_counts(width as usize, table, Method::Plain))
 }
 
 pub fn nb_counts_reduced(width: u64, table: &[u8]) -> u64
     ensures { result ≡ counts_answer (counts_reduced_call width table.now) }
 {
-    packing::counts(netlist::counts(width as usize, table, Method::Reduced))
+    packing::counts(netlist::gate_counts(width as usize, table, Method::Reduced))
 }
 
 pub fn nb_counts_common(width: u64, table: &[u8]) -> u64
     ensures { result ≡ counts_answer (counts_common_call width table.now) }
 {
-    packing::counts(netlist::counts(width as usize, table, Method::Common))
+    packing::counts(netlist::gate_counts(width as usize, table, Method::Common))
 }
 
 pub fn nb_list_plain(width: u64, table: &[u8], out: &mut [u32]) -> u64

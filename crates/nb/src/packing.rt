@@ -1,9 +1,9 @@
 // Answers packed into one number of 64 bits.
-ghost use Rattle.std.specs.Prelude.{◌≡◌, ◌^◌, ◌<◌};
+ghost use Rattle.std.specs.Prelude.{◌≡◌, true, ◌^◌, ◌<◌};
 ghost use Rattle.nb.specs.Packing.{packed, packed_fault, packed_verdict, packed_value, packed_counts, value_limit, is_small, PacksVerdict, PacksValue, PacksCounts};
 
 use judging::Fault;
-use netlist::Counts;
+use netlist::GateCounts;
 
 // What the first value and the second stand for in the packed number: 2^8 and 2^36.
 const FIRST: u64 = 256;
@@ -56,7 +56,7 @@ pub(crate) fn value(answer: Result<usize, Fault>) -> u64
 }
 
 // That of one that returns a list's gates by kind.
-pub(crate) fn counts(answer: Result<Counts, Fault>) -> u64
+pub(crate) fn counts(answer: Result<GateCounts, Fault>) -> u64
     requires { PacksCounts answer }
     ensures { result ≡ packed_counts answer }
 {

@@ -1,4 +1,5 @@
 -- Laws of the counts: the numbers of all gates, and the answers of the calls.
+use Rattle.std.specs.Prelude.{Ok, is_ok}
 use mathlib.Core.Path.{◌≡◌, refl, sym, ap, ap₂, ◌∙◌}
 use mathlib.Core.Bool.{Bool, true, false}
 use mathlib.Core.List.{List, []}
@@ -9,13 +10,11 @@ use lib.ListN.{length}
 use Rattle.gf2.specs.Tables.{IsTable, ones_in}
 use Rattle.gf2.specs.Check.{Symmetric}
 use Rattle.judging.specs.declared.fault.Fault.{Fault}
-use Rattle.judging.specs.declared.fault.Fault.TheVariants.{None}
-use Rattle.judging.specs.Faults.{is_none}
-use Rattle.judging.specs.Causes.{Cause, fault_of}
+use Rattle.judging.specs.Causes.{Cause, judged}
 use Rattle.judging.specs.FaultTable.{symmetry_causes}
-use Rattle.judging.proofs.CauseLaws.{Fine, none_is, none-given, judged}
+use Rattle.judging.proofs.CauseLaws.{Fine, none-given}
 use Rattle.table.specs.Rows.{Shaped}
-use Rattle.table.specs.Judgements.{symmetry_fault}
+use Rattle.table.specs.Judgements.{symmetry_verdict}
 use Rattle.table.proofs.Theorems.{symmetry}
 use Rattle.netlist.specs.declared.CountsAnswer.{CountsAnswer}
 use Rattle.netlist.specs.declared.Numbers.{Numbers}
@@ -32,37 +31,37 @@ use Rattle.netlist.proofs.SizeLaws.{ones-most, plain-sized, reduced-sized, commo
 use Rattle.netlist.proofs.ListLaws.{Gates, ones-positive, shared-ones, plain-gates, reduced-gates, sharing-gates, common-gates}
 
 -- a table that has passed
-pub table-fine : (m : ℕ) (table : List ℕ) → is_none (symmetry_fault m table) ≡ true → Shaped m table × Symmetric m table
+pub table-fine : (m : ℕ) (table : List ℕ) → is_ok (symmetry_verdict m table) ≡ true → Shaped m table × Symmetric m table
 table-fine m table e = (symmetry m table).0 (none_is (symmetry_causes m table) e)
 
 -- the same of one that code has judged: f is its fault, b the test whether that is none
-pub table-passed : (m : ℕ) (table : List ℕ) {f : Fault} {b : Bool} → f ≡ symmetry_fault m table → b ≡ is_none f → b ≡ true → Shaped m table × Symmetric m table
+pub table-passed : (m : ℕ) (table : List ℕ) {f : Fault} {b : Bool} → f ≡ symmetry_verdict m table → b ≡ is_ok f → b ≡ true → Shaped m table × Symmetric m table
 table-passed m table e t q = table-fine m table (judged (symmetry_causes m table) [] e t q)
 
 -- answers
-pub answer-counted : (cs : List Cause) (a x : ℕ) → Fine cs → answer (fault_of cs) a x ≡ counted_as a x
-unfolding answer is_none
+pub answer-counted : (cs : List Cause) (a x : ℕ) → Fine cs → answer (judged cs) a x ≡ counted_as a x
+unfolding answer is_ok
 answer-counted cs a x e = rw (none-given cs e)
 
 -- by a fault that is worked out: with one, and with none
 module _ {f g : Fault} (e : f ≡ g) (a x : ℕ) where
-  pub answer-refused : is_none f ≡ false → refused_with f ≡ answer g a x
+  pub answer-refused : is_ok f ≡ false → refused_with f ≡ answer g a x
   unfolding answer
-  answer-refused n = let k = ap is_none (sym e) ∙ n in rw (e, k)
+  answer-refused n = let k = ap is_ok (sym e) ∙ n in rw (e, k)
 
-  pub answer-given : {n k : ℕ} → is_none f ≡ true → n ≡ a → k ≡ x → record { fault = f; ands = record { 0 = n }; xors = record { 0 = k } } ≡ answer g a x
+  pub answer-given : {n k : ℕ} → is_ok f ≡ true → n ≡ a → k ≡ x → record { fault = f; ands = record { 0 = n }; xors = record { 0 = k } } ≡ answer g a x
   unfolding answer
-  answer-given n h l = let k = ap is_none (sym e) ∙ n in rw (e, k, h, l)
+  answer-given n h l = let k = ap is_ok (sym e) ∙ n in rw (e, k, h, l)
 
 pub all-counted : (m : ℕ) (table : List ℕ) {p r c : CountsAnswer} → p ≡ counts_plain_call m table → r ≡ counts_reduced_call m table → c ≡ counts_common_call m table →
     record { plain = p; reduced = r; common = c } ≡ all_counts_call m table
 all-counted m table {p} {r} {c} h k l =
     ap₂ (λ x y. record { plain = x; reduced = y; common = c }) h k ∙ ap (λ z. record { plain = counts_plain_call m table; reduced = counts_reduced_call m table; common = z }) l
 
-pub all-refused : (m : ℕ) (table : List ℕ) {f : Fault} → f ≡ symmetry_fault m table → is_none f ≡ false →
+pub all-refused : (m : ℕ) (table : List ℕ) {f : Fault} → f ≡ symmetry_verdict m table → is_ok f ≡ false →
     record { plain = refused_with f; reduced = refused_with f; common = refused_with f } ≡ all_counts_call m table
 unfolding answer
-all-refused m table e n = let k = ap is_none (sym e) ∙ n in rw (e, k)
+all-refused m table e n = let k = ap is_ok (sym e) ∙ n in rw (e, k)
 
 -- the second where there is one
 pub if_some : {A : Type 0} (q : ℕ) (x y : A) → (q ≡ 0 → ⊥) → y ≡ if_none q x y
@@ -130,14 +129,14 @@ countable {m} {table} method h s e = record {
   shared = rw e (shared-few m table h.least h.is_table s method);
 }
 
-pub tally-refused : {f g : Fault} (list : Netlist) (q : ℕ) → f ≡ g → is_none f ≡ false →
+pub tally-refused : {f g : Fault} (list : Netlist) (q : ℕ) → f ≡ g → is_ok f ≡ false →
     record { fault = f; ands = record { 0 = 0 }; xors = record { 0 = 0 }; gates = 0; full = 0 } ≡ tallied g list q
 unfolding tallied
-tally-refused list q e n = let k = ap is_none (sym e) ∙ n in rw (e, k)
+tally-refused list q e n = let k = ap is_ok (sym e) ∙ n in rw (e, k)
 
-pub tally-counted : {f : Fault} (list : Netlist) (q : ℕ) {a x y g k : ℕ} → f ≡ None → Gates list a y → x ≡ y → g ≡ length list.gates → k ≡ q →
+pub tally-counted : {f : Fault} (list : Netlist) (q : ℕ) {a x y g k : ℕ} → f ≡ Ok tt → Gates list a y → x ≡ y → g ≡ length list.gates → k ≡ q →
     record { fault = None; ands = record { 0 = a }; xors = record { 0 = x }; gates = g; full = k } ≡ tallied f list q
-unfolding tallied is_none
+unfolding tallied is_ok
 tally-counted list q e c l h k = rw (e, c.ands, c.xors, l, h, k)
 
 pub tally-answer : (f : Fault) (list : Netlist) (q : ℕ) {t : Numbers} → t ≡ tallied f list q →

@@ -3,7 +3,7 @@ use Rattle.std.specs.Prelude.{List, ℕ, length, Result}
 use Rattle.judging.specs.declared.fault.Fault.{Fault}
 use Rattle.table.specs.Judgements.{symmetry_verdict}
 use Rattle.judging.specs.Causes.{answered}
-use Rattle.netlist.specs.declared.Tally.{Tally}
+use Rattle.netlist.specs.declared.Tallied.{Tallied}
 use Rattle.netlist.specs.Calls.{counts_of}
 use Rattle.netlist.specs.declared.counts.Method.{Method}
 use Rattle.netlist.specs.declared.counts.Method.TheVariants.{Plain, Reduced, Common}
@@ -34,9 +34,9 @@ gates_by Reduced m ones q = reduced_gates m ones
 gates_by Common m ones q = common_gates m ones q
 
 -- all numbers of a list of a table
-abbrev pub tallied : Method → ℕ → List ℕ → Tally
+abbrev pub tallied : Method → ℕ → List ℕ → Tallied
 tallied method m table =
     record { counts = counts_of (list_by method m table); gates = length (list_by method m table).gates; full = shared_by method m table }
 
-abbrev pub tally_call : Method → ℕ → List ℕ → Result Tally Fault
+abbrev pub tally_call : Method → ℕ → List ℕ → Result Tallied Fault
 tally_call method m table = answered (symmetry_verdict m table) (tallied method m table)

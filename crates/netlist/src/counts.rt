@@ -8,7 +8,7 @@ ghost use Rattle.netlist.specs.Inner.{Countable};
 ghost use Rattle.netlist.specs.Calls.{counts_call, all_counts_call};
 ghost use Rattle.netlist.specs.Methods.{list_by, shared_by, xors_by, gates_by, tallied, tally_call};
 
-use crate::{AllCounts, AndCount, Counts, Tally, XorCount, entries};
+use crate::{AllCounts, AndCount, GateCounts, Tallied, XorCount, entries};
 use judging::Fault;
 
 // The three lists of a table.
@@ -106,15 +106,15 @@ fn gates_by(width: usize, ones: usize, full: usize, method: Method) -> usize
 }
 
 // All numbers of a list of a table that has passed. C is the number of ones of all bytes: no row has a bit at the width or above.
-fn numbers(width: usize, table: &[u8], method: Method) -> Tally
+fn numbers(width: usize, table: &[u8], method: Method) -> Tallied
     requires { Shaped width table.now × Symmetric width table.now }
     ensures { result ≡ tallied method width table.now }
 {
     let ones = ones::ones_of(table);
     let full = shared_by(width, table, method);
     let xors = xors_by(width, ones, full, method);
-    Tally {
-        counts: Counts {
+    Tallied {
+        counts: GateCounts {
             ands: AndCount(width * width),
             xors: XorCount(xors),
         },
@@ -124,7 +124,7 @@ fn numbers(width: usize, table: &[u8], method: Method) -> Tally
 }
 
 // 1 to 5 judged once, and all numbers of a list.
-pub fn tally(width: usize, table: &[u8], method: Method) -> Result<Tally, Fault>
+pub fn tally(width: usize, table: &[u8], method: Method) -> Result<Tallied, Fault>
     ensures { result ≡ tally_call method width table.now }
 {
     table::judge_symmetry(width, table)?;
@@ -144,7 +144,7 @@ pub fn all_counts(width: usize, table: &[u8]) -> Result<AllCounts, Fault>
 }
 
 // The gates of a list by kind.
-pub fn counts(width: usize, table: &[u8], method: Method) -> Result<Counts, Fault>
+pub fn gate_counts(width: usize, table: &[u8], method: Method) -> Result<GateCounts, Fault>
     ensures { result ≡ counts_call width table.now (list_by method width table.now) }
 {
     let tally = tally(width, table, method)?;

@@ -5,7 +5,7 @@ mod counts;
 mod entries;
 mod words;
 
-pub use counts::{Method, all_counts, counts, tally};
+pub use counts::{Method, all_counts, gate_counts, tally};
 pub use words::coordinate;
 
 // The numbers of a list's gates by kind: the papers' AND and XOR columns are never added together.
@@ -17,7 +17,7 @@ pub struct XorCount(pub usize);
 
 // The gates of a list by kind.
 #[derive(Clone, Copy, Debug, PartialEq, Eq)]
-pub struct Counts {
+pub struct GateCounts {
     pub ands: AndCount,
     pub xors: XorCount,
 }
@@ -25,15 +25,15 @@ pub struct Counts {
 // The gates of the three lists.
 #[derive(Clone, Copy, Debug, PartialEq, Eq)]
 pub struct AllCounts {
-    pub plain: Counts,
-    pub reduced: Counts,
-    pub common: Counts,
+    pub plain: GateCounts,
+    pub reduced: GateCounts,
+    pub common: GateCounts,
 }
 
 // The gates of a list by kind, the number of all gates, and the all-ones rows whose pairs are shared.
 #[derive(Clone, Copy, Debug, PartialEq, Eq)]
-pub struct Tally {
-    pub counts: Counts,
+pub struct Tallied {
+    pub counts: GateCounts,
     pub gates: usize,
     pub full: usize,
 }

@@ -1,4 +1,5 @@
 -- The proofs of `CallLaws` in specs/Statements.antt: counts modulo the width, when 10 is given, and the way to W bytes and back.
+use Rattle.std.specs.Prelude.{Ok, is_ok}
 use mathlib.Core.Path.{◌≡◌, sym, ap, ◌∙◌}
 use mathlib.Core.Bool.{true}
 use mathlib.Core.List.{List, [], ◌∷◌}
@@ -15,12 +16,11 @@ use Rattle.gf2.proofs.Coordinates.{pack-eq, pack-byte, length-pack, coord-lt, co
 use Rattle.gf2.proofs.Operands.{from-operand, turned-modulo, clear_at}
 use Rattle.gf2.proofs.Carrying.{coord-repacked}
 use Rattle.operand.specs.declared.Operand.{Operand}
-use Rattle.judging.specs.declared.fault.Fault.TheVariants.{None, Call}
+use Rattle.judging.specs.declared.fault.Fault.TheVariants.{Call}
 use Rattle.judging.specs.declared.fault.CallFault.TheVariants.{TraceOne}
-use Rattle.judging.specs.Faults.{is_none}
-use Rattle.judging.specs.Causes.{fault_of}
+use Rattle.judging.specs.Causes.{judged}
 use Rattle.judging.specs.FaultTable.{trace_is_one}
-use Rattle.judging.proofs.CauseLaws.{none_true, head-holds, goes_on, fine, none-given}
+use Rattle.judging.proofs.CauseLaws.{head-holds, goes_on, fine, none-given}
 use Rattle.judging.proofs.Passed.{IsWidth, is-width, as-laid-down, is-clear, width-passes, length-passes, operand-passes}
 use Rattle.operand.specs.Causes.{operand_causes, bytes_causes, room_causes}
 use Rattle.operand.specs.Calls.{answer, solve_call, read_call, write_call}
@@ -32,7 +32,7 @@ width : {a : Operand} → IsCarried a → IsWidth a.width
 width h = record { least = h.least; greatest = h.greatest }
 
 module _ (c : Operand) (h : IsCarried c) where
-  fault-is : (solve_call c).fault ≡ fault_of (trace_is_one c.width c.bytes ∷ [])
+  fault-is : (solve_call c).fault ≡ judged (trace_is_one c.width c.bytes ∷ [])
   unfolding answer
   fault-is = goes_on (operand_causes c) (trace_is_one c.width c.bytes ∷ []) (none_true (operand-none (width h) h.operand))
 
@@ -48,7 +48,7 @@ module _ (c : Operand) (h : IsCarried c) where
 
   forth : (solve_call c).fault ≡ (Call TraceOne) → Unsolvable
   forth e z oz q =
-      let t : fault_of (trace_is_one c.width c.bytes ∷ []) ≡ None = none-given (trace_is_one c.width c.bytes ∷ []) (ne_eqb (trace c.width c.bytes) 1 (λ u. let v = laws.traceless c.bytes z h.operand oz q in omega (arith, u, v)), tt) in
+      let t : judged (trace_is_one c.width c.bytes ∷ []) ≡ Ok tt = none-given (trace_is_one c.width c.bytes ∷ []) (ne_eqb (trace c.width c.bytes) 1 (λ u. let v = laws.traceless c.bytes z h.operand oz q in omega (arith, u, v)), tt) in
       let f = fault-is in
       let impossible : ◌≡◌ {A = ℕ} 0 1 = cc in
       omega arith
@@ -63,7 +63,7 @@ module _ (c : Operand) (h : IsCarried c) where
 -- W bytes hold all coordinates of an operand of width m
 module _ {m : ℕ} {x : List ℕ} (old : List ℕ) (w : IsWidth m) (o : IsOperand carried_bytes m x) (size : length old ≡ bytes_for m) where
   written : write_call (carry m x) old ≡ pack (bytes_for m) (coord x)
-  unfolding is_none
+  unfolding is_ok
   written =
       rw (none-given (room_causes (carry m x) (length old)) (width-passes m w, (length-passes _ _ size, (operand-passes m x o, tt))))
       (ap (λ n. pack n (coord x)) size)
@@ -72,17 +72,17 @@ module _ {m : ℕ} {x : List ℕ} (old : List ℕ) (w : IsWidth m) (o : IsOperan
   same = coord-repacked (bytes_for m) x (λ i h. o.clear i (omega arith))
 
   read-written : read_call m (write_call (carry m x) old) ≡ done m x
-  unfolding answer is_none
+  unfolding answer is_ok
   read-written = rw (written, none-given (bytes_causes m (pack (bytes_for m) (coord x))) (width-passes m w, (length-passes _ _ (length-pack (bytes_for m) (coord x)), (operand-passes m _ {n = bytes_for m} short, tt))))
       (ap (done m) (sym (pack-eq carried_bytes _ x o.size o.byte (λ i h. sym (ap (λ b. b % 2) (same i) ∙ mod-eq_of_lt (coord-lt x i))))))
     where
       short : IsOperand (bytes_for m) m (pack (bytes_for m) (coord x))
       short = record { size = length-pack _ _; byte = pack-byte _ _; clear = λ i h. same i ∙ o.clear i h }
 
-written_read_lem : (m : ℕ) (bytes old : List ℕ) → ((b : ℕ) → get_or bytes b 0 < 256) → (read_call m bytes).fault ≡ None → length old ≡ length bytes → write_call (read_call m bytes).value old ≡ bytes
-unfolding answer is_none
+written_read_lem : (m : ℕ) (bytes old : List ℕ) → ((b : ℕ) → get_or bytes b 0 < 256) → (read_call m bytes).fault ≡ Ok tt → length old ≡ length bytes → write_call (read_call m bytes).value old ≡ bytes
+unfolding answer is_ok
 written_read_lem m bytes old small e size =
-    let none : is_none (fault_of (bytes_causes m bytes)) ≡ true = none_true e in
+    let none : is_ok (judged (bytes_causes m bytes)) ≡ true = none_true e in
     let passed = fine (bytes_causes m bytes) none in
     let w = is-width m passed.0 in
     let h = as-laid-down (length bytes) (bytes_for m) passed.1.0 in
@@ -93,7 +93,7 @@ written_read_lem m bytes old small e size =
 
 pub call-laws : CallLaws
 call-laws = record {
-  modulo = λ a k. ap (answer (fault_of (operand_causes a)) a.width) (turned-modulo a.width k a.bytes);
+  modulo = λ a k. ap (answer (judged (operand_causes a)) a.width) (turned-modulo a.width k a.bytes);
   unsolvable = λ c h. (forth c h, back c h);
   read_written = λ a old h size. read-written old (width h) h.operand size;
   written_read = written_read_lem;

@@ -1,11 +1,10 @@
 -- What the calls answer for operands that have no fault: for callers that know so.
+use Rattle.std.specs.Prelude.{Ok, is_ok}
 use mathlib.Core.Path.{◌≡◌, refl}
 use mathlib.Core.List.{List}
 use Prim.Native.Nat.{ℕ}
 use Rattle.gf2.specs.Operands.{carried_bytes, IsOperand, turned, squared, added}
-use Rattle.judging.specs.declared.fault.Fault.TheVariants.{None}
-use Rattle.judging.specs.Faults.{is_none}
-use Rattle.judging.specs.Causes.{fault_of}
+use Rattle.judging.specs.Causes.{judged}
 use Rattle.judging.proofs.CauseLaws.{none-given}
 use Rattle.judging.proofs.Passed.{IsWidth, width-passes, length-passes, operand-passes}
 use Rattle.operand.specs.declared.Operand.{Operand}
@@ -21,17 +20,17 @@ abbrev pub done : ℕ → List ℕ → OperandAnswer
 done m x = record { fault = None; value = carry m x }
 
 module _ {m : ℕ} {x : List ℕ} (w : IsWidth m) (o : IsOperand carried_bytes m x) where
-  pub operand-none : fault_of (operand_causes (carry m x)) ≡ None
+  pub operand-none : judged (operand_causes (carry m x)) ≡ Ok tt
   operand-none = none-given (operand_causes (carry m x)) (width-passes m w, (operand-passes m x o, tt))
 
   pub turn-done : (k : ℕ) → turn_call (carry m x) k ≡ done m (turned m k x)
-  unfolding answer is_none
+  unfolding answer is_ok
   turn-done k = rw operand-none
 
   pub square-done : square_call (carry m x) ≡ done m (squared m x)
-  unfolding answer is_none
+  unfolding answer is_ok
   square-done = rw operand-none
 
   pub sum_done : {y : List ℕ} → IsOperand carried_bytes m y → sum_call (carry m x) (carry m y) ≡ done m (added m x y)
-  unfolding answer is_none
+  unfolding answer is_ok
   sum_done {y} q = rw (none-given (pair_causes (carry m x) (carry m y)) (width-passes m w, (width-passes m w, (length-passes m m refl, (operand-passes m x o, (operand-passes m y q, tt))))))

@@ -1,6 +1,7 @@
 -- What has passed where no fault is given, and the same causes carried and as W bytes.
 -- Passed: the table, factors by a method, operands of its width. Zero: no bit at 0 or above.
 -- Bytes: causes judged on the carried bytes are those of the W bytes. Answers: without a fault.
+use Rattle.std.specs.Prelude.{Ok, is_ok}
 use mathlib.Core.Path.{◌≡◌, refl, sym, ap, ap₂, ◌∙◌}
 use mathlib.Core.Bool.{Bool, true, false}
 use mathlib.Core.List.{List, [], ◌∷◌, ◌++◌}
@@ -16,11 +17,9 @@ use Rattle.gf2.proofs.Operands.{from-operand, from-eq, clear_at, clear_of}
 use Rattle.gf2.proofs.Carrying.{HasBytes, carried_from, same-carried, product-carried, product_is, reduced-carried, reduced-is, has-bytes, written-carried, inverse-carried, inverse-is, count-carried}
 use Rattle.gf2.proofs.Decisions.{same-decides}
 use Rattle.judging.specs.declared.fault.Fault.{Fault}
-use Rattle.judging.specs.declared.fault.Fault.TheVariants.{None}
-use Rattle.judging.specs.Faults.{is_none}
-use Rattle.judging.specs.Causes.{Cause, fault_of}
+use Rattle.judging.specs.Causes.{Cause, judged}
 use Rattle.judging.specs.FaultTable.{bad_width, bad_length, not_w, not_table, high_bit, high_bit_in_row, is_zero, shape_causes, rule_causes}
-use Rattle.judging.proofs.CauseLaws.{Fine, fine, head-fails, same_head, goes_on, none_true, none_is}
+use Rattle.judging.proofs.CauseLaws.{Fine, fine, head-fails, same_head, goes_on}
 use Rattle.judging.proofs.Passed.{IsWidth as IsPassed, is-width, width-passes, is-clear}
 use Rattle.limbs.proofs.ByteLists.{Bytes}
 use Rattle.operand.specs.declared.Operand.{Operand}
@@ -46,7 +45,7 @@ unit_bytes m t a = row_causes m t ++ (high_bit m a ∷ is_zero (bytes_for m) m a
 pub passed : {m : ℕ} → IsPassed m → IsWidth m
 passed w = (w.least, w.greatest)
 
-pub first-passed : (m : ℕ) (cs : List Cause) → is_none (fault_of (bad_width m ∷ cs)) ≡ true → IsWidth m
+pub first-passed : (m : ℕ) (cs : List Cause) → is_ok (judged (bad_width m ∷ cs)) ≡ true → IsWidth m
 first-passed m cs e = passed (is-width m (fine (bad_width m ∷ cs) e).0)
 
 -- the bytes of a carried operand
@@ -58,14 +57,14 @@ module _ {m : ℕ} (w : IsWidth m) (t : List ℕ) where
   width-fails = width-passes m (record { least = w.0; greatest = w.1 })
 
   -- the shape of a table whose width was judged before
-  pub shape-after : {f : Fault} → f ≡ fault_of (shape_causes m t) → f ≡ fault_of (row_causes m t)
+  pub shape-after : {f : Fault} → f ≡ judged (shape_causes m t) → f ≡ judged (row_causes m t)
   shape-after e = e ∙ head-fails (bad_width m) (row_causes m t) width-fails
 
   pub table-shaped : Bytes t → Fine (row_causes m t) → Shaped m t
   table-shaped small p = shape-rows (λ d l. row-bytes m d t small) (width-fails, p)
 
   -- rules 4 and 5 of a table whose shape was judged before
-  pub rules-after : {f : Fault} → Shaped m t → f ≡ fault_of (shape_causes m t ++ rule_causes m t) → f ≡ fault_of (rule_causes m t)
+  pub rules-after : {f : Fault} → Shaped m t → f ≡ judged (shape_causes m t ++ rule_causes m t) → f ≡ judged (rule_causes m t)
   rules-after s e = e ∙ goes_on (shape_causes m t) (rule_causes m t) (none_true (shape-none s))
 
   serves : (k : Method) → Shaped m t → Fine (rules_by k m t) → Serves k m t
@@ -78,22 +77,22 @@ module _ {m : ℕ} (w : IsWidth m) (t : List ℕ) where
       record { least = w.0; greatest = w.1; width = refl; operand = record { size = h.0; byte = h.1; clear = clear_at m x (is-clear m x p) } }
 
   -- factors that have passed, and an operand that has
-  pub factors-fine : (k : Method) (x y : List ℕ) → Bytes t → HasCarriedBytes x → HasCarriedBytes y → is_none (fault_of (factor_causes k m t x y)) ≡ true → Serves k m t × Sound m (operand_of m x) × Sound m (operand_of m y)
+  pub factors-fine : (k : Method) (x y : List ℕ) → Bytes t → HasCarriedBytes x → HasCarriedBytes y → is_ok (judged (factor_causes k m t x y)) ≡ true → Serves k m t × Sound m (operand_of m x) × Sound m (operand_of m y)
   factors-fine k x y small hx hy e =
       let p = fine (factor_causes k m t x y) e in
       (serves k (table-shaped small (p.0, (p.1.0, tt))) p.1.1.1.1, sound hx p.1.1.0, sound hy p.1.1.1.0)
 
-  pub unit-fine : (x : List ℕ) → Bytes t → HasCarriedBytes x → is_none (fault_of (unit_causes m t x)) ≡ true → Shaped m t × Sound m (operand_of m x)
+  pub unit-fine : (x : List ℕ) → Bytes t → HasCarriedBytes x → is_ok (judged (unit_causes m t x)) ≡ true → Shaped m t × Sound m (operand_of m x)
   unit-fine x small h e =
       let p = fine (unit_causes m t x) e in
       (table-shaped small (p.0, (p.1.0, tt)), sound h p.1.1.0)
 
   -- the causes of carried bytes are those of the W bytes
-  pub factors-same : (k : Method) {a b : List ℕ} → HasBytes m a → HasBytes m b → fault_of (factor_causes k m t (carried_by a) (carried_by b)) ≡ fault_of (factor_causes k m t a b)
+  pub factors-same : (k : Method) {a b : List ℕ} → HasBytes m a → HasBytes m b → judged (factor_causes k m t (carried_by a) (carried_by b)) ≡ judged (factor_causes k m t a b)
   factors-same k {a} {b} h l =
       table_same _ _ (high_same h (high_bit m (carried_by b) ∷ rules_by k m t) (high_bit m b ∷ rules_by k m t) (λ q. high_same l (rules_by k m t) (rules_by k m t) (λ r. refl)))
     where
-      table_same : (cs ds : List Cause) → fault_of cs ≡ fault_of ds → fault_of (not_table m t ∷ high_bit_in_row m t ∷ cs) ≡ fault_of (not_table m t ∷ high_bit_in_row m t ∷ ds)
+      table_same : (cs ds : List Cause) → judged cs ≡ judged ds → judged (not_table m t ∷ high_bit_in_row m t ∷ cs) ≡ judged (not_table m t ∷ high_bit_in_row m t ∷ ds)
       table_same cs ds e = same_head (not_table m t) (not_table m t) _ _ refl refl (λ p. same_head (high_bit_in_row m t) (high_bit_in_row m t) cs ds refl refl (λ q. e))
 
   zero_same : {a : List ℕ} → Bytes a → HasBytes m a → is_clear m a ≡ true → (is_zero carried_bytes m (carried_by a)).test ≡ (is_zero (bytes_for m) m a).test
@@ -107,7 +106,7 @@ module _ {m : ℕ} (w : IsWidth m) (t : List ℕ) where
       operand : IsOperand (bytes_for m) m a
       operand = record { size = h.size; byte = small; clear = clear_at m a c }
 
-  pub unit-same : {a : List ℕ} → Bytes a → HasBytes m a → fault_of (unit_causes m t (carried_by a)) ≡ fault_of (unit_bytes m t a)
+  pub unit-same : {a : List ℕ} → Bytes a → HasBytes m a → judged (unit_causes m t (carried_by a)) ≡ judged (unit_bytes m t a)
   unit-same {a} small h =
       same_head (not_table m t) (not_table m t) _ _ refl refl (λ p. same_head (high_bit_in_row m t) (high_bit_in_row m t) _ _ refl refl (λ q.
       high_same h (is_zero carried_bytes m (carried_by a) ∷ []) (is_zero (bytes_for m) m a ∷ []) (λ c.
@@ -144,60 +143,60 @@ clear_zero w x size small = bool-ext _ _
     (λ e. clear_of 0 x (λ i l. ap (λ z. coord z i) ((same-decides x _).0 e ∙ sym (zero-bytes w)) ∙ coord-none carried_bytes i))
 
 -- the answers of a product and of an inverse without a fault, and of an inverse with one
-pub answered : (cs : List Cause) {m : ℕ} {x : List ℕ} {r : Operand} → is_none (fault_of cs) ≡ true → r ≡ operand_of m x → ◌≡◌ {A = OperandAnswer} (record { fault = None; value = r }) (answer (fault_of cs) m x)
+pub answered : (cs : List Cause) {m : ℕ} {x : List ℕ} {r : Operand} → is_ok (judged cs) ≡ true → r ≡ operand_of m x → ◌≡◌ {A = OperandAnswer} (record { fault = None; value = r }) (answer (judged cs) m x)
 unfolding answer
 answered cs n e = rw (n, none_is cs n, e)
 
-pub inverse-answered : (cs : List Cause) {m n : ℕ} {x : List ℕ} {r : InverseAnswer} → is_none (fault_of cs) ≡ true → r ≡ (record { fault = None; value = operand_of m x; count = n }) →
-    r ≡ counted (answer (fault_of cs) m x) n
+pub inverse-answered : (cs : List Cause) {m n : ℕ} {x : List ℕ} {r : InverseAnswer} → is_ok (judged cs) ≡ true → r ≡ (record { fault = None; value = operand_of m x; count = n }) →
+    r ≡ counted (answer (judged cs) m x) n
 unfolding answer
 inverse-answered cs n e = rw (n, none_is cs n) e
 
-pub inverse-refused : (g : Fault) {f : Fault} (m n : ℕ) (x : List ℕ) {r : InverseAnswer} → f ≡ g → is_none g ≡ false → r ≡ (record { fault = f; value = no_operand; count = 0 }) →
+pub inverse-refused : (g : Fault) {f : Fault} (m n : ℕ) (x : List ℕ) {r : InverseAnswer} → f ≡ g → is_ok g ≡ false → r ≡ (record { fault = f; value = no_operand; count = 0 }) →
     r ≡ counted (answer g m x) n
 unfolding answer
 inverse-refused g m n x q w e = rw w (e ∙ ap (λ z. record { fault = z; value = no_operand; count = 0 }) q)
 
 -- no count beside a fault
-pub count-refused : (m : ℕ) (t a old : List ℕ) {f : Fault} → f ≡ fault_of (inverse_bytes_causes m t a old) → is_none (fault_of (inverse_bytes_causes m t a old)) ≡ false → ◌≡◌ {A = CountAnswer} (record { fault = f; count = 0 }) (inverse_count m t a old)
+pub count-refused : (m : ℕ) (t a old : List ℕ) {f : Fault} → f ≡ judged (inverse_bytes_causes m t a old) → is_ok (judged (inverse_bytes_causes m t a old)) ≡ false → ◌≡◌ {A = CountAnswer} (record { fault = f; count = 0 }) (inverse_count m t a old)
 unfolding inverse_count
 count-refused m t a old e n = rw (n, e)
 
 -- the bytes of an answer without a fault
-answer-bytes : (f : Fault) (m : ℕ) {x : List ℕ} {r : OperandAnswer} → r ≡ answer f m x → is_none f ≡ true → r.value.bytes ≡ x
+answer-bytes : (f : Fault) (m : ℕ) {x : List ℕ} {r : OperandAnswer} → r ≡ answer f m x → is_ok f ≡ true → r.value.bytes ≡ x
 unfolding answer
 answer-bytes f m e n = rw n at (ap (λ (r : OperandAnswer). r.value.bytes) e)
 
 -- what is written of an answer: its length, and by the fault of all causes
-module _ (f : Fault) (y old : List ℕ) {new : List ℕ} (q : new ≡ choose (is_none f) y old) where
-  put-by : (b : Bool) → is_none f ≡ b → new ≡ choose b y old
+module _ (f : Fault) (y old : List ℕ) {new : List ℕ} (q : new ≡ choose (is_ok f) y old) where
+  put-by : (b : Bool) → is_ok f ≡ b → new ≡ choose b y old
   put-by b e = q ∙ ap (λ b. choose b y old) e
 
   pub put-length : length y ≡ length old → length new ≡ length old
-  put-length l = go (is_none f) refl
+  put-length l = go (is_ok f) refl
     where
-      go : (b : Bool) → is_none f ≡ b → length new ≡ length old
+      go : (b : Bool) → is_ok f ≡ b → length new ≡ length old
       go true e = ap length (put-by true e) ∙ l
       go false e = ap length (put-by false e)
 
-  pub put-out : {g : Fault} (z : List ℕ) → f ≡ g → (is_none f ≡ true → y ≡ z) → new ≡ choose (is_none g) z old
-  put-out {g} z same h = go (is_none f) refl
+  pub put-out : {g : Fault} (z : List ℕ) → f ≡ g → (is_ok f ≡ true → y ≡ z) → new ≡ choose (is_ok g) z old
+  put-out {g} z same h = go (is_ok f) refl
     where
-      go : (b : Bool) → is_none f ≡ b → new ≡ choose (is_none g) z old
-      go true e = filled g z old (sym (ap is_none same) ∙ e) (put-by true e ∙ h e)
-      go false e = put-by false e ∙ kept g z old (sym (ap is_none same) ∙ e)
+      go : (b : Bool) → is_ok f ≡ b → new ≡ choose (is_ok g) z old
+      go true e = filled g z old (sym (ap is_ok same) ∙ e) (put-by true e ∙ h e)
+      go false e = put-by false e ∙ kept g z old (sym (ap is_ok same) ∙ e)
 
 -- what is answered for the carried bytes is the answer for the W bytes: a product
 module _ {m : ℕ} {a b old : List ℕ} (z : SizedPair m a b old) (t : List ℕ) (k : Method) {r : OperandAnswer} (e : r ≡ product_answer k m t (carried_by a) (carried_by b)) where
-  pub product-fault : r.fault ≡ fault_of (factor_causes k m t a b)
+  pub product-fault : r.fault ≡ judged (factor_causes k m t a b)
   unfolding answer
   product-fault = ap (λ (r : OperandAnswer). r.fault) e ∙ factors-same (passed z.width) t k z.left z.right
 
-  pub product-written : {new : List ℕ} → is_none r.fault ≡ true → new ≡ pack (length old) (coord r.value.bytes) → new ≡ multiplied k m t a b
+  pub product-written : {new : List ℕ} → is_ok r.fault ≡ true → new ≡ pack (length old) (coord r.value.bytes) → new ≡ multiplied k m t a b
   unfolding answer
   product-written n q =
       let is = multiplied-is z.left z.right t k in
-      q ∙ ap (λ y. pack (length old) (coord y)) (answer-bytes _ m e (sym (ap (λ (r : OperandAnswer). is_none r.fault) e) ∙ n) ∙ multiplied-carried z.left z.right t k)
+      q ∙ ap (λ y. pack (length old) (coord y)) (answer-bytes _ m e (sym (ap (λ (r : OperandAnswer). is_ok r.fault) e) ∙ n) ∙ multiplied-carried z.left z.right t k)
       ∙ written-carried (has-bytes z.width.greatest is) is z.room
 
 -- an inverse, and its count
@@ -213,19 +212,19 @@ module _ {m : ℕ} {t a old : List ℕ} {r : InverseAnswer} (i : InverseOf m t a
   abbrev e : r ≡ inverse_answer m t (carried_by a)
   e = i.made
 
-  pub inverse-fault : r.fault ≡ fault_of (unit_bytes m t a)
+  pub inverse-fault : r.fault ≡ judged (unit_bytes m t a)
   unfolding answer
   inverse-fault = ap (λ (r : InverseAnswer). r.fault) e ∙ unit-same (passed z.width) t i.byte z.operand
 
-  pub inverse-written : {new : List ℕ} → is_none r.fault ≡ true → new ≡ pack (length old) (coord r.value.bytes) → new ≡ inverse m t a
+  pub inverse-written : {new : List ℕ} → is_ok r.fault ≡ true → new ≡ pack (length old) (coord r.value.bytes) → new ≡ inverse m t a
   unfolding answer
   inverse-written n q =
       let is = inverse-is t z.operand in
-      let none = sym (ap (λ (r : InverseAnswer). is_none r.fault) e) ∙ n in
+      let none = sym (ap (λ (r : InverseAnswer). is_ok r.fault) e) ∙ n in
       q ∙ ap (λ y. pack (length old) (coord y)) (ap (λ (r : InverseAnswer). r.value.bytes) e ∙ answer-bytes _ m refl none ∙ inverse-carried t z.operand)
       ∙ written-carried (has-bytes z.width.greatest is) is z.room
 
-  pub inverse-counted : r.fault ≡ fault_of (inverse_bytes_causes m t a old) → ◌≡◌ {A = CountAnswer} (record { fault = r.fault; count = r.count }) (inverse_count m t a old)
+  pub inverse-counted : r.fault ≡ judged (inverse_bytes_causes m t a old) → ◌≡◌ {A = CountAnswer} (record { fault = r.fault; count = r.count }) (inverse_count m t a old)
   unfolding inverse_count answer
   inverse-counted w = ap₂ (λ f n. record { fault = f; count = n }) w
-      (ap (λ (r : InverseAnswer). r.count) e ∙ ap₂ (λ f n. choose (is_none f) n 0) (sym (ap (λ (r : InverseAnswer). r.fault) e) ∙ w) (count-carried t z.operand))
+      (ap (λ (r : InverseAnswer). r.count) e ∙ ap₂ (λ f n. choose (is_ok f) n 0) (sym (ap (λ (r : InverseAnswer). r.fault) e) ∙ w) (count-carried t z.operand))

@@ -7,7 +7,7 @@ use Rattle.judging.specs.declared.fault.Fault.{Fault}
 use Rattle.judging.specs.Causes.{judged, answered}
 use Rattle.operand.specs.declared.Operand.{Operand}
 use Rattle.operand.specs.Calls.{answer, written}
-use Rattle.product.specs.declared.Inverse.{Inverse}
+use Rattle.product.specs.declared.Inverted.{Inverted}
 use Rattle.product.specs.Causes.{product_causes, reduced_causes, inverse_causes, product_bytes_causes, reduced_bytes_causes, inverse_bytes_causes}
 
 -- "coordinate r is the sum modulo 2 of ai·bj over all i, j for which βi·βj has coordinate r"; "it needs no accepted table"
@@ -19,11 +19,11 @@ abbrev pub reduced_call : ℕ → List ℕ → Operand → Operand → Result Op
 reduced_call m table a b = answer (judged (reduced_causes m table a b)) m (reduced m table a.bytes b.bytes)
 
 -- "the result carries the last count as the number of products made": the operand of width m with these bytes, and a count
-abbrev pub counted : ℕ → List ℕ → ℕ → Inverse
+abbrev pub counted : ℕ → List ℕ → ℕ → Inverted
 counted m bytes n = record { value = record { bytes = bytes; width = m }; count = n }
 
 -- "Inverse of a is a to the power 2^m - 2"; "Under a table that isn't accepted the answer is still this chain's value"
-abbrev pub inverse_call : ℕ → List ℕ → Operand → Result Inverse Fault
+abbrev pub inverse_call : ℕ → List ℕ → Operand → Result Inverted Fault
 inverse_call m table a = answered (judged (inverse_causes m table a)) (counted m (inverse m table a.bytes) (products_made m table a.bytes))
 
 -- the products of W bytes

@@ -15,7 +15,7 @@ use Rattle.judging.specs.FaultTable.{not_table, high_bit, high_bit_in_row, is_ze
 use Rattle.operand.specs.Calls.{answer, written}
 use Rattle.table.specs.Rows.{Shaped}
 use Rattle.scatter.specs.Cells.{HasSlots, slot_sum, total_at}
-use Rattle.product.specs.declared.Inverse.{Inverse}
+use Rattle.product.specs.declared.Inverted.{Inverted}
 use Rattle.scatter.specs.declared.methods.Method.{Method}
 use Rattle.scatter.specs.declared.methods.Method.TheVariants.{Plain, Reduced}
 use Rattle.product.specs.declared.chain.State.{State}
@@ -76,7 +76,7 @@ multiply_call k m table a b = answer (judged (method_causes k m table a b)) m (m
 abbrev pub product_answer : Method → ℕ → List ℕ → List ℕ → List ℕ → Result Operand Fault
 product_answer k m table x y = answer (judged (factor_causes k m table x y)) m (multiplied k m table x y)
 
-abbrev pub inverse_answer : ℕ → List ℕ → List ℕ → Result Inverse Fault
+abbrev pub inverse_answer : ℕ → List ℕ → List ℕ → Result Inverted Fault
 inverse_answer m table x = answered (judged (unit_causes m table x)) (counted m (inverse m table x) (products_made m table x))
 
 abbrev pub method_bytes_causes : Method → ℕ → List ℕ → List ℕ → List ℕ → List ℕ → List Cause
@@ -135,7 +135,7 @@ abbrev pub added_from : ℕ → List ℕ → List ℕ → ℕ → Chain → Stat
 added_from m table a unread s = state_of m (digits m table a (m - 1) unread (adding m table a ((m - 1) / 2 ^ unread % 2) s))
 
 -- an inverse without fault
-abbrev pub inverted_by : ℕ → List ℕ → List ℕ → Inverse
+abbrev pub inverted_by : ℕ → List ℕ → List ℕ → Inverted
 inverted_by m table a = counted m (inverse m table a) (products_made m table a)
 
 -- `unread` digits of m - 1 are left, and `owed`, 0 or 1, is the digit before them if it has yet to be added

@@ -2,7 +2,7 @@
 ghost use Rattle.std.specs.Prelude.{◌≡◌};
 ghost use Rattle.product.specs.Inner.{operand_of, IsWidth, Sound, Serves, multiplied, product_answer, inverse_answer};
 
-use crate::{Inverse, chain, judge, times};
+use crate::{Inverted, chain, judge, times};
 use judging::Fault;
 use operand::Operand;
 use scatter::Method;
@@ -46,7 +46,7 @@ pub(crate) fn product(
 }
 
 // The inverse by the chain.
-pub(crate) fn inverse(width: usize, table: &[u8], x: [u8; Operand::BYTES]) -> Result<Inverse, Fault>
+pub(crate) fn inverse(width: usize, table: &[u8], x: [u8; Operand::BYTES]) -> Result<Inverted, Fault>
     requires { IsWidth width }
     ensures { result ≡ inverse_answer width table.now x }
 {

@@ -6,7 +6,7 @@ ghost use Rattle.table.specs.Rows.{Shaped};
 ghost use Rattle.scatter.specs.Cells.{HasSlots};
 ghost use Rattle.product.specs.Inner.{Sound, Ready, chain_of, state_of, stepped, added_from, Underway, inverted_by};
 
-use crate::{Inverse, times};
+use crate::{Inverted, times};
 use operand::Operand;
 use scatter::Method;
 
@@ -95,12 +95,12 @@ fn last(width: usize, table: &[u8], a: Operand) -> State
 }
 
 // The chain's power turned by one, with the number of products made.
-pub(crate) fn inverted(width: usize, table: &[u8], a: Operand) -> Inverse
+pub(crate) fn inverted(width: usize, table: &[u8], a: Operand) -> Inverted
     requires { Shaped width table.now × Sound width a }
     ensures { result ≡ inverted_by width table.now a.bytes }
 {
     let end = last(width, table, a);
-    Inverse {
+    Inverted {
         value: end.t.turn(1).unwrap(),
         count: end.count,
     }

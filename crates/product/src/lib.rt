@@ -22,7 +22,7 @@ pub use scatter::Method;
 
 // An inverse, with the number of products that it took.
 #[derive(Clone, Copy, Debug, PartialEq, Eq)]
-pub struct Inverse {
+pub struct Inverted {
     pub value: Operand,
     pub count: usize,
 }
@@ -42,7 +42,7 @@ pub fn multiply(
 }
 
 // The inverse by the chain, under any table of the right shape.
-pub fn inverse(width: usize, table: &[u8], a: Operand) -> Result<Inverse, Fault>
+pub fn inverse(width: usize, table: &[u8], a: Operand) -> Result<Inverted, Fault>
     ensures { result ≡ inverse_call width table.now a }
 {
     judging::judge_widths(width, usize::from(a.width))?;

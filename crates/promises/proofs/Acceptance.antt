@@ -1,4 +1,5 @@
 -- Which gate lists are accepted: the theorem of crate equivalence, told of nb_run and nb_product.
+use Rattle.std.specs.Prelude.{Ok}
 use mathlib.Core.Path.{◌≡◌, sym, ◌∙◌}
 use mathlib.Core.List.{List, [], ◌∷◌}
 use Prim.Native.Nat.{ℕ, ◌+◌, ◌*◌}
@@ -8,13 +9,12 @@ use borrow.Author.Tests.{le-ltb}
 use Rattle.gf2.specs.Operands.{bytes_for}
 use Rattle.gf2.specs.Products.{product}
 use Rattle.gf2.specs.Field.{Op}
-use Rattle.judging.specs.declared.fault.Fault.TheVariants.{None}
-use Rattle.judging.specs.Causes.{fault_of}
+use Rattle.judging.specs.Causes.{judged}
 use Rattle.judging.specs.FaultTable.{bad_width, not_w}
-use Rattle.judging.proofs.CauseLaws.{Fine, none-given, none_true}
+use Rattle.judging.proofs.CauseLaws.{Fine, none-given}
 use Rattle.judging.proofs.Searches.{fine-append}
 use Rattle.judging.proofs.Passed.{width-passes, length-passes, operand-passes}
-use Rattle.table.specs.Judgements.{symmetry_fault}
+use Rattle.table.specs.Judgements.{symmetry_verdict}
 use Rattle.table.proofs.Theorems.{symmetry}
 use Rattle.product.specs.Calls.{product_into}
 use Rattle.netlist.specs.Running.{gate_count, read_list, result}
@@ -28,11 +28,11 @@ use Rattle.nb.specs.Calls.{ran_result}
 use Rattle.promises.specs.Acceptance.{RunsToAllProducts, Acceptance}
 use Rattle.promises.proofs.NoFaults.{Passed, product-none}
 
-module _ (m : ℕ) (table list : List ℕ) (none : symmetry_fault m table ≡ None) (c : Comparable m list) where
+module _ (m : ℕ) (table list : List ℕ) (none : symmetry_verdict m table ≡ Ok tt) (c : Comparable m list) where
   passed : Passed m table
   passed = record { shaped = ((symmetry m table).0 none).0; symmetry = none }
 
-  run_none : (a b old lent : List ℕ) → Op m a → Op m b → length old ≡ bytes_for m → length lent ≡ 2 * m + gate_count list → fault_of (run_bytes_causes m list a b old lent) ≡ None
+  run_none : (a b old lent : List ℕ) → Op m a → Op m b → length old ≡ bytes_for m → length lent ≡ 2 * m + gate_count list → judged (run_bytes_causes m list a b old lent) ≡ Ok tt
   run_none a b old lent x y room size =
       let s = passed.shaped in
       let r = comparable-ready m list c in
@@ -43,7 +43,7 @@ module _ (m : ℕ) (table list : List ℕ) (none : symmetry_fault m table ≡ No
       (fine-append (bad_width m ∷ not_w m a ∷ not_w m b ∷ not_w m old ∷ []) (list_causes m list a b (length lent)) sizes (fine-append (word_causes m list (length lent)) (bit_causes m list a b) words bits))
 
   -- what nb_run and nb_product leave, where neither gives a fault
-  ran : (a b old lent : List ℕ) → fault_of (run_bytes_causes m list a b old lent) ≡ None → ran_result m list a b old lent ≡ result (bytes_for m) m (read_list list m) a b
+  ran : (a b old lent : List ℕ) → judged (run_bytes_causes m list a b old lent) ≡ Ok tt → ran_result m list a b old lent ≡ result (bytes_for m) m (read_list list m) a b
   ran a b old lent n = rw (none_true n)
 
   made : (a b old : List ℕ) → Op m a → Op m b → length old ≡ bytes_for m → product_into m table a b old ≡ product m table a b

@@ -1,5 +1,6 @@
 -- Reading a card decides the causes of its faults, part by part: a number, a place, a row, rows, the head, the card.
 -- Each part both ways: what is refused has its cause, and what has the cause is refused.
+use Rattle.std.specs.Prelude.{Ok, is_ok}
 use mathlib.Core.Path.{◌≡◌, refl, sym, ap, ◌∙◌}
 use mathlib.Core.Logic.{◌⊎◌, inl, inr, ⊎_elim}
 use mathlib.Core.Bool.{Bool, true, false, true≢false}
@@ -10,14 +11,14 @@ use lib.Dec.{ltb, leb, eqb}
 use lib.ListN.{length}
 use borrow.Author.Tests.{ltb-true, ltb-false, lt-ltb, le-ltb, leb-true, leb-false, le-leb, lt-leb, eqb-true, eqb-false, eq-eqb, ne_eqb}
 use Rattle.judging.specs.declared.fault.Fault.{Fault}
-use Rattle.judging.specs.declared.fault.Fault.TheVariants.{None, Width, Call}
+use Rattle.judging.specs.declared.fault.Fault.TheVariants.{Width, Call}
 use Rattle.judging.specs.declared.fault.CallFault.TheVariants.{OutputShort}
 use Rattle.gf2.specs.Operands.{max_width, bytes_for, choose}
 use Rattle.gf2.proofs.Operands.{from-operand}
-use Rattle.judging.specs.Faults.{is_none, card_number, card_form, card_place, card_tail}
+use Rattle.judging.specs.Faults.{card_number, card_form, card_place, card_tail}
 use Rattle.card.specs.Numbers.{Read, refused, got, and_then, second_group, read_number}
 use Rattle.card.specs.Rows.{steps, ones_of, after, read_places, read_row, is_place, row_of, read_rows}
-use Rattle.card.specs.Cards.{lent_causes, lent_fault, read_width, read_head, Table, ended, read_card}
+use Rattle.card.specs.Cards.{lent_causes, lent_verdict, read_width, read_head, Table, ended, read_card}
 use Rattle.card.specs.Statements.{Bytes}
 use Rattle.card.proofs.Numbers.{no_value, parts, read-written, written_read_lem}
 use Rattle.card.proofs.Places.{after-got, row_read, row_written}
@@ -220,27 +221,27 @@ rows-stand m (suc count) s t rest small e =
     (row_of m ps, r, from-operand (bytes_for m) m (is_place ps), one.is_row, rows-stand m count r w rest one.bytes e3)
 
 -- the head
-lent-causes : (room m : ℕ) (f : Fault) → is_none (lent_fault room m) ≡ false → f ≡ lent_fault room m →
+lent-causes : (room m : ℕ) (f : Fault) → is_ok (lent_verdict room m) ≡ false → f ≡ lent_verdict room m →
     (BadWidth m × (f ≡ Width)) ⊎ ((2 ≤ m) × (m ≤ max_width) × (room < m * bytes_for m) × (f ≡ (Call OutputShort)))
-unfolding is_none
-lent-causes room m f some e = go (decides (lent_causes room m) (lent_fault room m) refl)
+unfolding is_ok
+lent-causes room m f some e = go (decides (lent_causes room m) (lent_verdict room m) refl)
   where
-    go : Decides (wrong_width m ∷ too_short room (m * bytes_for m) ∷ []) (lent_fault room m) → (BadWidth m × (f ≡ Width)) ⊎ ((2 ≤ m) × (m ≤ max_width) × (room < m * bytes_for m) × (f ≡ (Call OutputShort)))
+    go : Decides (wrong_width m ∷ too_short room (m * bytes_for m) ∷ []) (lent_verdict room m) → (BadWidth m × (f ≡ Width)) ⊎ ((2 ≤ m) × (m ≤ max_width) × (room < m * bytes_for m) × (f ≡ (Call OutputShort)))
     go (inl h) = inl (h.0, e ∙ h.1)
     go (inr (n, inl h)) = let r = wide n in inr (r.0, r.1, h.0, e ∙ h.1)
-    go (inr (n, inr h)) = absurd (true≢false (sym (ap is_none h.1) ∙ some))
+    go (inr (n, inr h)) = absurd (true≢false (sym (ap is_ok h.1) ∙ some))
 
-lent-bad : (room m : ℕ) → BadWidth m → lent_fault room m ≡ Width
-lent-bad room m b = go (decides (lent_causes room m) (lent_fault room m) refl)
+lent-bad : (room m : ℕ) → BadWidth m → lent_verdict room m ≡ Width
+lent-bad room m b = go (decides (lent_causes room m) (lent_verdict room m) refl)
   where
-    go : Decides (wrong_width m ∷ too_short room (m * bytes_for m) ∷ []) (lent_fault room m) → lent_fault room m ≡ Width
+    go : Decides (wrong_width m ∷ too_short room (m * bytes_for m) ∷ []) (lent_verdict room m) → lent_verdict room m ≡ Width
     go (inl h) = h.1
     go (inr h) = absurd (h.0 b)
 
-lent-short : (room m : ℕ) → 2 ≤ m → m ≤ max_width → room < m * bytes_for m → lent_fault room m ≡ (Call OutputShort)
-lent-short room m least greatest short = go (decides (lent_causes room m) (lent_fault room m) refl)
+lent-short : (room m : ℕ) → 2 ≤ m → m ≤ max_width → room < m * bytes_for m → lent_verdict room m ≡ (Call OutputShort)
+lent-short room m least greatest short = go (decides (lent_causes room m) (lent_verdict room m) refl)
   where
-    go : Decides (wrong_width m ∷ too_short room (m * bytes_for m) ∷ []) (lent_fault room m) → lent_fault room m ≡ (Call OutputShort)
+    go : Decides (wrong_width m ∷ too_short room (m * bytes_for m) ∷ []) (lent_verdict room m) → lent_verdict room m ≡ (Call OutputShort)
     go (inl h) = absurd (h.0 (least, greatest))
     go (inr (n, inl h)) = h.1
     go (inr (n, inr h)) = absurd (h.0 short)
@@ -257,13 +258,13 @@ head-refused room s f small e =
           elim (unpassed (eqb form 1) (read_width room middle) card_form w.3) [
             | inl t ↦
                 let one : Stands 1 s middle = rw (eqb-true form 1 t.0) at n.0 in
-                elim (fails (read_number middle) (λ m r. choose (is_none (lent_fault room m)) (got m r) (refused (lent_fault room m))) t.1) [
+                elim (fails (read_number middle) (λ m r. choose (is_ok (lent_verdict room m)) (got m r) (refused (lent_verdict room m))) t.1) [
                   | inl q ↦ no_width middle one (number-refused middle f q)
                   | inr v ↦
                       let m = v.0 in
                       let rest = v.1 in
                       let k = number-got m middle rest n.1 v.2 in
-                      elim (unpassed (is_none (lent_fault room m)) (got m rest) (lent_fault room m) v.3) [
+                      elim (unpassed (is_ok (lent_verdict room m)) (got m rest) (lent_verdict room m) v.3) [
                         | inl u ↦ no-fault u.1
                         | inr u ↦ ⊎_elim
                             (λ h. bad_width m middle rest one k.0 h.0 h.1)
@@ -315,7 +316,7 @@ card-refused room s f small e =
     ]
 
 card-bad : (room : ℕ) (s : List ℕ) (f : Fault) → BadCard room s f → read_card room s ≡ refused f
-unfolding read_card read_head read_width is_none
+unfolding read_card read_head read_width is_ok
 card-bad room s f (no_form b) = rw (number-bad s f b)
 card-bad room s f (other_form form rest h n q) = rw (number-stands form s rest h, ne_eqb form 1 n, q)
 card-bad room s f (no_width rest h b) = rw (number-stands 1 s rest h, number-bad rest f b)
@@ -332,21 +333,21 @@ card-bad room s f (bytes_after m b middle rest h stand q) =
     ap (λ x. and_then x (λ m rest. ended m (read_rows m m rest))) e ∙ ap (ended m) r.1 ∙ ap refused (sym q)
 
 -- a cause gives some fault
-number-some : {s : List ℕ} {f : Fault} → BadNumber s f → is_none f ≡ false
-unfolding is_none
+number-some : {s : List ℕ} {f : Fault} → BadNumber s f → is_ok f ≡ false
+unfolding is_ok
 number-some (no_group e q) = rw q
 number-some (no_second low l e q) = rw q
 number-some (bad_second low high rest l e h q) = rw q
 
-row-some : {m : ℕ} {s : List ℕ} {f : Fault} → BadRow m s f → is_none f ≡ false
-unfolding is_none
+row-some : {m : ℕ} {s : List ℕ} {f : Fault} → BadRow m s f → is_ok f ≡ false
+unfolding is_ok
 row-some (no_count b) = number-some b
 row-some (count_above n rest h l q) = rw q
 row-some (at_place n middle ps rest h l few o e (no_place b)) = number-some b
 row-some (at_place n middle ps rest h l few o e (place_above gap more k u q)) = rw q
 
-card-some : {room : ℕ} {s : List ℕ} {f : Fault} → BadCard room s f → is_none f ≡ false
-unfolding is_none
+card-some : {room : ℕ} {s : List ℕ} {f : Fault} → BadCard room s f → is_ok f ≡ false
+unfolding is_ok
 card-some (no_form b) = number-some b
 card-some (other_form form rest h n q) = rw q
 card-some (no_width rest h b) = number-some b
@@ -360,14 +361,14 @@ good-read {room} {m} {s} {table} g =
     rw g.is_card (card-read room m table (record { least = g.least; greatest = g.greatest; fits = g.fits }) g.is_table)
 
 pub card-exact : (room : ℕ) (s : List ℕ) → Bytes s → ExactCard room s (read_answer (read_card room s)).fault
-unfolding is_none
+unfolding is_ok
 card-exact room s small = go (read_card room s) refl
   where
     go : (x : Read Table) → read_card room s ≡ x → ExactCard room s (read_answer x).fault
     go (refused g) q = record {
       given = λ f n. (λ e. card-refused room s f small (q ∙ ap refused e), λ b. refused-is (sym (sym q ∙ card-bad room s f b)));
       none = (
-        λ e. absurd (true≢false (sym (ap is_none e) ∙ card-some (card-refused room s g small q))),
+        λ e. absurd (true≢false (sym (ap is_ok e) ∙ card-some (card-refused room s g small q))),
         λ h. no_value (sym q ∙ good-read h.2),
       );
     }

@@ -1,12 +1,12 @@
 -- The calls on carried operands: each is exact by the law of any list of causes.
+use Rattle.std.specs.Prelude.{is_ok}
 use mathlib.Core.List.{List, [], ◌∷◌}
 use Prim.Native.Nat.{ℕ}
 use lib.ListN.{length}
 use Rattle.gf2.specs.Operands.{choose}
-use Rattle.judging.specs.Faults.{is_none}
-use Rattle.judging.specs.Causes.{Cause, fault_of}
+use Rattle.judging.specs.Causes.{Cause, judged}
 use Rattle.judging.specs.FaultTable.{bad_width}
-use Rattle.judging.proofs.CauseLaws.{none_true, exact}
+use Rattle.judging.proofs.CauseLaws.{exact}
 use Rattle.operand.specs.Causes.{operand_causes, pair_causes, solve_causes}
 use Rattle.operand.specs.Calls.{answer, trace_answer}
 use Rattle.product.specs.Causes.{product_causes, reduced_causes, inverse_causes}
@@ -15,12 +15,12 @@ use Rattle.promises.specs.CarriedCalls.{Gives, GivesNumber, CarriedCalls}
 use Rattle.promises.proofs.AnswerLaws.{some-false, chosen, lent}
 
 -- an operand's answer, and a number's
-gives : (cs : List Cause) (m : ℕ) (bytes : List ℕ) → Gives cs (answer (fault_of cs) m bytes) m bytes
+gives : (cs : List Cause) (m : ℕ) (bytes : List ℕ) → Gives cs (answer (judged cs) m bytes) m bytes
 unfolding answer
 gives cs m bytes = record { exact = exact cs; refused = λ n. rw (some-false cs n); answered = λ e. rw (none_true e) }
 
-gives-number : (cs : List Cause) (n : ℕ) → GivesNumber cs (fault_of cs) (choose (is_none (fault_of cs)) n 0) n
-gives-number cs n = record { exact = exact cs; refused = λ e. rw (some-false cs e); answered = chosen (fault_of cs) n }
+gives-number : (cs : List Cause) (n : ℕ) → GivesNumber cs (judged cs) (choose (is_ok (judged cs)) n 0) n
+gives-number cs n = record { exact = exact cs; refused = λ e. rw (some-false cs e); answered = chosen (judged cs) n }
 
 pub carried-calls : CarriedCalls
 unfolding answer trace_answer

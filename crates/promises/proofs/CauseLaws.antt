@@ -1,4 +1,5 @@
 -- The cases of a fault that is that of a list of causes, when the last cause gives it, and a width that is no cause.
+use Rattle.std.specs.Prelude.{Ok}
 use mathlib.Core.Path.{◌≡◌, refl, sym, ap, ◌∙◌}
 use mathlib.Core.Logic.{◌↔◌, ◌⊎◌, inl, inr}
 use mathlib.Core.Bool.{Bool, true, false, true≢false}
@@ -8,19 +9,18 @@ use native.Mathlib.Omega.{arith}
 use native.Mathlib.Decide.{dec_lt}
 use Rattle.gf2.specs.Operands.{max_width}
 use Rattle.judging.specs.declared.fault.Fault.{Fault}
-use Rattle.judging.specs.declared.fault.Fault.TheVariants.{None}
 use Rattle.judging.specs.Faults.{number_of}
-use Rattle.judging.specs.Causes.{Cause, fault_of, First, NoCause}
+use Rattle.judging.specs.Causes.{Cause, judged, First, NoCause}
 use Rattle.judging.specs.FaultTable.{BadWidth}
 use Rattle.judging.proofs.CauseLaws.{head-holds, head-fails}
 
 -- the first cause that holds gives f, and where none holds f is none
 abbrev pub Decides : List Cause → Fault → Type 0
-Decides [] f = f ≡ None
+Decides [] f = f ≡ Ok tt
 Decides (c ∷ cs) f = (c.Holds × (f ≡ c.fault)) ⊎ ((¬ c.Holds) × Decides cs f)
 
-pub decides : (cs : List Cause) (f : Fault) → f ≡ fault_of cs → Decides cs f
-unfolding fault_of
+pub decides : (cs : List Cause) (f : Fault) → f ≡ judged cs → Decides cs f
+unfolding judged
 decides [] f e = e
 decides (c ∷ cs) f e = go c.test refl (λ q. decides cs f (e ∙ head-fails c cs q))
   where

@@ -1,4 +1,5 @@
 -- Demand 1: each call is exact by the law of any list of causes, and its values have room in its answer.
+use Rattle.std.specs.Prelude.{Ok, is_ok}
 use mathlib.Core.Path.{◌≡◌, refl, ap, subst}
 use mathlib.Core.Bool.{Bool, true, false}
 use mathlib.Core.List.{List}
@@ -6,22 +7,20 @@ use Prim.Native.Nat.{ℕ}
 use lib.ListN.{length}
 use Rattle.gf2.specs.Operands.{choose}
 use Rattle.gf2.specs.Tables.{ones_in}
-use Rattle.judging.specs.declared.fault.Fault.TheVariants.{None}
-use Rattle.judging.specs.Faults.{is_none}
-use Rattle.judging.specs.Causes.{Cause, fault_of}
+use Rattle.judging.specs.Causes.{Cause, judged}
 use Rattle.judging.specs.FaultTable.{shape_causes, symmetry_causes, check_causes}
-use Rattle.judging.proofs.CauseLaws.{none_true, exact}
+use Rattle.judging.proofs.CauseLaws.{exact}
 use Rattle.operand.specs.Causes.{bytes_causes, constant_causes, turn_bytes_causes, sum_bytes_causes, solve_bytes_causes}
-use Rattle.table.specs.Judgements.{symmetry_fault, shape_fault}
+use Rattle.table.specs.Judgements.{symmetry_verdict, shape_verdict}
 use Rattle.table.specs.Calls.{ones_call}
 use Rattle.product.specs.Causes.{product_bytes_causes, reduced_bytes_causes, inverse_bytes_causes}
 use Rattle.netlist.specs.Gates.{Netlist, and_gates, xor_gates}
 use Rattle.netlist.specs.Lists.{plain, reduced, common}
 use Rattle.netlist.specs.Running.{read_list}
-use Rattle.netlist.specs.Calls.{answer, list_causes, list_fault, list_call}
+use Rattle.netlist.specs.Calls.{answer, list_causes, list_verdict, list_call}
 use Rattle.runner.specs.Causes.{run_bytes_causes}
 use Rattle.equivalence.specs.Causes.{accept_causes}
-use Rattle.equivalence.specs.Calls.{accept_fault, accept_call}
+use Rattle.equivalence.specs.Calls.{accept_verdict, accept_call}
 use Rattle.gaussian.specs.Causes.{type_causes, draw_causes}
 use Rattle.gaussian.specs.Calls.{answer as type_answer_of}
 use Rattle.card.specs.declared.CardAnswer.{CardAnswer}
@@ -44,19 +43,19 @@ use Rattle.promises.proofs.CarriedCalls.{carried-calls}
 use Rattle.promises.proofs.Reports.{reports}
 
 -- the counts of a list
-counts : (m : ℕ) (table : List ℕ) (ands xors : ℕ) → PacksCounts (answer (symmetry_fault m table) ands xors) →
-    Asks (symmetry_causes m table) (counts_answer (answer (symmetry_fault m table) ands xors)) ands xors
+counts : (m : ℕ) (table : List ℕ) (ands xors : ℕ) → PacksCounts (answer (symmetry_verdict m table) ands xors) →
+    Asks (symmetry_causes m table) (counts_answer (answer (symmetry_verdict m table) ands xors)) ands xors
 unfolding answer
 counts m table ands xors room = record {
   exact = exact (symmetry_causes m table);
-  number = numbered (symmetry_causes m table) room (chosen (symmetry_fault m table) ands) (chosen (symmetry_fault m table) xors);
+  number = numbered (symmetry_causes m table) room (chosen (symmetry_verdict m table) ands) (chosen (symmetry_verdict m table) xors);
 }
 
 lists : (m : ℕ) (table : List ℕ) (list : Netlist) (old : List ℕ) → PacksCounts (list_call m table list old) → Lists m table list old
 unfolding answer
 lists m table list old room = record {
   exact = exact (list_causes m table list old);
-  number = numbered (list_causes m table list old) room (chosen (list_fault m table list old) _) (chosen (list_fault m table list old) _);
+  number = numbered (list_causes m table list old) room (chosen (list_verdict m table list old) _) (chosen (list_verdict m table list old) _);
   buffer = lent (list_causes m table list old) old _;
 }
 
@@ -65,18 +64,18 @@ accepts : (m : ℕ) (table list : List ℕ) → PacksCounts (accept_call m table
 unfolding answer
 accepts m table list room = record {
   exact = exact (accept_causes m table list);
-  number = numbered (accept_causes m table list) room (chosen (accept_fault m table list) _) (chosen (accept_fault m table list) _);
+  number = numbered (accept_causes m table list) room (chosen (accept_verdict m table list) _) (chosen (accept_verdict m table list) _);
 }
 
 -- what a card's reading leaves, by what it finds
-kept : (old : List ℕ) (x : Read Table) → ¬ ((read_answer x).fault ≡ None) → read_into x old ≡ old
+kept : (old : List ℕ) (x : Read Table) → ¬ ((read_answer x).fault ≡ Ok tt) → read_into x old ≡ old
 kept old (refused f) n = refl
 kept old (got t rest) n = absurd (n refl)
 
-some : (s old : List ℕ) → ¬ ((read_call s old).fault ≡ None) → is_none (read_call s old).fault ≡ false
-some s old n = go (is_none (read_call s old).fault) refl
+some : (s old : List ℕ) → ¬ ((read_call s old).fault ≡ Ok tt) → is_ok (read_call s old).fault ≡ false
+some s old n = go (is_ok (read_call s old).fault) refl
   where
-    go : (b : Bool) → is_none (read_call s old).fault ≡ b → b ≡ false
+    go : (b : Bool) → is_ok (read_call s old).fault ≡ b → b ≡ false
     go true e = absurd (n (read_none s old e))
     go false e = refl
 
@@ -93,14 +92,14 @@ reads s old small =
     }
 
 -- a call that returns nothing beside a fault
-bare : (cs : List Cause) → are_small cs ≡ true → (old result : List ℕ) → Fills cs (fault_answer cs) 0 0 (choose (is_none (fault_of cs)) result old) old result
+bare : (cs : List Cause) → are_small cs ≡ true → (old result : List ℕ) → Fills cs (fault_answer cs) 0 0 (choose (is_ok (judged cs)) result old) old result
 bare cs e = fills cs (packs refl (small-causes cs e))
 
 pub demand1 : Demand1
 unfolding ones_call type_answer_of is_small
 demand1 = record {
   check = λ m t. asks (check_causes m t) (packs refl (small-check m t));
-  ones = λ m t. record { exact = exact (shape_causes m t); number = numbered (shape_causes m t) (ones-packs m t refl) (chosen (shape_fault m t) (ones_in m t)) (λ e. refl) };
+  ones = λ m t. record { exact = exact (shape_causes m t); number = numbered (shape_causes m t) (ones-packs m t refl) (chosen (shape_verdict m t) (ones_in m t)) (λ e. refl) };
   product = λ m t a b old. bare (product_bytes_causes m t a b old) refl old _;
   reduced = λ m t a b old. fills (reduced_bytes_causes m t a b old) (packs refl (small-reduced m t a b old)) old _;
   inverse = λ m t a old. fills (inverse_bytes_causes m t a old) (inverse-packs m t a old) old _;

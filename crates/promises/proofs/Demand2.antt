@@ -1,4 +1,5 @@
 -- Demand 2: each field by a law of the crate that proves it.
+use Rattle.std.specs.Prelude.{Ok}
 use mathlib.Core.Path.{◌≡◌}
 use mathlib.Core.List.{List}
 use Prim.Native.Nat.{ℕ, ◌%◌}
@@ -7,14 +8,13 @@ use lib.ListN.{length}
 use Rattle.gf2.specs.Operands.{bytes_for, from_coords}
 use Rattle.gf2.specs.Products.{product, reduced}
 use Rattle.gf2.proofs.Operands.{coord-from, from-operand}
-use Rattle.judging.specs.declared.fault.Fault.TheVariants.{None}
 use Rattle.gaussian.specs.Types.{type_of}
 use Rattle.gaussian.specs.Table.{drawn}
 use Rattle.gaussian.specs.Calls.{draw_fault, drawn_into}
 use Rattle.gaussian.proofs.Theorems.{type-list, drawn-table}
 use Rattle.card.proofs.Theorems.{card-laws}
 use Rattle.card_writer.proofs.Theorems.{card-trips}
-use Rattle.judging.specs.Causes.{fault_of}
+use Rattle.judging.specs.Causes.{judged}
 use Rattle.product.specs.Causes.{product_bytes_causes, reduced_bytes_causes}
 use Rattle.product.specs.Calls.{product_into, reduced_into}
 use Rattle.promises.specs.Demand2.{bilinear, halved, HasCoords, DrawnBy, Demand2}
@@ -26,19 +26,19 @@ use Rattle.promises.proofs.Demand1.{demand1}
 given : (m : ℕ) (x : List ℕ) (f : ℕ → ℕ) → length x ≡ bytes_for m → HasCoords m (from_coords (length x) m f) (λ r. f r % 2)
 given m x f size = rw size (record { operand = from-operand (bytes_for m) m f; coords = λ r l. coord-from (bytes_for m) m f (omega arith) r l })
 
-products : (m : ℕ) (table a b old : List ℕ) → fault_of (product_bytes_causes m table a b old) ≡ None → HasCoords m (product_into m table a b old) (bilinear m table a b)
+products : (m : ℕ) (table a b old : List ℕ) → judged (product_bytes_causes m table a b old) ≡ Ok tt → HasCoords m (product_into m table a b old) (bilinear m table a b)
 unfolding product
 products m table a b old e =
     let call = demand1.product m table a b old in
     rw (call.buffer.written e) (given m a _ (equal-unless _ _ (call.exact.none.0 e).1.0))
 
-reduced_products : (m : ℕ) (table a b old : List ℕ) → fault_of (reduced_bytes_causes m table a b old) ≡ None → HasCoords m (reduced_into m table a b old) (halved m table a b)
+reduced_products : (m : ℕ) (table a b old : List ℕ) → judged (reduced_bytes_causes m table a b old) ≡ Ok tt → HasCoords m (reduced_into m table a b old) (halved m table a b)
 unfolding reduced
 reduced_products m table a b old e =
     let call = demand1.reduced m table a b old in
     rw (call.buffer.written e) (given m a _ (equal-unless _ _ (call.exact.none.0 e).1.0))
 
-drawn-by : (m : ℕ) (old : List ℕ) → draw_fault m (length old) ≡ None → DrawnBy m (type_of m) (drawn_into m old)
+drawn-by : (m : ℕ) (old : List ℕ) → draw_fault m (length old) ≡ Ok tt → DrawnBy m (type_of m) (drawn_into m old)
 drawn-by m old e =
     let call = demand1.draw m old in
     let no = call.exact.none.0 e in

@@ -1,4 +1,5 @@
 -- Demand 3: each field by a law of the crate that proves it.
+use Rattle.std.specs.Prelude.{Ok, is_ok}
 use mathlib.Core.Path.{◌≡◌, refl, sym, ap, ap₂, ◌∙◌}
 use mathlib.Core.List.{List}
 use Prim.Native.Nat.{ℕ, zero, suc, ◌+◌, ◌-◌, ◌*◌, ◌/◌, ◌≤◌}
@@ -15,19 +16,16 @@ use Rattle.gf2.specs.Inverse.{inverse}
 use Rattle.gf2.specs.Statements.{GivesInverse, pairs_below}
 use Rattle.gf2.proofs.OperandVectors.{bytes_fit}
 use Rattle.gf2.proofs.Theorems.{theorem_b, theorem_d, theorem_e, theorem_g, theorem_h}
-use Rattle.judging.specs.declared.fault.Fault.TheVariants.{None}
-use Rattle.judging.specs.Faults.{is_none}
 use Rattle.table.specs.Rows.{Shaped}
-use Rattle.table.specs.Judgements.{check_fault, symmetry_fault}
+use Rattle.table.specs.Judgements.{check_verdict, symmetry_verdict}
 use Rattle.table.proofs.Theorems.{acceptance, fields, symmetry}
-use Rattle.judging.proofs.CauseLaws.{none_true}
 use Rattle.netlist.specs.Gates.{Netlist, words}
 use Rattle.netlist.specs.Lists.{plain, reduced, common}
 use Rattle.netlist.specs.Running.{wires, result}
 use Rattle.netlist.specs.Calls.{answer, counted_as, counts_call}
 use Rattle.netlist.specs.Statements.{ListsHold, ListHolds, Counted, CommonCounts}
 use Rattle.netlist.proofs.Theorems.{theorem_lists, theorem_common}
-use Rattle.judging.specs.Causes.{fault_of}
+use Rattle.judging.specs.Causes.{judged}
 use Rattle.product.specs.Calls.{inverse_into}
 use Rattle.runner.specs.Causes.{run_bytes_causes}
 use Rattle.runner.specs.Statements.{ListsRun, Runs as ListRuns}
@@ -50,7 +48,7 @@ even-half (suc n) c p l e =
     let split : suc n * (c + suc n - 2) ≡ suc n * (p + p) + suc n * n = ap (λ x. suc n * x) (omega (arith, e)) ∙ mul-add (suc n) (p + p) n in
     omega (arith, split, k.1, mul-add (suc n) p p)
 
-module _ (m : ℕ) (table : List ℕ) (e : check_fault m table ≡ None) where
+module _ (m : ℕ) (table : List ℕ) (e : check_verdict m table ≡ Ok tt) where
   shaped : Shaped m table
   shaped = ((acceptance m table).0 e).0
 
@@ -60,7 +58,7 @@ module _ (m : ℕ) (table : List ℕ) (e : check_fault m table ≡ None) where
   field : Field m table
   field = ((fields m table).0 e).1
 
-  symmetric : symmetry_fault m table ≡ None
+  symmetric : symmetry_verdict m table ≡ Ok tt
   symmetric = (symmetry m table).1 (shaped, accepted.symmetric)
 
   passed : Passed m table
@@ -112,16 +110,16 @@ module _ (m : ℕ) (table : List ℕ) (e : check_fault m table ≡ None) where
         let n = k.no_bytes_fault shaped.greatest a b old lent x y w all in
         let e = written out room in
         record {
-          no_fault = ap (λ l. fault_of (run_bytes_causes m l a b old lent)) e ∙ n;
+          no_fault = ap (λ l. judged (run_bytes_causes m l a b old lent)) e ∙ n;
           value = ap (λ l. ran_result m l a b old lent) e ∙ found n ∙ ap (λ k. result k m list a b) (sym x.size)
               ∙ h.computes.bytes a b (rw x.size (bytes_fit m)) ∙ sym (multiplies a b old x y w).value;
           wire = ap (λ l. ran_wires m l a b old lent) e ∙ wired n;
         }
       where
-        found : fault_of (run_bytes_causes m (words m list) a b old lent) ≡ None → ran_result m (words m list) a b old lent ≡ result (bytes_for m) m list a b
+        found : judged (run_bytes_causes m (words m list) a b old lent) ≡ Ok tt → ran_result m (words m list) a b old lent ≡ result (bytes_for m) m list a b
         found n = rw (none_true n, k.read_back)
 
-        wired : fault_of (run_bytes_causes m (words m list) a b old lent) ≡ None → ran_wires m (words m list) a b old lent ≡ wires m list a b
+        wired : judged (run_bytes_causes m (words m list) a b old lent) ≡ Ok tt → ran_wires m (words m list) a b old lent ≡ wires m list a b
         wired n = rw (none_true n, k.read_back)
 
     runs_to : RunsToProduct m table list
@@ -132,7 +130,7 @@ module _ (m : ℕ) (table : List ℕ) (e : check_fault m table ≡ None) where
 
   -- the counts are reported without a fault
   gates : (list : Netlist) {ands xors : ℕ} → Counted list ands xors → HasGates list (counts_call m table list) ands xors
-  unfolding answer is_none
+  unfolding answer is_ok
   gates list h = record {
     holds_ands = h.and_count;
     holds_xors = h.xor_count;

@@ -1,11 +1,12 @@
 -- Which numbers faults have: 0 to 6 and 9 to 21.
 -- never7, never8: document 02 took these two out.
+use Rattle.std.specs.Prelude.{Ok}
 use mathlib.Core.Path.{◌≡◌, refl, sym, ap, ◌∙◌}
 use mathlib.Core.Bool.{Bool, true, false, ◌&&◌, ◌||◌, true≢false}
 use Prim.Native.Nat.{ℕ}
 use lib.Dec.{leb}
 use Rattle.judging.specs.declared.fault.Fault.{Fault}
-use Rattle.judging.specs.declared.fault.Fault.TheVariants.{None, Width, Length, HighBit, RowZero, RowPair, Triple, Call, Card, List as OfList}
+use Rattle.judging.specs.declared.fault.Fault.TheVariants.{Width, Length, HighBit, RowZero, RowPair, Triple, Call, Card, List as OfList}
 use Rattle.judging.specs.declared.fault.CallFault.TheVariants.{InverseOfZero, TraceOne, OutputShort, NoType, BadGate}
 use Rattle.judging.specs.declared.fault.CardFault.TheVariants.{Ends, Number, Form, Place, Tail}
 use Rattle.judging.specs.declared.fault.ListFault.TheVariants.{Size, Form as ListForm, Output}

@@ -1,11 +1,11 @@
 -- The report program: what it prints for each input, by what reading the card and checking its table find.
+use Rattle.std.specs.Prelude.{Ok}
 use mathlib.Core.Path.{◌≡◌, sym, ap, ◌∙◌}
 use mathlib.Core.List.{List, [], ◌∷◌, ◌++◌, append_assoc}
 use Prim.Native.Nat.{ℕ, ◌≤◌}
 use lib.ListN.{length}
 use Rattle.judging.specs.declared.fault.Fault.{Fault}
-use Rattle.judging.specs.declared.fault.Fault.TheVariants.{None}
-use Rattle.table.specs.Judgements.{symmetry_fault}
+use Rattle.table.specs.Judgements.{symmetry_verdict}
 use Rattle.netlist.specs.Gates.{Netlist}
 use Rattle.netlist.specs.Lists.{plain, reduced, common}
 use Rattle.netlist.specs.Calls.{answer, counts_call}
@@ -20,7 +20,7 @@ use Rattle.judging.specs.Causes.{First, NoCause}
 use Rattle.judging.specs.FaultTable.{symmetry_causes, triple_causes, check_causes}
 use Rattle.promises.specs.CardCauses.{BadCard, GoodCard}
 use Rattle.promises.specs.Reports.{head, gates, Reports}
-use Rattle.judging.proofs.CauseLaws.{exact, of-first, first_some, none_true, none-given, none-fine}
+use Rattle.judging.proofs.CauseLaws.{exact, of-first, none-given, none-fine}
 use Rattle.judging.proofs.Searches.{fine-parts}
 use Rattle.promises.proofs.CardTests.{good-read, card-exact}
 use Rattle.promises.proofs.AnswerLaws.{some-false}
@@ -34,7 +34,7 @@ module _ (m : ℕ) (table : List ℕ) where
       rw (some-false (check_causes m table) (λ q. first_some (check_causes m table) f h (sym e ∙ q)), e) (sym (append_assoc (line (ascii "width") (m ∷ [])) _ _))
 
   -- the counts' line of a list, where rules 4 and 5 hold
-  gates-line : symmetry_fault m table ≡ None → (word : List ℕ) (list : Netlist) → counts_line word (counts_call m table list) ≡ gates word list
+  gates-line : symmetry_verdict m table ≡ Ok tt → (word : List ℕ) (list : Netlist) → counts_line word (counts_call m table list) ≡ gates word list
   unfolding counts_line answer
   gates-line e word list = rw (none_true e)
 
@@ -48,7 +48,7 @@ module _ (m : ℕ) (table : List ℕ) where
       (sym (append_assoc (line (ascii "width") (m ∷ [])) _ _))
 
 module _ (s : List ℕ) (small : Bytes s) (short : length s ≤ input_limit) where
-  bad : (f : Fault) → ¬ (f ≡ None) → BadCard lent s f → report s ≡ refusal f
+  bad : (f : Fault) → ¬ (f ≡ Ok tt) → BadCard lent s f → report s ≡ refusal f
   bad f n b = short-report s short ∙ go (read_card lent s) (((card-exact lent s small).given f n).1 b)
     where
       go : (x : Read Table) → (read_answer x).fault ≡ f → read_report x ≡ refusal f

@@ -1,4 +1,5 @@
 -- A turn takes every count: the laws of turns in crate operand, told of the calls.
+use Rattle.std.specs.Prelude.{Ok}
 use mathlib.Core.Path.{◌≡◌, sym, ap, ◌∙◌}
 use mathlib.Core.List.{List}
 use Prim.Native.Nat.{ℕ, zero, suc, ◌+◌, ◌%◌}
@@ -9,9 +10,7 @@ use Rattle.gf2.specs.Operands.{bytes_for, turned}
 use Rattle.gf2.specs.Products.{product}
 use Rattle.gf2.specs.Field.{Op, Field, Squares}
 use Rattle.gf2.proofs.Operands.{turned-operand, turned-modulo}
-use Rattle.judging.specs.declared.fault.Fault.TheVariants.{None}
-use Rattle.judging.specs.Causes.{fault_of}
-use Rattle.judging.proofs.CauseLaws.{none_true}
+use Rattle.judging.specs.Causes.{judged}
 use Rattle.judging.proofs.Passed.{IsWidth}
 use Rattle.operand.specs.Causes.{turn_bytes_causes}
 use Rattle.operand.specs.Calls.{turn_into, written}
@@ -19,7 +18,7 @@ use Rattle.operand.specs.Statements.{times, TurnLaws}
 use Rattle.operand.proofs.Theorems.{operand-laws}
 use Rattle.operand.proofs.CallTheorems.{call-laws}
 use Rattle.table.specs.Rows.{Shaped}
-use Rattle.table.specs.Judgements.{check_fault}
+use Rattle.table.specs.Judgements.{check_verdict}
 use Rattle.table.proofs.Theorems.{fields}
 use Rattle.promises.specs.Turns.{TurnsOf, Turns}
 use Rattle.promises.proofs.NoFaults.{turn-none}
@@ -27,7 +26,7 @@ use Rattle.promises.proofs.Numbers.{never8}
 
 -- whatever is handed in
 modulo : (m : ℕ) (a : List ℕ) (k : ℕ) (old : List ℕ) → turn_into m a k old ≡ turn_into m a (k % m) old
-modulo m a k old = ap (λ x. written (fault_of (turn_bytes_causes m a old)) x old) (turned-modulo m k a)
+modulo m a k old = ap (λ x. written (judged (turn_bytes_causes m a old)) x old) (turned-modulo m k a)
 
 module _ {m : ℕ} (w : IsWidth m) where
   laws : TurnLaws (bytes_for m) m
@@ -52,7 +51,7 @@ module _ {m : ℕ} (w : IsWidth m) where
   }
 
 -- a square is a product by demand 3, and two turns are one
-module _ (m : ℕ) (table a : List ℕ) (none : check_fault m table ≡ None) (o : Op m a) where
+module _ (m : ℕ) (table a : List ℕ) (none : check_verdict m table ≡ Ok tt) (o : Op m a) where
   field : Shaped m table × Field m table × Squares m table
   field = (fields m table).0 none
 

@@ -1,4 +1,5 @@
 -- ANSI X9.62's choice of type: the laws of crate gaussian, told of the calls.
+use Rattle.std.specs.Prelude.{Ok}
 use mathlib.Core.Path.{◌≡◌, refl, sym, ap, ◌∙◌}
 use mathlib.Core.Logic.{◌↔◌, inl, inr}
 use mathlib.Core.List.{List, [], ◌∷◌}
@@ -8,10 +9,10 @@ use lib.Dec.{lit≤}
 use lib.ListN.{length}
 use Rattle.gf2.specs.Operands.{max_width, bytes_for}
 use Rattle.gf2.proofs.Decisions.{equal-unless}
-use Rattle.judging.specs.declared.fault.Fault.TheVariants.{None, Call}
+use Rattle.judging.specs.declared.fault.Fault.TheVariants.{Call}
 use Rattle.judging.specs.declared.fault.CallFault.TheVariants.{NoType}
 use Rattle.judging.specs.Faults.{number_of}
-use Rattle.judging.specs.Causes.{fault_of}
+use Rattle.judging.specs.Causes.{judged}
 use Rattle.judging.specs.FaultTable.{bad_width, bad_length}
 use Rattle.gaussian.specs.Types.{LeastType, AnsiType, type_of}
 use Rattle.gaussian.specs.Table.{drawn}
@@ -23,7 +24,7 @@ use Rattle.promises.specs.TypeChoice.{TypeChoice}
 use Rattle.promises.proofs.CauseLaws.{last-first, wide}
 use Rattle.promises.proofs.Demand1.{demand1}
 
-no-type : ¬ (Call NoType ≡ None)
+no-type : ¬ (Call NoType ≡ Ok tt)
 no-type e = omega (arith, ap (λ f. (number_of f).0) e)
 
 -- the four widths are widths of the list
@@ -35,13 +36,13 @@ among-width m (inr (inr (inr (inl e)))) = (omega arith, omega arith)
 among-width m (inr (inr (inr (inr n)))) = absurd n
 
 module _ (m : ℕ) where
-  chosen : fault_of (type_causes m) ≡ None → AnsiType m (type_of m)
+  chosen : judged (type_causes m) ≡ Ok tt → AnsiType m (type_of m)
   chosen e =
       let no = (demand1.typed m).exact.none.0 e in
       let w = wide no.0 in
       (type-list m w.0 w.1).chosen no.1.0
 
-  same : fault_of (type_causes m) ≡ None → ¬ Among m both_types → LeastType m (type_of m)
+  same : judged (type_causes m) ≡ Ok tt → ¬ Among m both_types → LeastType m (type_of m)
   same e n =
       let w = wide ((demand1.typed m).exact.none.0 e).0 in
       type-orders.same m (type_of m) (chosen e) (λ b. n ((type-orders.both m w.0 w.1).0 b))
@@ -57,7 +58,7 @@ module _ (m : ℕ) where
   eight l h = (type-list m l h).none
 
   -- 17 is the last cause of both calls
-  seventeen : (fault_of (type_causes m) ≡ Call NoType) ↔ ((2 ≤ m) × (m ≤ max_width) × (8 ∣ m))
+  seventeen : (judged (type_causes m) ≡ Call NoType) ↔ ((2 ≤ m) × (m ≤ max_width) × (8 ∣ m))
   seventeen =
       let given = (demand1.typed m).exact.given (Call NoType) no-type in
       let last = last-first (bad_width m ∷ []) (type_zero m) (λ e. omega arith, tt) in (
@@ -78,7 +79,7 @@ module _ (m : ℕ) where
 
 -- a width and a type T that is the list's
 draws : (m t : ℕ) → 2 ≤ m → m ≤ max_width → type_of m ≡ t → ¬ (t ≡ 0) → (old : List ℕ) → length old ≡ m * bytes_for m →
-    (draw_fault m (length old) ≡ None) × (drawn_into m old ≡ drawn m t)
+    (draw_fault m (length old) ≡ Ok tt) × (drawn_into m old ≡ drawn m t)
 draws m t l h e n old size =
     let call = demand1.draw m old in
     let none = call.exact.none.1 (λ b. b (l, h), (λ u. u size, (λ z. n (sym e ∙ z), tt))) in

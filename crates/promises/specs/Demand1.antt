@@ -18,7 +18,7 @@ use Rattle.netlist.specs.Gates.{Netlist, words, and_gates, xor_gates}
 use Rattle.netlist.specs.Lists.{plain, reduced as reduced_list, common}
 use Rattle.netlist.specs.Running.{read_list, wires as wires_of, result as result_of}
 use Rattle.netlist.specs.Calls.{counts_plain_call, counts_reduced_call, counts_common_call, list_causes, list_call, list_buffer}
-use Rattle.netlist.specs.declared.Counts.{Counts as CountsOf}
+use Rattle.netlist.specs.declared.GateCounts.{GateCounts}
 use Rattle.runner.specs.Causes.{run_bytes_causes}
 use Rattle.equivalence.specs.Causes.{accept_causes}
 use Rattle.equivalence.specs.Calls.{accept_call}
@@ -38,7 +38,7 @@ use Rattle.promises.specs.CarriedCalls.{CarriedCalls}
 use Rattle.promises.specs.Reports.{Reports}
 
 -- the counts of a list without the list: "They are the numbers of kind 0 and of kind 1 gates among the g"
-abbrev pub Counts : ℕ → List ℕ → Netlist → Result CountsOf Fault → Type 0
+abbrev pub Counts : ℕ → List ℕ → Netlist → Result GateCounts Fault → Type 0
 Counts m table list reported =
     Asks (symmetry_causes m table) (counts_answer reported) (and_gates list.gates) (xor_gates list.gates)
 

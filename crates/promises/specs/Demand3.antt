@@ -10,7 +10,7 @@ use Rattle.gf2.specs.Field.{Op, IsUnit, Field, Squares}
 use Rattle.gf2.specs.Inverse.{log2, binary_ones, products_made}
 use Rattle.table.specs.Rows.{Shaped}
 use Rattle.table.specs.Judgements.{check_verdict}
-use Rattle.netlist.specs.declared.Counts.{Counts}
+use Rattle.netlist.specs.declared.GateCounts.{GateCounts}
 use Rattle.judging.specs.declared.fault.Fault.{Fault}
 use Rattle.netlist.specs.Gates.{Netlist, words, and_gates, xor_gates}
 use Rattle.netlist.specs.Lists.{plain, reduced as reduced_list, common}
@@ -57,7 +57,7 @@ pub record Inverts (m : ℕ) (table a old : List ℕ) : Type 0 where
   pub value : product m table (inverse_into m table a old) a ≡ ones (bytes_for m) m
 
 -- the gates that a list holds, and those that its counts report
-pub record HasGates (list : Netlist) (reported : Result Counts Fault) (ands xors : ℕ) : Type 0 where
+pub record HasGates (list : Netlist) (reported : Result GateCounts Fault) (ands xors : ℕ) : Type 0 where
   pub holds_ands : and_gates list.gates ≡ ands
   pub holds_xors : xor_gates list.gates ≡ xors
   pub reports : reported ≡ counted_as ands xors

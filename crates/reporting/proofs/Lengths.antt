@@ -1,4 +1,5 @@
 -- The length of a report: each of its numbers has nine digits at most, so that 128 bytes are enough.
+use Rattle.std.specs.Prelude.{Ok, is_ok}
 use mathlib.Core.Path.{◌≡◌, refl, ap, ◌∙◌}
 use mathlib.Core.Bool.{Bool, true, false, not}
 use mathlib.Core.List.{List, [], ◌∷◌}
@@ -10,15 +11,15 @@ use borrow.Author.Tests.{lt-ltb, ltb-true, not-false}
 use Rattle.gf2.specs.Operands.{choose}
 use Rattle.gf2.specs.Tables.{ones_in}
 use Rattle.judging.specs.declared.fault.Fault.{Fault}
-use Rattle.judging.specs.declared.fault.Fault.TheVariants.{None, Length}
-use Rattle.judging.specs.Faults.{number_of, is_none}
-use Rattle.judging.specs.Causes.{Cause, fault_of}
+use Rattle.judging.specs.declared.fault.Fault.TheVariants.{Length}
+use Rattle.judging.specs.Faults.{number_of}
+use Rattle.judging.specs.Causes.{Cause, judged}
 use Rattle.judging.specs.FaultTable.{check_causes}
-use Rattle.judging.proofs.CauseLaws.{Each, none_is, number_small, keeps}
+use Rattle.judging.proofs.CauseLaws.{Each, number_small, keeps}
 use Rattle.io.specs.Counts.{IsPrefixLen}
 use Rattle.io.proofs.Counting.{prefix_len_of_le}
 use Rattle.table.specs.Rows.{Shaped}
-use Rattle.table.specs.Judgements.{symmetry_fault, check_fault}
+use Rattle.table.specs.Judgements.{symmetry_verdict, check_verdict}
 use Rattle.table.proofs.Theorems.{acceptance as accepted-table}
 use Rattle.card.specs.Numbers.{Read, refused, got}
 use Rattle.card.specs.Cards.{lent_causes, Table, read_card}
@@ -59,7 +60,7 @@ none-numbered : Numbered None
 none-numbered = omega arith
 
 -- that of any list of causes
-causes-numbered : (cs : List Cause) → Numbered (fault_of cs)
+causes-numbered : (cs : List Cause) → Numbered (judged cs)
 causes-numbered cs = keeps Numbered none-numbered cs (each cs)
   where
     each : (ds : List Cause) → Each Numbered none-numbered ds
@@ -85,7 +86,7 @@ choose-small false x h = omega arith
 
 counts-length : (word : List ℕ) (f : Fault) (a x : ℕ) → a < great → x < great → length (counts_line word (answer f a x)) ≤ length word + 21
 unfolding counts_line answer
-counts-length word f a x h k = line-two word _ _ (choose-small (is_none f) a h) (choose-small (is_none f) x k)
+counts-length word f a x h k = line-two word _ _ (choose-small (is_ok f) a h) (choose-small (is_ok f) x k)
 
 -- the numbers of a table that is accepted
 module _ (m : ℕ) (table : List ℕ) (shaped : Shaped m table) where
@@ -93,12 +94,12 @@ module _ (m : ℕ) (table : List ℕ) (shaped : Shaped m table) where
   few_ones = omega (arith, ones-most m table, width-square m m shaped.greatest shaped.greatest)
 
   counts-short : (word : List ℕ) (list : Netlist) → Sized m list → length (counts_line word (counts_call m table list)) ≤ length word + 21
-  counts-short word list s = counts-length word (symmetry_fault m table) _ _ (omega (arith, both)) (omega (arith, both))
+  counts-short word list s = counts-length word (symmetry_verdict m table) _ _ (omega (arith, both)) (omega (arith, both))
     where
       both : and_gates list.gates + xor_gates list.gates < great
       both = omega (arith, counts-most m list shaped.greatest s)
 
-  acceptance-length : check_fault m table ≡ None → length (acceptance m table) ≤ 90
+  acceptance-length : check_verdict m table ≡ Ok tt → length (acceptance m table) ≤ 90
   unfolding acceptance line spaced
   acceptance-length e =
       let lists = theorem_lists m table shaped.least shaped.is_table ((accepted-table m table).0 e).1.symmetric in
@@ -109,12 +110,12 @@ module _ (m : ℕ) (table : List ℕ) (shaped : Shaped m table) where
         counts-short (ascii "common") (common m table) lists.of_common.sized,
       ))
 
-  verdict-length : length (choose (is_none (check_fault m table)) (acceptance m table) (refusal (check_fault m table))) ≤ 90
-  verdict-length = go (is_none (check_fault m table)) refl
+  verdict-length : length (choose (is_ok (check_verdict m table)) (acceptance m table) (refusal (check_verdict m table))) ≤ 90
+  verdict-length = go (is_ok (check_verdict m table)) refl
     where
-      go : (b : Bool) → is_none (check_fault m table) ≡ b → length (choose b (acceptance m table) (refusal (check_fault m table))) ≤ 90
+      go : (b : Bool) → is_ok (check_verdict m table) ≡ b → length (choose b (acceptance m table) (refusal (check_verdict m table))) ≤ 90
       go true e = acceptance-length (none_is (check_causes m table) e)
-      go false e = omega (arith, refusal-length (check_fault m table) (causes-numbered (check_causes m table)))
+      go false e = omega (arith, refusal-length (check_verdict m table) (causes-numbered (check_causes m table)))
 
   table-length : length (table_report m table) ≤ room
   unfolding table_report

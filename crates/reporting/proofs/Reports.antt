@@ -1,4 +1,5 @@
 -- Laws of the report: which of its parts the code puts one after the other, and what it has read of a card.
+use Rattle.std.specs.Prelude.{is_ok}
 use mathlib.Core.Path.{◌≡◌, refl, sym, ap, ap₂, ◌∙◌}
 use mathlib.Core.Bool.{true, false, true≢false}
 use mathlib.Core.List.{List, [], ◌∷◌, ◌++◌}
@@ -11,10 +12,8 @@ use Rattle.gf2.specs.Operands.{bytes_for}
 use Rattle.gf2.specs.Tables.{ones_in}
 use Rattle.judging.specs.declared.fault.Fault.{Fault}
 use Rattle.judging.specs.declared.fault.Fault.TheVariants.{Length}
-use Rattle.judging.specs.Faults.{is_none}
-use Rattle.judging.proofs.CauseLaws.{none_true}
 use Rattle.table.specs.Rows.{Shaped}
-use Rattle.table.specs.Judgements.{check_fault}
+use Rattle.table.specs.Judgements.{check_verdict}
 use Rattle.card.specs.declared.CardAnswer.{CardAnswer}
 use Rattle.card.specs.Numbers.{Read, refused, got}
 use Rattle.card.specs.Cards.{Table, read_card}
@@ -47,11 +46,11 @@ module _ (m : ℕ) (table : List ℕ) where
   abbrev pub head : Text
   head = appended (appended (text_of []) (line (ascii "width") (m ∷ []))) (line (ascii "ones") (ones_in m table ∷ []))
 
-  pub table-accepted : is_none (check_fault m table) ≡ true → appended head (acceptance m table) ≡ appended (text_of []) (table_report m table)
+  pub table-accepted : is_ok (check_verdict m table) ≡ true → appended head (acceptance m table) ≡ appended (text_of []) (table_report m table)
   unfolding table_report
   table-accepted e = rw e (three _ _ _ _)
 
-  pub table-refused : is_none (check_fault m table) ≡ false → appended head (refusal (check_fault m table)) ≡ appended (text_of []) (table_report m table)
+  pub table-refused : is_ok (check_verdict m table) ≡ false → appended head (refusal (check_verdict m table)) ≡ appended (text_of []) (table_report m table)
   unfolding table_report
   table-refused e = rw e (three _ _ _ _)
 
@@ -89,13 +88,13 @@ module _ (s : List ℕ) (short : length s ≤ input_limit) where
   found-report : (x : Read Table) → read_card lent s ≡ x → report s ≡ read_report x
   found-report x q = short-report s short ∙ ap read_report q
 
-  pub refused-report : {f : Fault} → f ≡ (read_call s old).fault → is_none f ≡ false → refusal f ≡ report s
+  pub refused-report : {f : Fault} → f ≡ (read_call s old).fault → is_ok f ≡ false → refusal f ≡ report s
   refused-report {f} e n = ap refusal e ∙ go (read_card lent s) refl
     where
       go : (x : Read Table) → read_card lent s ≡ x → refusal (read_call s old).fault ≡ report s
       go (refused g) q = ap (λ (a : CardAnswer). refusal a.fault) (found-answer (refused g) q) ∙ sym (found-report (refused g) q)
       go (got t rest) q =
-          absurd (true≢false (sym (none_true (ap (λ (a : CardAnswer). a.fault) (found-answer (got t rest) q))) ∙ ap is_none (sym e) ∙ n))
+          absurd (true≢false (sym (none_true (ap (λ (a : CardAnswer). a.fault) (found-answer (got t rest) q))) ∙ ap is_ok (sym e) ∙ n))
 
   table_of : (t : Table) (rest : List ℕ) → Bytes s → read_card lent s ≡ got t rest → {m : ℕ} {new : List ℕ} → m ≡ t.width → new ≡ in_front t.bytes old → TableRead s m new
   table_of t rest small q {m} {new} w n =
@@ -110,8 +109,8 @@ module _ (s : List ℕ) (short : length s ≤ input_limit) where
         reported = ap₂ table_report w b ∙ sym (found-report (got t rest) q);
       }
 
-  pub table-read : {a : CardAnswer} {new : List ℕ} → Bytes s → a ≡ read_call s old → new ≡ read_table s old → is_none a.fault ≡ true → TableRead s a.value new
+  pub table-read : {a : CardAnswer} {new : List ℕ} → Bytes s → a ≡ read_call s old → new ≡ read_table s old → is_ok a.fault ≡ true → TableRead s a.value new
   table-read {a} {new} small e n none =
-      let fault = read_none s old (ap (λ (a : CardAnswer). is_none a.fault) (sym e) ∙ none) in
+      let fault = read_none s old (ap (λ (a : CardAnswer). is_ok a.fault) (sym e) ∙ none) in
       let (t, rest, q) = found lent s (sym (ap (λ (a : CardAnswer). a.fault) (found-answer (read_card lent s) refl)) ∙ fault) in
       table_of t rest small q (ap (λ (a : CardAnswer). a.value) (e ∙ found-answer (got t rest) q)) (n ∙ ap (λ k. read_into (read_card k s) old) room ∙ ap (λ x. read_into x old) q)

@@ -9,7 +9,7 @@ use Rattle.judging.specs.Causes.{Verdict}
 use Rattle.table.specs.Judgements.{check_verdict}
 use Rattle.card.specs.Numbers.{Read, refused, got}
 use Rattle.card.specs.Cards.{Table, read_card}
-use Rattle.netlist.specs.declared.Counts.{Counts}
+use Rattle.netlist.specs.declared.GateCounts.{GateCounts}
 use Rattle.netlist.specs.Calls.{counts_of}
 use Rattle.netlist.specs.Lists.{plain, reduced, common}
 use Rattle.reporting.specs.Text.{ascii, line}
@@ -27,7 +27,7 @@ unfoldable pub refusal : Fault → List ℕ
 refusal f = line (ascii "refused") ((number_of f).0 ∷ [])
 
 -- "AND then XOR counts"
-unfoldable pub counts_line : List ℕ → Counts → List ℕ
+unfoldable pub counts_line : List ℕ → GateCounts → List ℕ
 counts_line word counts = line word (counts.ands.0 ∷ counts.xors.0 ∷ [])
 
 -- "`accepted`, `plain 4 4`, `reduced 4 3`, `common 4 3`, a line each"

@@ -8,7 +8,7 @@ ghost use Rattle.reporting.specs.Report.{refusal, counts_line, table_report, rep
 
 use crate::text::Text;
 use judging::Fault;
-use netlist::{AllCounts, Counts};
+use netlist::{AllCounts, GateCounts};
 
 // Document 01's limit. A card of a table whose row 0 is right is shorter: docs/DECISIONS.md.
 pub const INPUT_LIMIT: usize = 65536;
@@ -22,7 +22,7 @@ fn refused(text: Text, fault: Fault) -> Text
     text.append_line(b"refused", fault.number().0)
 }
 
-fn counts(text: Text, word: &[u8], counts: Counts) -> Text
+fn counts(text: Text, word: &[u8], counts: GateCounts) -> Text
     ensures { result ≡ appended text (counts_line word.now counts) }
 {
     text.append_pair(word, counts.ands.0, counts.xors.0)

@@ -1,4 +1,5 @@
 -- The words of a list: they are read back as the list, and those of a sound one are given no fault.
+use Rattle.std.specs.Prelude.{Ok}
 use mathlib.Core.Path.{◌≡◌, refl, sym, ap, ap₂, ◌∙◌, fun_ext}
 use mathlib.Core.Bool.{true}
 use mathlib.Core.List.{List, [], ◌∷◌, ◌++◌, append_assoc, append-nil}
@@ -13,8 +14,7 @@ use Rattle.gf2.specs.Operands.{bytes_for, carried_bytes, IsOperand}
 use Rattle.gf2.proofs.Sums.{every_of}
 use Rattle.gf2.proofs.Coordinates.{length-tabulate, get_d_tabulate}
 use Rattle.operand.specs.declared.Operand.{Operand}
-use Rattle.judging.specs.declared.fault.Fault.TheVariants.{None}
-use Rattle.judging.specs.Causes.{fault_of}
+use Rattle.judging.specs.Causes.{judged}
 use Rattle.judging.specs.FaultTable.{bad_width, not_w}
 use Rattle.judging.proofs.CauseLaws.{Fine, none-given}
 use Rattle.judging.proofs.Searches.{fine-append}
@@ -139,14 +139,14 @@ module _ (m : ℕ) (list : Netlist) where
         (le-ltb (length W) 2 (omega (arith, size-words m list sound.size)), (length-passes (get_or W 0 0) m (unfold words in refl), (all, (lent, bits))))
 
     module _ (w : IsWidth m) where
-      carried-good : (a b : Operand) → a.width ≡ m → b.width ≡ m → IsOperand carried_bytes m a.bytes → IsOperand carried_bytes m b.bytes → fault_of (run_causes m W a b (bytes_for m) (2 * m + g)) ≡ None
+      carried-good : (a b : Operand) → a.width ≡ m → b.width ≡ m → IsOperand carried_bytes m a.bytes → IsOperand carried_bytes m b.bytes → judged (run_causes m W a b (bytes_for m) (2 * m + g)) ≡ Ok tt
       carried-good a b wa wb oa ob =
           let lengths : Fine (length_causes a.width m b.width m (bytes_for m) (bytes_for m)) = (length-passes a.width m wa, (length-passes b.width m wb, (length-passes (bytes_for m) (bytes_for m) refl, tt))) in
           none-given (run_causes m W a b (bytes_for m) (2 * m + g))
           (fine-append (carried_causes m a b (bytes_for m)) (list_causes m W a.bytes b.bytes (2 * m + g))
           (width-passes m w, (rw wa (width-passes m w), (rw wb (width-passes m w), lengths))) (list-good a.bytes b.bytes oa ob refl))
 
-      bytes_good : (a b old lent : List ℕ) → IsOperand (bytes_for m) m a → IsOperand (bytes_for m) m b → length old ≡ bytes_for m → length lent ≡ 2 * m + g → fault_of (run_bytes_causes m W a b old lent) ≡ None
+      bytes_good : (a b old lent : List ℕ) → IsOperand (bytes_for m) m a → IsOperand (bytes_for m) m b → length old ≡ bytes_for m → length lent ≡ 2 * m + g → judged (run_bytes_causes m W a b old lent) ≡ Ok tt
       bytes_good a b old lent oa ob room size =
           let lengths : Fine (not_w m a ∷ not_w m b ∷ not_w m old ∷ []) = (length-passes (length a) (bytes_for m) oa.size, (length-passes (length b) (bytes_for m) ob.size, (length-passes (length old) (bytes_for m) room, tt))) in
           none-given (run_bytes_causes m W a b old lent)

@@ -70,7 +70,7 @@ pub fn run_bytes(
         × (res.new ≡ run_bytes_result result width list.now a.now b.now res.old)
         × (wires.new ≡ run_bytes_wires result width list.now a.now b.now wires.old) }
 {
-    judging::judge_pair_sizes(width, a.len(), b.len(), res.len())?;
+    judging::judge_sizes(width, &[a.len(), b.len(), res.len()])?;
     run_sized(
         width,
         list,

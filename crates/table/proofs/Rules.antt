@@ -1,6 +1,7 @@
 -- Rules 5 and 6 of the check: the causes of one row and of one pair, and their tests.
 -- symmetric-rows: rules 4 and 5 say what each row is made of, so that no element of a row is above a byte.
 -- mirror-back, half-search: rule 5 for row d is that for row m-d, so that half of the rows are enough.
+use Rattle.std.specs.Prelude.{Ok}
 use mathlib.Core.Path.{◌≡◌, refl, sym, ap, ◌∙◌}
 use mathlib.Core.Bool.{Bool, true, not}
 use mathlib.Core.List.{List, [], ◌∷◌}
@@ -14,8 +15,7 @@ use Rattle.gf2.proofs.Vector.{turn, turn-turn, turn-z}
 use Rattle.gf2.proofs.OperandVectors.{bytes_fit, vec, bytes, operand-vec, turned-bytes}
 use Rattle.gf2.proofs.Operands.{turned-operand}
 use Rattle.gf2.proofs.Decisions.{same-decides}
-use Rattle.judging.specs.declared.fault.Fault.TheVariants.{None}
-use Rattle.judging.specs.Causes.{Cause, fault_of, from}
+use Rattle.judging.specs.Causes.{Cause, judged, from}
 use Rattle.judging.specs.FaultTable.{rows_differ, triple_differs}
 use Rattle.judging.proofs.CauseLaws.{none-given}
 use Rattle.judging.proofs.Searches.{up_to, fine-from}
@@ -70,6 +70,6 @@ mirror-back {m = suc p} {t} s d l h e =
 pub record MirrorsTo (m : ℕ) (t : List ℕ) (d : ℕ) : Type 0 where
   pub at : (k : ℕ) → 1 ≤ k → k < d → mirrors m t k ≡ true
 
-pub half-search : {m : ℕ} {t : List ℕ} → Shaped m t → (d : ℕ) → m < d + d → MirrorsTo m t d → fault_of (up_to (mirror_causes m t) m d) ≡ None
+pub half-search : {m : ℕ} {t : List ℕ} → Shaped m t → (d : ℕ) → m < d + d → MirrorsTo m t d → judged (up_to (mirror_causes m t) m d) ≡ Ok tt
 half-search {m} {t} s d h passed = none-given (up_to (mirror_causes m t) m d) (fine-from (mirror_causes m t) d (m - d) (λ k l q.
     (mirror-test m t k (mirror-back s k (omega arith) (omega arith) (passed.at (m - k) (omega arith) (omega arith))), tt)))

@@ -1,6 +1,7 @@
 -- Tables without fault of shape: their rows, as they lie in the table and carried.
 -- shape-none, shape-rows, shaped, shape-fine: no fault of shape is given exactly where a table whose rows are bytes is shaped.
 -- row-bytes: the rows of a list of bytes are bytes.
+use Rattle.std.specs.Prelude.{Ok, is_ok}
 use mathlib.Core.Path.{◌≡◌, refl, sym, ap, ◌∙◌}
 use mathlib.Core.Logic.{◌↔◌}
 use mathlib.Core.Bool.{Bool, true, false, not, true≢false}
@@ -20,18 +21,17 @@ use Rattle.gf2.proofs.Parity.{bool-ext}
 use Rattle.gf2.proofs.Sums.{every-at, every_of}
 use Rattle.gf2.proofs.Coordinates.{coord-past, coord-digit, value-eq}
 use Rattle.gf2.proofs.Operands.{clear_at, clear_of}
-use Rattle.judging.specs.declared.fault.Fault.TheVariants.{None, HighBit}
-use Rattle.judging.specs.Faults.{is_none}
-use Rattle.judging.specs.Causes.{Cause, fault_of}
+use Rattle.judging.specs.declared.fault.Fault.TheVariants.{HighBit}
+use Rattle.judging.specs.Causes.{Cause, judged}
 use Rattle.judging.specs.FaultTable.{bad_width, not_table, high_bit_in_row, shape_causes}
-use Rattle.judging.proofs.CauseLaws.{Fine, fine, none_true, none-given, head-holds}
+use Rattle.judging.proofs.CauseLaws.{Fine, fine, none-given, head-holds}
 use Rattle.judging.proofs.Passed.{IsWidth, is-width, width-passes, as-laid-down, length-passes, are-clear, rows_pass}
 use Rattle.limbs.proofs.ByteLists.{Bytes}
 use Rattle.limbs.proofs.LimbLoops.{ored, ored-at, ored-of, ored-shr}
 use Rattle.gf2.proofs.Carrying.{carried-operand}
 use Rattle.table.specs.Rows.{Shaped}
 use Rattle.table.specs.Inner.{carried_row}
-use Rattle.table.specs.Judgements.{shape_fault}
+use Rattle.table.specs.Judgements.{shape_verdict}
 
 -- 1 and 2 of a table
 abbrev pub size_causes : ℕ → List ℕ → List Cause
@@ -43,7 +43,7 @@ pub record Sized (m size : ℕ) : Type 0 where
   pub greatest : m ≤ max_width
   pub exact : size ≡ m * bytes_for m
 
-pub size-fine : (m : ℕ) (t : List ℕ) → is_none (fault_of (size_causes m t)) ≡ true → Sized m (length t)
+pub size-fine : (m : ℕ) (t : List ℕ) → is_ok (judged (size_causes m t)) ≡ true → Sized m (length t)
 size-fine m t e =
     let p = fine (size_causes m t) e in
     let w = is-width m p.0 in
@@ -102,7 +102,7 @@ module _ (m : ℕ) (t : List ℕ) where
   abbrev pub clear_row : ℕ → Bool
   clear_row d = is_clear m (row m t d)
 
-  pub rows-done : every m clear_row ≡ true → fault_of (high_bit_in_row m t ∷ []) ≡ None
+  pub rows-done : every m clear_row ≡ true → judged (high_bit_in_row m t ∷ []) ≡ Ok tt
   rows-done e = none-given (high_bit_in_row m t ∷ []) (rows_pass m t e, tt)
 
 -- the bits at m and above of m/8 bytes, rounded up
@@ -141,11 +141,11 @@ module _ (m : ℕ) (t : List ℕ) (size : length t ≡ m * bytes_for m) (part : 
   last_row d l = ap (λ y. y / 2 ^ (m % 8)) (row-get_or m d t size l (m / 8) (omega arith))
 
   -- the last bytes together tell whether some row has a bit at m or above
-  pub ends-clear : ored m (last_byte m t) / 2 ^ (m % 8) ≡ 0 → fault_of (high_bit_in_row m t ∷ []) ≡ None
+  pub ends-clear : ored m (last_byte m t) / 2 ^ (m % 8) ≡ 0 → judged (high_bit_in_row m t ∷ []) ≡ Ok tt
   ends-clear e = rows-done m t (every_of m (clear_row m t) (λ d l.
       clear-end m (row m t d) (row-length m d t size l) (last_row d l ∙ ored-at m _ (sym (ored-shr m (last_byte m t) (m % 8)) ∙ e) d l)))
 
-  pub ends-broken : Bytes t → (ored m (last_byte m t) / 2 ^ (m % 8) ≡ 0 → ⊥) → fault_of (high_bit_in_row m t ∷ []) ≡ HighBit
+  pub ends-broken : Bytes t → (ored m (last_byte m t) / 2 ^ (m % 8) ≡ 0 → ⊥) → judged (high_bit_in_row m t ∷ []) ≡ HighBit
   ends-broken small n = head-holds (high_bit_in_row m t) [] (ap not (bool-ext (every m (clear_row m t)) false (λ e. absurd (n (each e))) (λ e. absurd (true≢false (sym e)))))
     where
       each : every m (clear_row m t) ≡ true → ored m (last_byte m t) / 2 ^ (m % 8) ≡ 0
@@ -159,7 +159,7 @@ module _ {m : ℕ} {t : List ℕ} where
     (length-passes _ _ s.is_table.size, (rows_pass m t (every_of m _ (λ d l. clear_of m _ (s.is_table.rows d l).clear)), tt)),
   )
 
-  pub shape-none : Shaped m t → shape_fault m t ≡ None
+  pub shape-none : Shaped m t → shape_verdict m t ≡ Ok tt
   shape-none s = none-given (shape_causes m t) (shape-passes s)
 
   pub shape-rows : ((d : ℕ) → d < m → Bytes (row m t d)) → Fine (shape_causes m t) → Shaped m t
@@ -177,8 +177,8 @@ module _ {m : ℕ} {t : List ℕ} where
       }
 
   -- what judging the shape has shown
-  pub shaped : Bytes t → is_none (shape_fault m t) ≡ true → Shaped m t
+  pub shaped : Bytes t → is_ok (shape_verdict m t) ≡ true → Shaped m t
   shaped small e = shape-rows (λ d l. row-bytes m d t small) (fine (shape_causes m t) e)
 
-pub shape-fine : (m : ℕ) (t : List ℕ) → Bytes t → (shape_fault m t ≡ None) ↔ Shaped m t
+pub shape-fine : (m : ℕ) (t : List ℕ) → Bytes t → (shape_verdict m t ≡ Ok tt) ↔ Shaped m t
 shape-fine m t small = (λ e. shaped small (none_true e), shape-none)

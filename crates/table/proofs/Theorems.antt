@@ -1,5 +1,6 @@
 -- The proofs of Statements.
 -- shape, symmetry, acceptance, fields, same_set_lem, first-triples, carried-pass. first_passes: rule 6 for i = 0 is enough.
+use Rattle.std.specs.Prelude.{Ok, is_ok}
 use mathlib.Core.Path.{◌≡◌, refl, sym, ap, ◌∙◌}
 use mathlib.Core.Logic.{◌↔◌}
 use mathlib.Core.Bool.{Bool, true, false}
@@ -16,9 +17,9 @@ use Rattle.gf2.proofs.Decisions.{same-decides}
 use Rattle.gf2.proofs.Theorems.{theorem_a, theorem_f, theorem_i}
 use Rattle.gf2.proofs.CarriedTables.{carried-tables}
 use Rattle.judging.specs.declared.fault.Fault.{Fault}
-use Rattle.judging.specs.declared.fault.Fault.TheVariants.{None, Width, Length, HighBit, RowZero, RowPair, Triple}
-use Rattle.judging.specs.Faults.{number_of, is_none}
-use Rattle.judging.specs.Causes.{fault_of}
+use Rattle.judging.specs.declared.fault.Fault.TheVariants.{Width, Length, HighBit, RowZero, RowPair, Triple}
+use Rattle.judging.specs.Faults.{number_of}
+use Rattle.judging.specs.Causes.{judged}
 use Rattle.judging.specs.FaultTable.{shape_causes, row_pair_causes, rule_causes, symmetry_causes, triple_causes, check_causes}
 use Rattle.judging.proofs.CauseLaws.{Fine, fine, none-given, none-fine, keeps, keeps-both}
 use Rattle.judging.proofs.Searches.{fine-append, fine-parts, fine-from, fine-at, up_start, found_here, each_from}
@@ -26,7 +27,7 @@ use Rattle.judging.proofs.Passed.{are-same, same-passes}
 use Rattle.table.specs.Carried.{carried2, carried3, carried4, carried5}
 use Rattle.table.specs.Rows.{Shaped}
 use Rattle.table.specs.Inner.{left_product, right_product, associates}
-use Rattle.table.specs.Judgements.{triple_fault, symmetry_fault, check_fault}
+use Rattle.table.specs.Judgements.{triple_verdict, symmetry_verdict, check_verdict}
 use Rattle.table.specs.Statements.{Shape, Symmetry, Acceptance, Fields, SameSet, FirstTriples, CarriedPass}
 use Rattle.table.proofs.Shapes.{shape-passes, shape-rows, shape-fine}
 use Rattle.table.proofs.Rules.{symmetric-rows, mirror_causes, pair_causes, row_causes}
@@ -95,10 +96,10 @@ same_set_lem m t = (
 
 -- rule 6 for i = 0 is enough
 module _ (m : ℕ) (t : List ℕ) (s : Shaped m t) (y : Symmetric m t) where
-  first-enough : ((j : ℕ) → j < m → Rule6 m t 0 j) → triple_fault m t ≡ None
+  first-enough : ((j : ℕ) → j < m → Rule6 m t 0 j) → triple_verdict m t ≡ Ok tt
   first-enough h = none-given (triple_causes m t) ((rule6 m t).1 (theorem_f m t s.least s.is_table y h))
 
-  pub first_passes : every m (associates m t 0) ≡ true → triple_fault m t ≡ None
+  pub first_passes : every m (associates m t 0) ≡ true → triple_verdict m t ≡ Ok tt
   unfolding associates left_product right_product
   first_passes e = first-enough (λ j l. (same-decides _ _).0 (every-at m (associates m t 0) e j l))
 
@@ -113,19 +114,19 @@ no-fault : First None
 no-fault = other None (λ e. omega arith)
 
 module _ (m : ℕ) (t : List ℕ) where
-  symmetry-first : First (symmetry_fault m t)
+  symmetry-first : First (symmetry_verdict m t)
   symmetry-first = of-symmetry First no-fault m t (other Width (λ e. omega arith)) (other Length (λ e. omega arith)) (other HighBit (λ e. omega arith))
       (other RowZero (λ e. omega arith)) (λ d l. other (RowPair d) (λ e. omega arith))
 
   -- the first round of the search finds a pair, or there is none
-  triple-first : Shaped m t → Symmetric m t → First (triple_fault m t)
-  triple-first s y = go (is_none (fault_of (row_causes m t 0))) refl
+  triple-first : Shaped m t → Symmetric m t → First (triple_verdict m t)
+  triple-first s y = go (is_ok (judged (row_causes m t 0))) refl
     where
-      go : (b : Bool) → is_none (fault_of (row_causes m t 0)) ≡ b → First (triple_fault m t)
+      go : (b : Bool) → is_ok (judged (row_causes m t 0)) ≡ b → First (triple_verdict m t)
       go true e = rw (first-enough m t s y (λ j l. are-same _ _ (fine-at (pair_causes m t 0) 0 m (fine (row_causes m t 0) e) j (omega arith) (omega arith)).0)) no-fault
       go false e =
           let l = s.least in
-          rw (sym (ap fault_of (up_start (row_causes m t) m)) ∙ found_here (row_causes m t) m 0 (omega arith) e)
+          rw (sym (ap judged (up_start (row_causes m t) m)) ∙ found_here (row_causes m t) m 0 (omega arith) e)
           (keeps First no-fault (row_causes m t 0) (each_from First no-fault (pair_causes m t 0) 0 m (λ j l h. ((λ i k q. cc), λ e. tt))))
 
 pub first-triples : FirstTriples
@@ -140,5 +141,5 @@ carried-pass = record {
   width5 = pass 5 carried5 (lit≤ tt) (lit≤ tt) carried-tables.width5;
 }
   where
-    pass : (m : ℕ) (t : List ℕ) → 2 ≤ m → m ≤ max_width → IsTable m t × Accepted m t → check_fault m t ≡ None
+    pass : (m : ℕ) (t : List ℕ) → 2 ≤ m → m ≤ max_width → IsTable m t × Accepted m t → check_verdict m t ≡ Ok tt
     pass m t least greatest h = (acceptance m t).1 (record { least = least; greatest = greatest; is_table = h.0 }, h.1)

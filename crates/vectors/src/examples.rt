@@ -4,16 +4,17 @@ ghost use Rattle.gf2.specs.Operands.{max_width};
 ghost use Rattle.judging.specs.Faults.{number_of};
 ghost use Rattle.card_writer.specs.Calls.{write_card};
 
-use operand::{Operand, OperandAnswer};
+use judging::Fault;
+use netlist::Method;
+use operand::Operand;
 use std::io;
 
 // The number of an answer's fault, 0 for none.
-fn fault_of(answer: OperandAnswer) -> usize
-    ensures { result ≡ (number_of answer.fault).0 }
-{
-    let fault = answer.fault;
-    let number = judging::number(fault);
-    number.0
+fn number_of<T: Drop>(answer: &Result<T, Fault>) -> usize {
+    match answer {
+        Ok(_) => 0,
+        Err(fault) => fault.number().0,
+    }
 }
 
 // "Widths 1, 572: 1; 2, 571 pass", for zero and one.

@@ -1,7 +1,7 @@
 -- `gaussian::type_of` meets its contract.
 use mathlib.Core.List.{[], ◌∷◌}
 use Rattle.judging.specs.FaultTable.{bad_width}
-use Rattle.judging.proofs.CauseLaws.{fine, judged}
+use Rattle.judging.proofs.CauseLaws.{fine}
 use Rattle.judging.proofs.Passed.{is-width}
 use Rattle.gaussian.specs.Causes.{type_zero}
 use Rattle.gaussian.proofs.Answers.{answer-ends, answer-follows}

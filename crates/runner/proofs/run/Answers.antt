@@ -2,7 +2,7 @@
 use mathlib.Core.Path.{sym, ◌∙◌}
 use mathlib.Core.List.{[]}
 use lib.ListN.{length}
-use Rattle.judging.proofs.CauseLaws.{fine, judged, ends, follows}
+use Rattle.judging.proofs.CauseLaws.{fine, ends, follows}
 use Rattle.judging.proofs.Passed.{is-width, as-laid-down}
 use Rattle.runner.specs.Inner.{carried_causes, list_causes}
 use Rattle.runner.proofs.RunLaws.{kept_result, kept-wires}

@@ -3,7 +3,7 @@ use mathlib.Core.Path.{sym, ◌∙◌}
 use mathlib.Core.List.{[], ◌∷◌}
 use lib.ListN.{length}
 use Rattle.judging.specs.FaultTable.{bad_width, not_w}
-use Rattle.judging.proofs.CauseLaws.{judged, ends, follows}
+use Rattle.judging.proofs.CauseLaws.{ends, follows}
 use Rattle.operand.proofs.CallLaws.{SizedPair, sized-pair}
 use Rattle.runner.specs.Inner.{list_causes}
 use Rattle.runner.proofs.JudgeLaws.{list-carried}

@@ -3,7 +3,6 @@ use mathlib.Core.Path.{sym, ◌∙◌}
 use mathlib.Core.List.{[]}
 use native.Mathlib.Omega.{arith}
 use lib.ListN.{length}
-use Rattle.judging.proofs.CauseLaws.{judged}
 use Rattle.runner.specs.Inner.{list_causes}
 use Rattle.runner.proofs.JudgeLaws.{FineList, list-fine}
 use Rattle.runner.proofs.RunLaws.{kept_result, kept-wires, ran-wires, ran-result}

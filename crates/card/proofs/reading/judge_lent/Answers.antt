@@ -6,7 +6,7 @@ use native.Mathlib.Omega.{arith}
 use borrow.Author.Tests.{lt-ltb}
 use Rattle.gf2.specs.Operands.{bytes_for}
 use Rattle.judging.specs.FaultTable.{bad_width, too_short}
-use Rattle.judging.proofs.CauseLaws.{fine, head-holds, none-given, judged, ends, follows}
+use Rattle.judging.proofs.CauseLaws.{fine, head-holds, none-given, ends, follows}
 use Rattle.judging.proofs.Passed.{is-width, size_small, room-passes}
 use Rattle.card.proofs.reading.judge_lent.Goals as goal
 

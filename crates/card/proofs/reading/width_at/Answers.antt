@@ -1,7 +1,6 @@
 -- `card::reading::width_at` meets its contract.
 use mathlib.Core.Path.{ap, ◌∙◌}
 use mathlib.Core.List.{[]}
-use Rattle.judging.proofs.CauseLaws.{judged}
 use Rattle.card.specs.Numbers.{refused}
 use Rattle.card.specs.Cards.{lent_causes}
 use Rattle.card.proofs.ReadSteps.{got_of, refused-of, width-refused, width_some, width-fault}

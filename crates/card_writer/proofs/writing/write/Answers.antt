@@ -1,7 +1,6 @@
 -- `card_writer::writing::write` meets its contract.
 use mathlib.Core.List.{[]}
 use Rattle.judging.specs.FaultTable.{shape_causes}
-use Rattle.judging.proofs.CauseLaws.{judged}
 use Rattle.card_writer.specs.Inner.{Writable}
 use Rattle.card_writer.proofs.WriteSteps.{shape-writable, wrote-shape, wrote-short, wrote-card}
 use native.Mathlib.Omega.{arith}

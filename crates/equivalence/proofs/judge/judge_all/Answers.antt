@@ -1,7 +1,7 @@
 -- `equivalence::judge::judge_all` meets its contract.
 use mathlib.Core.List.{[], ◌++◌}
 use borrow.Author.Tests.{ltb-false}
-use Rattle.judging.proofs.CauseLaws.{Fine, fine, judged, ends, follows}
+use Rattle.judging.proofs.CauseLaws.{Fine, fine, ends, follows}
 use Rattle.judging.proofs.Passed.{is-width}
 use Rattle.equivalence.specs.Causes.{most_width, size_causes, table_causes, limit_causes, gate_causes, output_causes}
 use Rattle.equivalence.proofs.AcceptLaws.{list-ready, table-shaped}

@@ -4,7 +4,7 @@ use mathlib.Core.Bool.{Bool, true, false}
 use mathlib.Core.List.{[], ◌∷◌}
 use native.Mathlib.Omega.{arith}
 use Rattle.gf2.specs.Sums.{every}
-use Rattle.judging.specs.Causes.{fault_of}
+use Rattle.judging.specs.Causes.{judged}
 use Rattle.judging.specs.FaultTable.{bad_width}
 use Rattle.judging.proofs.CauseLaws.{ends, follows, head-holds, head-fails, none-given}
 use Rattle.judging.proofs.Passed.{width-passes}
@@ -16,7 +16,7 @@ use Rattle.equivalence.proofs.judge.judge_gates.Goals as goal
 use Rattle.equivalence.proofs.judge.judge_gates.Goals.{After-are_formed, After-is_none}
 
 -- the fault of the wires: the width has passed
-wired : (c : After-is_none) → let a = c.args in c.judge_gates-wired.result ≡ fault_of (bad_gates a.width a.list.now ∷ [])
+wired : (c : After-is_none) → let a = c.args in c.judge_gates-wired.result ≡ judged (bad_gates a.width a.list.now ∷ [])
 wired c =
     let a = c.args in
     let p = c.requires in

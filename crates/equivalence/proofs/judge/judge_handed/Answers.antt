@@ -2,7 +2,7 @@
 use mathlib.Core.Path.{◌∙◌}
 use mathlib.Core.List.{[], ◌∷◌}
 use Rattle.judging.specs.FaultTable.{bad_width, not_table}
-use Rattle.judging.proofs.CauseLaws.{fine, judged, ends, follows, head-fails}
+use Rattle.judging.proofs.CauseLaws.{fine, ends, follows, head-fails}
 use Rattle.equivalence.specs.Causes.{size_causes, table_causes}
 use Rattle.equivalence.proofs.judge.judge_handed.Goals as goal
 

@@ -2,13 +2,13 @@
 use mathlib.Core.Path.{sym, ap, ◌∙◌}
 use mathlib.Core.Bool.{not}
 use native.Mathlib.Omega.{arith}
-use Rattle.judging.specs.Causes.{fault_of}
+use Rattle.judging.specs.Causes.{judged}
 use Rattle.judging.proofs.Searches.{up_start, none_left, one_found, one-fails}
 use Rattle.equivalence.specs.Causes.{wrong_output}
 use Rattle.equivalence.proofs.outputs.judge_outputs.Goals as goal
 
 pub loop-r-init : goal.loop-r-init
-loop-r-init c = (omega arith, ap fault_of (sym (up_start _ _)))
+loop-r-init c = (omega arith, ap judged (sym (up_start _ _)))
 
 pub returns-then-not-is_right : goal.returns-then-not-is_right
 returns-then-not-is_right c =

@@ -2,14 +2,14 @@
 use mathlib.Core.Path.{◌≡◌}
 use mathlib.Core.List.{[], ◌∷◌}
 use Prim.Native.Nat.{◌-◌, ◌≤◌}
-use Rattle.judging.specs.Causes.{fault_of}
+use Rattle.judging.specs.Causes.{judged}
 use Rattle.judging.proofs.Searches.{up_to}
 use Rattle.equivalence.specs.Causes.{wrong_output, output_causes}
 use Rattle.equivalence.proofs.outputs.judge_outputs.Given as goal
 
 abbrev pub invariant-loop-r : goal.invariant-loop-r
 invariant-loop-r l =
-    (l.r ≤ l.width) × (fault_of (output_causes l.width l.table l.list) ≡ fault_of (up_to (λ r'. wrong_output l.width l.table l.list r' ∷ []) l.width l.r))
+    (l.r ≤ l.width) × (judged (output_causes l.width l.table l.list) ≡ judged (up_to (λ r'. wrong_output l.width l.table l.list r' ∷ []) l.width l.r))
 
 abbrev pub decreases-loop-r : goal.decreases-loop-r
 decreases-loop-r l = l.width - l.r

@@ -1,7 +1,7 @@
 -- `operand::Operand::one` meets its contract.
+use Rattle.std.specs.Prelude.{is_ok}
 use mathlib.Core.Path.{sym, ap, ◌∙◌}
 use mathlib.Core.List.{[], ◌∷◌}
-use Rattle.judging.specs.Faults.{is_none}
 use Rattle.judging.specs.FaultTable.{bad_width}
 use Rattle.judging.proofs.CauseLaws.{fine}
 use Rattle.judging.proofs.Passed.{is-width}
@@ -9,7 +9,7 @@ use Rattle.operand.proofs.CallLaws.{answer-same, one-bytes}
 use Rattle.operand.proofs.Operand.one.Goals as goal
 
 pub answered-requires : goal.answered-requires
-answered-requires c = λ e. (is-width _ (fine (bad_width _ ∷ []) (ap is_none (sym c.judge_width.ensures) ∙ e)).0).greatest
+answered-requires c = λ e. (is-width _ (fine (bad_width _ ∷ []) (ap is_ok (sym c.judge_width.ensures) ∙ e)).0).greatest
 
 pub returns : goal.returns
 returns c =

@@ -5,7 +5,7 @@ use mathlib.Core.Path.{refl, ◌∙◌}
 use mathlib.Core.List.{[], ◌∷◌}
 use Rattle.gf2.proofs.Carrying.{HasBytes}
 use Rattle.judging.specs.FaultTable.{high_bit}
-use Rattle.judging.proofs.CauseLaws.{judged, follows}
+use Rattle.judging.proofs.CauseLaws.{follows}
 use Rattle.operand.proofs.CallLaws.{answer-same, ends-refused, one_size, has-size, high-by}
 use Rattle.operand.proofs.Operand.read.Goals as goal
 use Rattle.operand.proofs.Operand.read.Goals.{Else-not-is_none}

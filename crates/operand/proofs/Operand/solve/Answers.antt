@@ -7,7 +7,7 @@ use native.Mathlib.Omega.{arith}
 use lib.ListN.{length}
 use Rattle.gf2.specs.Operands.{carried_bytes}
 use Rattle.judging.specs.FaultTable.{bad_width, high_bit, trace_is_one}
-use Rattle.judging.proofs.CauseLaws.{fine, judged, follows}
+use Rattle.judging.proofs.CauseLaws.{fine, follows}
 use Rattle.judging.proofs.Passed.{IsWidth, is-width}
 use Rattle.operand.proofs.CallLaws.{answer-same, ends-refused, trace-after, root-bytes}
 use borrow.Author.Rules.{rules}

@@ -1,7 +1,7 @@
 -- `operand::Operand::sum` meets its contract.
+use Rattle.std.specs.Prelude.{is_ok}
 use mathlib.Core.Path.{sym, ap, ◌∙◌}
 use Rattle.operand.specs.Causes.{pair_causes}
-use Rattle.judging.specs.Faults.{is_none}
 use Rattle.judging.proofs.CauseLaws.{fine}
 use Rattle.judging.proofs.Passed.{is-width, as-laid-down, is-clear}
 use Rattle.operand.proofs.CallLaws.{answer-same, sum-bytes}
@@ -9,7 +9,7 @@ use borrow.Author.Rules.{rules}
 use Rattle.operand.proofs.Operand.sum.Goals as goal
 
 pub answered-requires : goal.answered-requires
-answered-requires c = λ e. (is-width _ (fine (pair_causes _ _) (ap is_none (sym c.judge_pair.ensures) ∙ e)).0).greatest
+answered-requires c = λ e. (is-width _ (fine (pair_causes _ _) (ap is_ok (sym c.judge_pair.ensures) ∙ e)).0).greatest
 
 pub returns : goal.returns
 returns c =

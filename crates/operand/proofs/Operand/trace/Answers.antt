@@ -1,7 +1,7 @@
 -- `operand::Operand::trace` meets its contract.
 use mathlib.Core.Path.{◌∙◌}
 use mathlib.Core.List.{[]}
-use Rattle.judging.proofs.CauseLaws.{fine, judged}
+use Rattle.judging.proofs.CauseLaws.{fine}
 use Rattle.judging.proofs.Passed.{is-width, is-clear}
 use Rattle.operand.specs.Causes.{operand_causes}
 use Rattle.operand.proofs.CallLaws.{trace-refused, trace-made, trace-bytes}

@@ -8,7 +8,7 @@ use Rattle.judging.specs.declared.fault.Fault.{Fault}
 use Rattle.operand.specs.declared.Operand.{Operand}
 use Rattle.operand.specs.Calls.{write_call}
 use lib.ListN.{length}
-use Rattle.judging.specs.Causes.{fault_of}
+use Rattle.judging.specs.Causes.{judged}
 use Rattle.judging.specs.FaultTable.{high_bit}
 use Rattle.judging.proofs.CauseLaws.{follows}
 use Rattle.operand.specs.Causes.{room_causes}
@@ -18,13 +18,13 @@ use Rattle.operand.proofs.Operand.write.Goals.{After-judge_high-judged}
 
 -- the fault of all causes
 whole : (c : After-judge_high-judged) → let a = c.args in
-    c.judge_high-judged.result ≡ fault_of (room_causes a.self (length a.out.now))
+    c.judge_high-judged.result ≡ judged (room_causes a.self (length a.out.now))
 whole c =
     follows (one_size _ _) (high_bit _ _ ∷ []) c.judge_size-first.ensures c.is_none.ensures c.if-not-is_none.false c.judge_high-judged.ensures
 
 -- the fault and the buffer
 abbrev Both : Operand → Fault → List ℕ → List ℕ → Type 0
-Both a f old new = (f ≡ fault_of (room_causes a (length old))) × (new ≡ write_call a old)
+Both a f old new = (f ≡ judged (room_causes a (length old))) × (new ≡ write_call a old)
 
 pub returns-then-not-is_none : goal.returns-then-not-is_none
 returns-then-not-is_none c =

@@ -4,9 +4,9 @@ use mathlib.Core.Bool.{not}
 use mathlib.Core.Path.{◌≡◌, ◌∙◌}
 use mathlib.Core.List.{[], ◌∷◌}
 use native.Mathlib.Omega.{arith}
-use Rattle.judging.specs.Causes.{fault_of}
+use Rattle.judging.specs.Causes.{judged}
 use Rattle.judging.specs.FaultTable.{high_bit, trace_is_one}
-use Rattle.judging.proofs.CauseLaws.{judged, follows}
+use Rattle.judging.proofs.CauseLaws.{follows}
 use Rattle.operand.specs.Causes.{solve_bytes_causes}
 use Rattle.operand.proofs.CallLaws.{all-kept, all-filled, ends-kept, size_causes, Sized, sized, trace-after, root-out}
 use Rattle.operand.proofs.bytes.solve_into.Goals as goal
@@ -17,7 +17,7 @@ sizes : (c : Else-not-is_none) → let a = c.args in Sized a.width a.c.now a.res
 sizes c = sized _ _ _ (judged (size_causes _ _ _) [] c.judge_sizes-sizes.ensures c.is_none.ensures c.if-not-is_none.false)
 
 whole : (c : After-judge_solve-fault) → let a = c.args in
-    c.judge_solve-fault.result ≡ fault_of (solve_bytes_causes a.width a.c.now a.res.now)
+    c.judge_solve-fault.result ≡ judged (solve_bytes_causes a.width a.c.now a.res.now)
 whole c =
     follows (size_causes _ _ _) (high_bit _ _ ∷ trace_is_one _ _ ∷ []) c.judge_sizes-sizes.ensures c.is_none.ensures c.if-not-is_none.false
     (c.judge_solve-fault.ensures ∙ trace-after _ _ _ (omega (arith, (let a = c.args in let t : Sized a.width a.c.now a.res.now = sized _ _ _ (judged (size_causes _ _ _) [] c.judge_sizes-sizes.ensures c.is_none.ensures c.if-not-is_none.false) in t).operand.size)))

@@ -4,9 +4,9 @@ use mathlib.Core.Bool.{not}
 use mathlib.Core.Path.{◌≡◌}
 use mathlib.Core.List.{[], ◌∷◌}
 use Rattle.judging.specs.declared.fault.Fault.{Fault}
-use Rattle.judging.specs.Causes.{fault_of}
+use Rattle.judging.specs.Causes.{judged}
 use Rattle.judging.specs.FaultTable.{high_bit}
-use Rattle.judging.proofs.CauseLaws.{fine, judged, ends, follows}
+use Rattle.judging.proofs.CauseLaws.{fine, ends, follows}
 use Rattle.judging.proofs.Passed.{is-clear}
 use Rattle.operand.specs.Causes.{sum_bytes_causes}
 use Rattle.operand.proofs.CallLaws.{all-kept, all-filled, ends-kept, pair_sizes, SizedPair, sized-pair, sum-out}
@@ -18,12 +18,12 @@ sizes : (c : Else-not-is_none) → let a = c.args in SizedPair a.width a.a.now a
 sizes c = sized-pair _ _ _ _ (judged (pair_sizes _ _ _ _) [] c.judge_pair_sizes-sizes.ensures c.is_none.ensures c.if-not-is_none.false)
 
 raised : {f : Fault} (s : Else-not-is_none) → let a = s.args in
-    f ≡ fault_of (high_bit a.width a.a.now ∷ high_bit a.width a.b.now ∷ []) → f ≡ fault_of (sum_bytes_causes a.width a.a.now a.b.now a.res.now)
+    f ≡ judged (high_bit a.width a.a.now ∷ high_bit a.width a.b.now ∷ []) → f ≡ judged (sum_bytes_causes a.width a.a.now a.b.now a.res.now)
 raised s e = follows (pair_sizes _ _ _ _) (high_bit _ _ ∷ high_bit _ _ ∷ []) s.judge_pair_sizes-sizes.ensures s.is_none.ensures s.if-not-is_none.false e
 
 -- both operands are judged
 both : (c : After-judge_high_of-fault) → let a = c.args in
-    c.judge_high_of-fault.result ≡ fault_of (high_bit a.width a.a.now ∷ high_bit a.width a.b.now ∷ [])
+    c.judge_high_of-fault.result ≡ judged (high_bit a.width a.a.now ∷ high_bit a.width a.b.now ∷ [])
 both c =
     follows (high_bit _ _ ∷ []) (high_bit _ _ ∷ []) c.judge_high_of-left.ensures c.is_none-2.ensures c.if-not-is_none-2.false c.judge_high_of-fault.ensures
 

@@ -3,9 +3,9 @@ use mathlib.Core.Path.{◌≡◌, ◌∙◌}
 use mathlib.Core.List.{[], ◌∷◌}
 use native.Mathlib.Omega.{arith}
 use Rattle.gf2.proofs.Carrying.{HasBytes}
-use Rattle.judging.specs.Causes.{fault_of}
+use Rattle.judging.specs.Causes.{judged}
 use Rattle.judging.specs.FaultTable.{high_bit}
-use Rattle.judging.proofs.CauseLaws.{fine, judged, ends, ends_some, follows}
+use Rattle.judging.proofs.CauseLaws.{fine, ends, follows}
 use Rattle.judging.proofs.Passed.{is-clear}
 use Rattle.operand.specs.Causes.{bytes_causes}
 use Rattle.operand.proofs.CallLaws.{trace-refused, trace-made, one_size, has-size, trace-bytes}
@@ -16,7 +16,7 @@ use Rattle.operand.proofs.bytes.trace_of.Goals.{After-judge_high_of-fault, Else-
 bytes : (c : Else-not-is_none) → let a = c.args in HasBytes a.width a.a.now
 bytes c = has-size _ _ (judged (one_size _ _) [] c.judge_size-size.ensures c.is_none.ensures c.if-not-is_none.false)
 
-whole : (c : After-judge_high_of-fault) → let a = c.args in c.judge_high_of-fault.result ≡ fault_of (bytes_causes a.width a.a.now)
+whole : (c : After-judge_high_of-fault) → let a = c.args in c.judge_high_of-fault.result ≡ judged (bytes_causes a.width a.a.now)
 whole c =
     follows (one_size _ _) (high_bit _ _ ∷ []) c.judge_size-size.ensures c.is_none.ensures c.if-not-is_none.false c.judge_high_of-fault.ensures
 

@@ -3,9 +3,9 @@ use mathlib.Core.Path.{ap}
 use mathlib.Core.Bool.{not}
 use mathlib.Core.Path.{◌≡◌}
 use mathlib.Core.List.{[], ◌∷◌}
-use Rattle.judging.specs.Causes.{fault_of}
+use Rattle.judging.specs.Causes.{judged}
 use Rattle.judging.specs.FaultTable.{high_bit}
-use Rattle.judging.proofs.CauseLaws.{fine, judged, follows}
+use Rattle.judging.proofs.CauseLaws.{fine, follows}
 use Rattle.judging.proofs.Passed.{is-clear}
 use Rattle.operand.specs.Causes.{turn_bytes_causes}
 use Rattle.operand.proofs.CallLaws.{all-kept, all-filled, ends-kept, size_causes, Sized, sized, turn-out}
@@ -17,7 +17,7 @@ sizes : (c : Else-not-is_none) → let a = c.args in Sized a.width a.a.now a.res
 sizes c = sized _ _ _ (judged (size_causes _ _ _) [] c.judge_sizes-sizes.ensures c.is_none.ensures c.if-not-is_none.false)
 
 whole : (c : After-judge_high_of-fault) → let a = c.args in
-    c.judge_high_of-fault.result ≡ fault_of (turn_bytes_causes a.width a.a.now a.res.now)
+    c.judge_high_of-fault.result ≡ judged (turn_bytes_causes a.width a.a.now a.res.now)
 whole c =
     follows (size_causes _ _ _) (high_bit _ _ ∷ []) c.judge_sizes-sizes.ensures c.is_none.ensures c.if-not-is_none.false c.judge_high_of-fault.ensures
 

@@ -3,7 +3,7 @@ use mathlib.Core.Bool.{not}
 use mathlib.Core.Path.{◌≡◌, refl, ap, ◌∙◌}
 use Rattle.gf2.specs.Inverse.{inverse}
 use Rattle.gf2.proofs.Coordinates.{length-pack}
-use Rattle.judging.specs.Causes.{fault_of}
+use Rattle.judging.specs.Causes.{judged}
 use Rattle.operand.proofs.CallLaws.{kept, Sized, sized}
 use Rattle.table.proofs.Parts.{Part, stopped, stopped-some, passed, further-fault}
 use Rattle.product.specs.Causes.{inverse_bytes_causes}
@@ -28,7 +28,7 @@ answer c =
     record { sizes = (let a = c.args in let t : Sized a.width a.a.now a.res.now = sized _ _ _ (passed (let a = c.args in let t : Part (size_causes a.width a.a.now a.res.now) (unit_bytes a.width a.table.now a.a.now) c.judge_sizes-sizes.result c.is_none.result = record { given = c.judge_sizes-sizes.ensures; tested = c.is_none.ensures } in t) (ap not c.if-not-is_none.false)) in t); byte = λ j. (c.shared_slice_known-2-1.given j).fits; made = c.inverse-inverse.ensures ∙ ap (inverse_answer a.width a.table.now) c.carried-x.ensures }
 
 whole : (c : After-inverse-inverse) → let a = c.args in
-    c.inverse-inverse.result.fault ≡ fault_of (inverse_bytes_causes a.width a.table.now a.a.now a.res.now)
+    c.inverse-inverse.result.fault ≡ judged (inverse_bytes_causes a.width a.table.now a.a.now a.res.now)
 whole c = further-fault (let a = c.args in let t : Part (size_causes a.width a.a.now a.res.now) (unit_bytes a.width a.table.now a.a.now) c.judge_sizes-sizes.result c.is_none.result = record { given = c.judge_sizes-sizes.ensures; tested = c.is_none.ensures } in t) (ap not c.if-not-is_none.false) (inverse-fault (answer c))
 
 pub returns-then-not-is_none : goal.returns-then-not-is_none

@@ -4,7 +4,7 @@ use mathlib.Core.Bool.{not}
 use mathlib.Core.Path.{◌≡◌, refl, ap₂, ◌∙◌}
 use Rattle.gf2.specs.Operands.{carried_by}
 use Rattle.gf2.proofs.Coordinates.{length-pack}
-use Rattle.judging.specs.Causes.{fault_of}
+use Rattle.judging.specs.Causes.{judged}
 use Rattle.operand.proofs.CallLaws.{kept, SizedPair, sized-pair}
 use Rattle.table.proofs.Parts.{Part, stopped, stopped-some, passed, further-fault}
 use Rattle.product.specs.Inner.{factor_causes, method_bytes_causes, multiplied, product_answer}
@@ -29,7 +29,7 @@ answer c =
     c.product-answer.ensures ∙ ap₂ (product_answer a.method a.width a.table.now) c.carried-x.ensures c.carried-y.ensures
 
 whole : (c : After-product-answer) → let a = c.args in
-    c.product-answer.result.fault ≡ fault_of (method_bytes_causes a.method a.width a.table.now a.a.now a.b.now a.res.now)
+    c.product-answer.result.fault ≡ judged (method_bytes_causes a.method a.width a.table.now a.a.now a.b.now a.res.now)
 whole c =
     let a = c.args in
     further-fault (let a = c.args in let t : Part (pair_sizes a.width a.a.now a.b.now a.res.now) (factor_causes a.method a.width a.table.now a.a.now a.b.now) c.judge_pair_sizes-sizes.result c.is_none.result = record { given = c.judge_pair_sizes-sizes.ensures; tested = c.is_none.ensures } in t) (ap not c.if-not-is_none.false) (product-fault (let a = c.args in let t : SizedPair a.width a.a.now a.b.now a.res.now = sized-pair _ _ _ _ (passed (let a = c.args in let t : Part (pair_sizes a.width a.a.now a.b.now a.res.now) (factor_causes a.method a.width a.table.now a.a.now a.b.now) c.judge_pair_sizes-sizes.result c.is_none.result = record { given = c.judge_pair_sizes-sizes.ensures; tested = c.is_none.ensures } in t) (ap not c.if-not-is_none.false)) in t) a.table.now a.method (answer c))

@@ -1,6 +1,6 @@
 -- `product::chain::inverted` meets its contract.
+use Rattle.std.specs.Prelude.{Ok}
 use mathlib.Core.Path.{ap₂}
-use Rattle.judging.specs.declared.fault.Fault.TheVariants.{None}
 use Rattle.product.proofs.ChainSteps.{last-turned, last-count}
 use Rattle.product.proofs.chain.inverted.Goals as goal
 

@@ -1,10 +1,10 @@
 -- `product::judge::judge_rules` meets its contract.
-use Rattle.judging.specs.Causes.{fault_of}
+use Rattle.judging.specs.Causes.{judged}
 use Rattle.product.proofs.Judged.{rules-after}
 use Rattle.product.proofs.judge.judge_rules.Goals as goal
 
 pub returns-in-Plain : goal.returns-in-Plain
-unfolding fault_of
+unfolding judged
 returns-in-Plain c = rw c.in-Plain.is
 
 pub returns-in-Reduced : goal.returns-in-Reduced

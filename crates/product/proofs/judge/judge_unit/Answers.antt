@@ -10,7 +10,7 @@ use mir.Val.{Fits}
 use mir.Syntax.{w8}
 use Rattle.gf2.specs.Operands.{carried_bytes}
 use Rattle.judging.specs.declared.fault.Fault.{Fault}
-use Rattle.judging.specs.Causes.{fault_of}
+use Rattle.judging.specs.Causes.{judged}
 use Rattle.judging.specs.FaultTable.{high_bit, is_zero}
 use Rattle.judging.proofs.CauseLaws.{head-holds, none-given}
 use Rattle.table.proofs.Parts.{Part, stopped, further-fault}
@@ -39,7 +39,7 @@ tested c b e =
 
 -- what is left of the fault where the table and the bits have passed
 unit : {f : Fault} (c : Else-not-is_none-2) → let a = c.args in
-    f ≡ fault_of (is_zero carried_bytes a.width a.x ∷ []) → f ≡ fault_of (unit_causes a.width a.table.now a.x)
+    f ≡ judged (is_zero carried_bytes a.width a.x ∷ []) → f ≡ judged (unit_causes a.width a.table.now a.x)
 unit c e = further-fault (let a = c.args in let t : Part (row_causes a.width a.table.now) (high_bit a.width a.x ∷ is_zero carried_bytes a.width a.x ∷ []) c.judge_shape-shape.result c.is_none.result = record { given = shape-after c.requires c.args.table.now c.judge_shape-shape.ensures; tested = c.is_none.ensures } in t) (ap not c.if-not-is_none.false) (further-fault (let a = c.args in let t : Part (high_bit a.width a.x ∷ []) (is_zero carried_bytes a.width a.x ∷ []) c.judge_high-bits.result c.is_none-2.result = record { given = c.judge_high-bits.ensures; tested = c.is_none-2.ensures } in t) (ap not c.if-not-is_none-2.false) e)
 
 pub returns-then-not-is_none : goal.returns-then-not-is_none

@@ -1,6 +1,5 @@
 use Rattle.std.proofs.Common.{◌≡◌, [], ◌∷◌, ap, ap₂, ◌∙◌}
 use Rattle.judging.specs.FaultTable.{check_causes}
-use Rattle.judging.proofs.CauseLaws.{judged}
 use Rattle.netlist.proofs.TableLaws.{ones-counted}
 use Rattle.reporting.specs.Text.{ascii, line}
 use Rattle.reporting.specs.Steps.{appended}

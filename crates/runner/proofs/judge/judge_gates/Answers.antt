@@ -6,7 +6,7 @@ use Prim.Native.Nat.{ℕ}
 use native.Mathlib.Omega.{arith}
 use Rattle.gf2.specs.Sums.{every}
 use Rattle.judging.specs.FaultTable.{bad_width}
-use Rattle.judging.proofs.CauseLaws.{fine, judged, ends, follows}
+use Rattle.judging.proofs.CauseLaws.{fine, ends, follows}
 use Rattle.judging.proofs.Passed.{IsWidth, is-width}
 use Rattle.netlist.specs.Running.{gate_count}
 use Rattle.netlist.specs.Judgements.{is_gate}

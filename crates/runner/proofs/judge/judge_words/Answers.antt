@@ -5,19 +5,19 @@ use Prim.Native.Nat.{◌+◌, ◌*◌}
 use native.Mathlib.Omega.{arith}
 use lib.ListN.{length, get_or}
 use borrow.Author.Tests.{lt-ltb, le-ltb}
-use Rattle.judging.specs.Causes.{fault_of}
+use Rattle.judging.specs.Causes.{judged}
 use Rattle.judging.specs.FaultTable.{bad_length}
-use Rattle.judging.proofs.CauseLaws.{fine, judged, ends, follows, head-holds, head-fails}
+use Rattle.judging.proofs.CauseLaws.{fine, ends, follows, head-holds, head-fails}
 use Rattle.judging.proofs.Passed.{as-laid-down}
 use Rattle.runner.specs.Causes.{few_words, other_width, bad_words}
 use Rattle.runner.proofs.judge.judge_words.Goals as goal
 use Rattle.runner.proofs.judge.judge_words.Goals.{After-is_none}
 
 -- the first word judged, and that there are two
-first : (c : After-is_none) → let a = c.args in c.judge_length-first.result ≡ fault_of (other_width a.width a.list.now ∷ [])
+first : (c : After-is_none) → let a = c.args in c.judge_length-first.result ≡ judged (other_width a.width a.list.now ∷ [])
 first c =
     let a = c.args in
-    c.judge_length-first.ensures ∙ ap (λ n. fault_of (bad_length n a.width ∷ [])) c.word.ensures.0
+    c.judge_length-first.ensures ∙ ap (λ n. judged (bad_length n a.width ∷ [])) c.word.ensures.0
 
 pub returns-then-list-lt2 : goal.returns-then-list-lt2
 returns-then-list-lt2 c =
@@ -46,5 +46,5 @@ returns c =
     let m = a.width in
     let l = a.list.now in
     follows (other_width m l ∷ []) (bad_words m l ∷ []) (first (goal.at.returns c).After-is_none) c.is_none.ensures c.if-not-is_none.false
-    (c.judge_length.ensures ∙ ap (λ g. fault_of (bad_length (length l) (2 + 3 * g + m) ∷ [])) c.word-2.ensures.0)
+    (c.judge_length.ensures ∙ ap (λ g. judged (bad_length (length l) (2 + 3 * g + m) ∷ [])) c.word-2.ensures.0)
     ∙ sym (head-fails (few_words l) (other_width m l ∷ bad_words m l ∷ []) (le-ltb (length l) 2 c.if-list-lt2.false))

@@ -1,7 +1,7 @@
 -- `table::symmetry::judge_row_pairs` meets its contract.
 use mathlib.Core.Path.{◌≡◌}
 use Prim.Native.Nat.{◌-◌, ◌≤◌}
-use Rattle.judging.specs.Causes.{fault_of}
+use Rattle.judging.specs.Causes.{judged}
 use Rattle.judging.specs.FaultTable.{row_pair_causes}
 use Rattle.judging.proofs.Searches.{up_to}
 use Rattle.table.proofs.Rules.{mirror_causes, MirrorsTo}
@@ -9,7 +9,7 @@ use Rattle.table.proofs.symmetry.judge_row_pairs.Given as goal
 
 abbrev pub invariant-loop-d : goal.invariant-loop-d
 invariant-loop-d l =
-    (1 ≤ l.d) × (fault_of (row_pair_causes l.width l.table) ≡ fault_of (up_to (mirror_causes l.width l.table) l.width l.d)) × (MirrorsTo l.width l.table l.d)
+    (1 ≤ l.d) × (judged (row_pair_causes l.width l.table) ≡ judged (up_to (mirror_causes l.width l.table) l.width l.d)) × (MirrorsTo l.width l.table l.d)
 
 abbrev pub decreases-loop-d : goal.decreases-loop-d
 decreases-loop-d l = l.width - l.d

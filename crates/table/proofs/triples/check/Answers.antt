@@ -2,7 +2,6 @@
 use mathlib.Core.Path.{ap}
 use mathlib.Core.Bool.{not}
 use Rattle.judging.specs.FaultTable.{symmetry_causes, triple_causes}
-use Rattle.judging.proofs.CauseLaws.{none_is}
 use Rattle.table.proofs.Parts.{Part, stopped, passed, further-fault}
 use Rattle.table.proofs.Theorems.{symmetry}
 use borrow.Author.Rules.{rules}

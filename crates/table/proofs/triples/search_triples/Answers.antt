@@ -1,19 +1,18 @@
 -- `table::triples::search_triples` meets its contract.
+use Rattle.std.specs.Prelude.{is_ok}
 use mathlib.Core.Path.{refl, sym, ap, ◌∙◌}
 use native.Mathlib.Omega.{arith}
-use Rattle.judging.specs.Faults.{is_none}
-use Rattle.judging.specs.Causes.{fault_of}
+use Rattle.judging.specs.Causes.{judged}
 use Rattle.judging.specs.FaultTable.{triple_differs}
-use Rattle.judging.proofs.CauseLaws.{some, none_true}
 use Rattle.judging.proofs.Searches.{up_start, none_left, found_here, none_here, one_found, one-fails}
 use Rattle.table.proofs.Rules.{pair_causes, row_causes, triple-test}
 use Rattle.table.proofs.triples.search_triples.Goals as goal
 
 pub search-init : goal.search-init
-search-init c = (refl, sym (ap fault_of (up_start (row_causes _ _) _)))
+search-init c = (refl, sym (ap judged (up_start (row_causes _ _) _)))
 
 pub loop-j-init : goal.loop-j-init
-loop-j-init c = (c.search.invariant.0, sym (ap fault_of (up_start (pair_causes _ _ _) _)))
+loop-j-init c = (c.search.invariant.0, sym (ap judged (up_start (pair_causes _ _ _) _)))
 
 pub loop-j-preserved : goal.loop-j-preserved
 loop-j-preserved c =
@@ -39,4 +38,4 @@ returns-then-not-associative c =
     let a = c.args in
     let differs = triple-test _ _ s.i l.j (sym c.associative.ensures ∙ c.if-not-associative.true) in
     let row = l.invariant.1 ∙ one_found (triple_differs _ _ s.i) _ l.j c.loop-j-test.true differs in
-    sym (s.invariant.1 ∙ found_here (row_causes _ _) _ s.i c.search-test.true (ap is_none row ∙ some (triple_differs a.width a.table.now s.i l.j)) ∙ row)
+    sym (s.invariant.1 ∙ found_here (row_causes _ _) _ s.i c.search-test.true (ap is_ok row ∙ some (triple_differs a.width a.table.now s.i l.j)) ∙ row)

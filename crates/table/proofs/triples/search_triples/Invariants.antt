@@ -1,21 +1,21 @@
 -- `table::triples::search_triples` meets its contract.
+use Rattle.std.specs.Prelude.{Ok}
 use mathlib.Core.Path.{◌≡◌}
 use Prim.Native.Nat.{◌-◌}
-use Rattle.judging.specs.declared.fault.Fault.TheVariants.{None}
-use Rattle.judging.specs.Causes.{fault_of}
+use Rattle.judging.specs.Causes.{judged}
 use Rattle.judging.proofs.Searches.{up_to}
-use Rattle.table.specs.Judgements.{triple_fault}
+use Rattle.table.specs.Judgements.{triple_verdict}
 use Rattle.table.proofs.Rules.{pair_causes, row_causes}
 use Rattle.table.proofs.triples.search_triples.Given as goal
 
 abbrev pub invariant-loop-j : goal.invariant-loop-j
-invariant-loop-j l = (l.fault ≡ None) × (fault_of (row_causes l.width l.table l.i) ≡ fault_of (up_to (pair_causes l.width l.table l.i) l.width l.j))
+invariant-loop-j l = (l.fault ≡ Ok tt) × (judged (row_causes l.width l.table l.i) ≡ judged (up_to (pair_causes l.width l.table l.i) l.width l.j))
 
 abbrev pub decreases-loop-j : goal.decreases-loop-j
 decreases-loop-j l = l.width - l.j
 
 abbrev pub invariant-search : goal.invariant-search
-invariant-search l = (l.fault ≡ None) × (triple_fault l.width l.table ≡ fault_of (up_to (row_causes l.width l.table) l.width l.i))
+invariant-search l = (l.fault ≡ Ok tt) × (triple_verdict l.width l.table ≡ judged (up_to (row_causes l.width l.table) l.width l.i))
 
 abbrev pub decreases-search : goal.decreases-search
 decreases-search l = l.width - l.i
