@@ -1,7 +1,7 @@
 -- Tables without fault of shape: their rows, as they lie in the table and carried.
 -- shape-none, shape-rows, shaped, shape-fine: no fault of shape is given exactly where a table whose rows are bytes is shaped.
 -- row-bytes: the rows of a list of bytes are bytes.
-use Rattle.std.specs.Prelude.{Ok, is_ok}
+use Rattle.std.specs.Prelude.{Ok, Err}
 use mathlib.Core.Path.{◌≡◌, refl, sym, ap, ◌∙◌}
 use mathlib.Core.Logic.{◌↔◌}
 use mathlib.Core.Bool.{Bool, true, false, not, true≢false}
@@ -43,7 +43,7 @@ pub record Sized (m size : ℕ) : Type 0 where
   pub greatest : m ≤ max_width
   pub exact : size ≡ m * bytes_for m
 
-pub size-fine : (m : ℕ) (t : List ℕ) → is_ok (judged (size_causes m t)) ≡ true → Sized m (length t)
+pub size-fine : (m : ℕ) (t : List ℕ) → judged (size_causes m t) ≡ Ok tt → Sized m (length t)
 size-fine m t e =
     let p = fine (size_causes m t) e in
     let w = is-width m p.0 in
@@ -145,7 +145,7 @@ module _ (m : ℕ) (t : List ℕ) (size : length t ≡ m * bytes_for m) (part : 
   ends-clear e = rows-done m t (every_of m (clear_row m t) (λ d l.
       clear-end m (row m t d) (row-length m d t size l) (last_row d l ∙ ored-at m _ (sym (ored-shr m (last_byte m t) (m % 8)) ∙ e) d l)))
 
-  pub ends-broken : Bytes t → (ored m (last_byte m t) / 2 ^ (m % 8) ≡ 0 → ⊥) → judged (high_bit_in_row m t ∷ []) ≡ HighBit
+  pub ends-broken : Bytes t → (ored m (last_byte m t) / 2 ^ (m % 8) ≡ 0 → ⊥) → judged (high_bit_in_row m t ∷ []) ≡ Err HighBit
   ends-broken small n = head-holds (high_bit_in_row m t) [] (ap not (bool-ext (every m (clear_row m t)) false (λ e. absurd (n (each e))) (λ e. absurd (true≢false (sym e)))))
     where
       each : every m (clear_row m t) ≡ true → ored m (last_byte m t) / 2 ^ (m % 8) ≡ 0
@@ -177,8 +177,8 @@ module _ {m : ℕ} {t : List ℕ} where
       }
 
   -- what judging the shape has shown
-  pub shaped : Bytes t → is_ok (shape_verdict m t) ≡ true → Shaped m t
+  pub shaped : Bytes t → shape_verdict m t ≡ Ok tt → Shaped m t
   shaped small e = shape-rows (λ d l. row-bytes m d t small) (fine (shape_causes m t) e)
 
 pub shape-fine : (m : ℕ) (t : List ℕ) → Bytes t → (shape_verdict m t ≡ Ok tt) ↔ Shaped m t
-shape-fine m t small = (λ e. shaped small (none_true e), shape-none)
+shape-fine m t small = (shaped small, shape-none)

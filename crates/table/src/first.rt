@@ -26,8 +26,7 @@ fn is_square(x: &[u64; limbs::LIMBS], s: &[u8], m: usize) -> bool
     ensures { result ≡ every m (λ i. eqb (limb_coord x.now i) (coord s.now (minus m i 1))) }
 {
     let mut previous = last_high(s, m);
-    let mut w = 0;
-    while w < limbs::LIMBS {
+    for w in 0..limbs::LIMBS {
         if limbs::ends_at(w, m) {
             return true;
         }
@@ -36,7 +35,6 @@ fn is_square(x: &[u64; limbs::LIMBS], s: &[u8], m: usize) -> bool
             return false;
         }
         previous = limb;
-        w += 1;
     }
     true
 }
@@ -58,12 +56,10 @@ pub(crate) fn all_act_twice(width: usize, table: &[u8]) -> bool
     requires { (Shaped width table.now) × (Symmetric width table.now) }
     ensures { result ≡ every width (associates width table.now 0) }
 {
-    let mut j = 0;
-    while j < width {
+    for j in 0..width {
         if !acts_twice(width, table, j) {
             return false;
         }
-        j += 1;
     }
     true
 }

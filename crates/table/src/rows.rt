@@ -31,10 +31,8 @@ fn judge_ends(width: usize, table: &[u8]) -> Result<(), Fault>
     }
     let size = limbs::bytes_for(width);
     let mut all: u8 = 0;
-    let mut d = 0;
-    while d < width {
-        all = all | table[d * size + width / 8];
-        d += 1;
+    for d in 0..width {
+        all |= table[d * size + width / 8];
     }
     if all >> used != 0 {
         return Err(Fault::HighBit);

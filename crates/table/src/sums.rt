@@ -48,7 +48,7 @@ fn plus_rows(
         let zeros = u64::trailing_zeros(rest) as usize;
         let next = plus_row(width, table, out, from + zeros);
         out = next;
-        rest = rest & (rest - 1);
+        rest &= rest - 1;
     }
     out
 }
@@ -59,15 +59,13 @@ pub(crate) fn rows_at(width: usize, table: &[u8], x: &[u8]) -> [u64; limbs::LIMB
     ensures { Below width (λ s. sum width (λ k. coord x.now k * coord (row width table.now k) s)) result }
 {
     let mut total = [0u64; limbs::LIMBS];
-    let mut w = 0;
-    while w < limbs::LIMBS {
+    for w in 0..limbs::LIMBS {
         if limbs::ends_at(w, width) {
             return total;
         }
         let limb = limbs::carried_limb(x, w);
         let next = plus_rows(width, table, total, limb, w * 64);
         total = next;
-        w += 1;
     }
     total
 }

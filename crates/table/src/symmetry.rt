@@ -21,10 +21,8 @@ pub(crate) fn same_bytes(x: [u8; limbs::BYTES], y: [u8; limbs::BYTES]) -> bool
     let p = limbs::to_limbs(x);
     let q = limbs::to_limbs(y);
     let mut apart: u64 = 0;
-    let mut w = 0;
-    while w < limbs::LIMBS {
-        apart = apart | (p[w] ^ q[w]);
-        w += 1;
+    for w in 0..limbs::LIMBS {
+        apart |= p[w] ^ q[w];
     }
     apart == 0
 }
@@ -55,15 +53,13 @@ fn agrees(x: &[u64; limbs::LIMBS], s: &[u8], m: usize) -> bool
     requires { (m ≤ max_width) × (IsOperand (bytes_for m) m s.now) × ClearLimbs m x.now }
     ensures { result ≡ every m (λ i. eqb (limb_coord x.now i) (coord s.now i)) }
 {
-    let mut w = 0;
-    while w < limbs::LIMBS {
+    for w in 0..limbs::LIMBS {
         if limbs::ends_at(w, m) {
             return true;
         }
         if x[w] != limbs::carried_limb(s, w) {
             return false;
         }
-        w += 1;
     }
     true
 }
@@ -86,12 +82,10 @@ fn judge_row_pairs(width: usize, table: &[u8]) -> Result<(), Fault>
     requires { Shaped width table.now }
     ensures { result ≡ judged (row_pair_causes width table.now) }
 {
-    let mut d = 1;
-    while d <= width / 2 {
+    for d in 1..=width / 2 {
         if !mirrored(width, table, d) {
             return Err(Fault::RowPair(d));
         }
-        d += 1;
     }
     Ok(())
 }

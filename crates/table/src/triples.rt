@@ -43,20 +43,22 @@ fn associative(width: usize, table: &[u8], i: usize, j: usize) -> bool
     )
 }
 
-// The search ends at the first pair that differs. It is made only where some triple with i = 0 differs, so that it is left in the
-// first round of the outer loop.
+// The search ends at the first pair that differs. Document 01 names this form, a labelled nested loop over i and j. It is made only
+// where some triple with i = 0 differs, so that it is left in the first round of the outer loop.
 fn search_triples(width: usize, table: &[u8]) -> Result<(), Fault>
     requires { (Shaped width table.now) × (Symmetric width table.now) }
     ensures { result ≡ triple_verdict width table.now }
 {
-    for i in 0..width {
+    let mut verdict = Ok(());
+    'search: for i in 0..width {
         for j in 0..width {
             if !associative(width, table, i, j) {
-                return Err(Fault::Triple(i, j));
+                verdict = Err(Fault::Triple(i, j));
+                break 'search;
             }
         }
     }
-    Ok(())
+    verdict
 }
 
 // Where no triple with i = 0 differs, none does, and no other is looked at.

@@ -7,17 +7,17 @@ use Rattle.table.specs.Inner.{associates}
 use Rattle.table.proofs.first.all_act_twice.Goals as goal
 
 pub loop-j-init : goal.loop-j-init
-loop-j-init c = (omega arith, every-none _)
+loop-j-init c = every-none _
 
 pub returns-then-not-acts_twice : goal.returns-then-not-acts_twice
 returns-then-not-acts_twice c = sym (every-not _ _ c.loop-j.j (omega (arith, c.loop-j-test.true)) (sym c.acts_twice.ensures ∙ c.if-not-acts_twice.true))
 
 pub loop-j-preserved : goal.loop-j-preserved
-loop-j-preserved c = (omega (arith, c.loop-j-test.true), every_more _ _ c.loop-j.invariant.1 (sym c.acts_twice.ensures ∙ c.if-not-acts_twice.false))
+loop-j-preserved c = every_more _ _ c.loop-j.invariant (sym c.acts_twice.ensures ∙ c.if-not-acts_twice.false)
 
 pub returns : goal.returns
 returns c =
     let l = c.loop-j in
     let a = c.args in
-    let e : l.j ≡ a.width = omega (arith, l.invariant.0, c.loop-j-test.false) in
-    sym (ap (λ n. every n (associates a.width a.table.now 0)) (sym e) ∙ l.invariant.1)
+    let e : l.j ≡ a.width = omega arith in
+    sym (ap (λ n. every n (associates a.width a.table.now 0)) (sym e) ∙ l.invariant)

@@ -6,13 +6,13 @@ use Rattle.table.proofs.RowsAtOnes.{limbs-none, limbs-more, limb-within, limbs-a
 use Rattle.table.proofs.sums.rows_at.Goals as goal
 
 pub loop-w-init : goal.loop-w-init
-loop-w-init c = (omega arith, limbs-none _ _ _)
+loop-w-init c = limbs-none _ _ _
 
 pub returns-then-ends_at : goal.returns-then-ends_at
 returns-then-ends_at c =
     let l = c.loop-w in
     let narrow = ends-narrow _ _ (sym c.ends_at.ensures ∙ c.if-ends_at.true) in
-    limbs-all _ _ _ c.requires.1 l.w (omega arith) l.total l.invariant.1
+    limbs-all _ _ _ c.requires.1 l.w (omega arith) l.total l.invariant
 
 pub plus_rows-next-requires : goal.plus_rows-next-requires
 plus_rows-next-requires c =
@@ -21,9 +21,9 @@ plus_rows-next-requires c =
 pub loop-w-preserved : goal.loop-w-preserved
 loop-w-preserved c =
     let l = c.loop-w in
-    (omega arith, limbs-more _ _ _ l.w (omega arith) c.carried_limb-limb.ensures l.total _ l.invariant.1 c.plus_rows-next.ensures)
+    limbs-more _ _ _ l.w (omega arith) c.carried_limb-limb.ensures l.total _ l.invariant c.plus_rows-next.ensures
 
 pub returns : goal.returns
 returns c =
     let l = c.loop-w in
-    limbs-all _ _ _ c.requires.1 l.w (omega (arith, c.requires.0.greatest)) l.total l.invariant.1
+    limbs-all _ _ _ c.requires.1 l.w (omega (arith, c.requires.0.greatest)) l.total l.invariant

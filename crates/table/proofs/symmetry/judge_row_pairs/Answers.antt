@@ -1,29 +1,42 @@
 -- `table::symmetry::judge_row_pairs` meets its contract.
-use mathlib.Core.Path.{refl, sym, ◌∙◌}
+use mathlib.Core.Path.{◌≡◌, refl, sym, ◌∙◌}
+use mathlib.Core.Bool.{true}
+use Prim.Native.Nat.{◌+◌, ◌≤◌}
 use native.Mathlib.Decide.{ℕ_discrete}
 use native.Mathlib.Omega.{arith}
-use Rattle.judging.specs.FaultTable.{rows_differ}
-use Rattle.judging.proofs.Searches.{one_found, one-fails}
-use Rattle.table.proofs.Rules.{mirror-test, half-search}
+use Rattle.judging.specs.Causes.{judged}
+use Rattle.judging.specs.FaultTable.{rows_differ, row_pair_causes}
+use Rattle.judging.proofs.Searches.{up_to, one_found, one-fails}
+use Rattle.table.specs.Inner.{mirrors}
+use Rattle.table.proofs.Rules.{mirror_causes, MirrorsTo, mirror-test, half-search}
 use Rattle.table.proofs.symmetry.judge_row_pairs.Goals as goal
+use Rattle.table.proofs.symmetry.judge_row_pairs.Goals.{Else-not-mirrored}
+
+-- one row more has passed
+more : (c : Else-not-mirrored) → let a = c.args in let d = c.loop-d.d in
+    (judged (row_pair_causes a.width a.table.now) ≡ judged (up_to (mirror_causes a.width a.table.now) a.width (d + 1))) × MirrorsTo a.width a.table.now (d + 1)
+more c =
+    let mirrors = sym c.mirrored.ensures ∙ c.if-not-mirrored.false in (
+      c.loop-d.invariant.0 ∙ one-fails (rows_differ _ _) _ c.loop-d.d (omega (arith, c.requires.least, c.loop-d-test.true)) (mirror-test _ _ c.loop-d.d mirrors),
+      record { at = λ k l h. elim (ℕ_discrete k c.loop-d.d) [ yes q ↦ rw q mirrors | no q ↦ c.loop-d.invariant.1.at k l (omega arith) ] },
+    )
 
 pub loop-d-init : goal.loop-d-init
-loop-d-init c = (omega arith, refl, record { at = λ k l h. absurd (omega arith) })
+loop-d-init c = (refl, record { at = λ k l h. absurd (omega arith) })
 
 pub returns-then-not-mirrored : goal.returns-then-not-mirrored
 returns-then-not-mirrored c =
-    sym (c.loop-d.invariant.1 ∙ one_found (rows_differ _ _) _ c.loop-d.d (omega (arith, c.requires.least, c.loop-d-test.true))
+    sym (c.loop-d.invariant.0 ∙ one_found (rows_differ _ _) _ c.loop-d.d (omega (arith, c.requires.least, c.loop-d-test.true))
     (mirror-test _ _ c.loop-d.d (sym c.mirrored.ensures ∙ c.if-not-mirrored.true)))
 
 pub loop-d-preserved : goal.loop-d-preserved
-loop-d-preserved c =
-    let mirrors = sym c.mirrored.ensures ∙ c.if-not-mirrored.false in (
-      omega arith,
-      c.loop-d.invariant.1 ∙ one-fails (rows_differ _ _) _ c.loop-d.d (omega (arith, c.requires.least, c.loop-d-test.true)) (mirror-test _ _ c.loop-d.d mirrors),
-      record { at = λ k l h. elim (ℕ_discrete k c.loop-d.d) [ yes q ↦ rw q mirrors | no q ↦ c.loop-d.invariant.2.at k l (omega arith) ] },
-    )
+loop-d-preserved c = more (goal.at.loop-d-preserved c).Else-not-mirrored
+
+-- d is half of the width, rounded down
+pub returns-else-not-mirrored : goal.returns-else-not-mirrored
+returns-else-not-mirrored c =
+    let m = more (goal.at.returns-else-not-mirrored c).Else-not-mirrored in
+    sym (m.0 ∙ half-search c.requires (c.loop-d.d + 1) (omega arith) m.1)
 
 pub returns : goal.returns
-returns c =
-    let l = c.loop-d in
-    sym (l.invariant.1 ∙ half-search c.requires _ (omega (arith, c.loop-d-test.false)) l.invariant.2)
+returns c = let l = c.loop-d in sym (l.invariant.0 ∙ half-search c.requires l.d (omega (arith, c.loop-d-test.false)) l.invariant.1)

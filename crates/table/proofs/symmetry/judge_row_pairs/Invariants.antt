@@ -1,6 +1,5 @@
 -- `table::symmetry::judge_row_pairs` meets its contract.
 use mathlib.Core.Path.{◌≡◌}
-use Prim.Native.Nat.{◌-◌, ◌≤◌}
 use Rattle.judging.specs.Causes.{judged}
 use Rattle.judging.specs.FaultTable.{row_pair_causes}
 use Rattle.judging.proofs.Searches.{up_to}
@@ -9,7 +8,4 @@ use Rattle.table.proofs.symmetry.judge_row_pairs.Given as goal
 
 abbrev pub invariant-loop-d : goal.invariant-loop-d
 invariant-loop-d l =
-    (1 ≤ l.d) × (judged (row_pair_causes l.width l.table) ≡ judged (up_to (mirror_causes l.width l.table) l.width l.d)) × (MirrorsTo l.width l.table l.d)
-
-abbrev pub decreases-loop-d : goal.decreases-loop-d
-decreases-loop-d l = l.width - l.d
+    (judged (row_pair_causes l.width l.table) ≡ judged (up_to (mirror_causes l.width l.table) l.width l.d)) × (MirrorsTo l.width l.table l.d)

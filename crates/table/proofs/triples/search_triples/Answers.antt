@@ -1,5 +1,4 @@
 -- `table::triples::search_triples` meets its contract.
-use Rattle.std.specs.Prelude.{is_ok}
 use mathlib.Core.Path.{refl, sym, ap, ◌∙◌}
 use native.Mathlib.Omega.{arith}
 use Rattle.judging.specs.Causes.{judged}
@@ -26,7 +25,7 @@ pub search-preserved : goal.search-preserved
 search-preserved c =
     let l = c.loop-j in
     let s = c.search in
-    (l.invariant.0, s.invariant.1 ∙ none_here (row_causes _ _) _ s.i c.search-test.true (none_true (l.invariant.1 ∙ none_left (pair_causes _ _ s.i) _ l.j (omega arith))))
+    (l.invariant.0, s.invariant.1 ∙ none_here (row_causes _ _) _ s.i c.search-test.true ((l.invariant.1 ∙ none_left (pair_causes _ _ s.i) _ l.j (omega arith))))
 
 pub returns-after-search : goal.returns-after-search
 returns-after-search c = let s = c.search in s.invariant.0 ∙ sym (s.invariant.1 ∙ none_left (row_causes _ _) _ s.i (omega arith))
@@ -35,7 +34,6 @@ pub returns-then-not-associative : goal.returns-then-not-associative
 returns-then-not-associative c =
     let l = c.loop-j in
     let s = c.search in
-    let a = c.args in
     let differs = triple-test _ _ s.i l.j (sym c.associative.ensures ∙ c.if-not-associative.true) in
     let row = l.invariant.1 ∙ one_found (triple_differs _ _ s.i) _ l.j c.loop-j-test.true differs in
-    sym (s.invariant.1 ∙ found_here (row_causes _ _) _ s.i c.search-test.true (ap is_ok row ∙ some (triple_differs a.width a.table.now s.i l.j)) ∙ row)
+    sym (s.invariant.1 ∙ found_here (row_causes _ _) _ s.i c.search-test.true row)

@@ -1,7 +1,6 @@
 -- `table::triples::search_triples` meets its contract.
 use Rattle.std.specs.Prelude.{Ok}
 use mathlib.Core.Path.{◌≡◌}
-use Prim.Native.Nat.{◌-◌}
 use Rattle.judging.specs.Causes.{judged}
 use Rattle.judging.proofs.Searches.{up_to}
 use Rattle.table.specs.Judgements.{triple_verdict}
@@ -9,13 +8,7 @@ use Rattle.table.proofs.Rules.{pair_causes, row_causes}
 use Rattle.table.proofs.triples.search_triples.Given as goal
 
 abbrev pub invariant-loop-j : goal.invariant-loop-j
-invariant-loop-j l = (l.fault ≡ Ok tt) × (judged (row_causes l.width l.table l.i) ≡ judged (up_to (pair_causes l.width l.table l.i) l.width l.j))
-
-abbrev pub decreases-loop-j : goal.decreases-loop-j
-decreases-loop-j l = l.width - l.j
+invariant-loop-j l = (l.verdict ≡ Ok tt) × (judged (row_causes l.width l.table l.i) ≡ judged (up_to (pair_causes l.width l.table l.i) l.width l.j))
 
 abbrev pub invariant-search : goal.invariant-search
-invariant-search l = (l.fault ≡ Ok tt) × (triple_verdict l.width l.table ≡ judged (up_to (row_causes l.width l.table) l.width l.i))
-
-abbrev pub decreases-search : goal.decreases-search
-decreases-search l = l.width - l.i
+invariant-search l = (l.verdict ≡ Ok tt) × (triple_verdict l.width l.table ≡ judged (up_to (row_causes l.width l.table) l.width l.i))
