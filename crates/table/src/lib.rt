@@ -9,7 +9,7 @@ mod sums;
 mod symmetry;
 mod triples;
 
-pub use carried::{table2, table3, table4, table5};
+pub use carried::Carried;
 pub use counts::ones;
 pub use rows::judge_shape;
 pub use symmetry::judge_symmetry;

@@ -1,8 +1,7 @@
 -- `table::counts::ones` meets its contract.
-use mathlib.Core.Path.{◌≡◌, sym, ap, ◌∙◌}
+use mathlib.Core.Path.{sym, ◌∙◌}
 use Rattle.judging.specs.Causes.{answered}
 use Rattle.judging.proofs.CauseLaws.{handed_on}
-use Rattle.table.specs.Calls.{ones_call}
 use Rattle.table.proofs.Shapes.{shaped}
 use Rattle.table.proofs.TableOnes.{ones_small}
 use Rattle.table.proofs.counts.ones.Goals as goal

@@ -1,5 +1,4 @@
 -- `table::first::is_square` meets its contract.
-use Prim.Native.Nat.{◌*◌}
 use Rattle.gf2.specs.Coordinates.{coord}
 use Rattle.gf2.specs.Operands.{minus}
 use Rattle.table.proofs.Comparing.{AgreeTo}

@@ -1,13 +1,11 @@
 -- `table::symmetry::judge_row_pairs` meets its contract.
 use mathlib.Core.Path.{◌≡◌, refl, sym, ◌∙◌}
-use mathlib.Core.Bool.{true}
-use Prim.Native.Nat.{◌+◌, ◌≤◌}
+use Prim.Native.Nat.{◌+◌}
 use native.Mathlib.Decide.{ℕ_discrete}
 use native.Mathlib.Omega.{arith}
 use Rattle.judging.specs.Causes.{judged}
 use Rattle.judging.specs.FaultTable.{rows_differ, row_pair_causes}
 use Rattle.judging.proofs.Searches.{up_to, one_found, one-fails}
-use Rattle.table.specs.Inner.{mirrors}
 use Rattle.table.proofs.Rules.{mirror_causes, MirrorsTo, mirror-test, half-search}
 use Rattle.table.proofs.symmetry.judge_row_pairs.Goals as goal
 use Rattle.table.proofs.symmetry.judge_row_pairs.Goals.{Else-not-mirrored}
