@@ -6,13 +6,14 @@ use mathlib.Core.Path.{◌≡◌, refl, sym, ap, ◌∙◌}
 use mathlib.Core.Logic.{◌↔◌}
 use mathlib.Core.Bool.{Bool, true, false, not, true≢false}
 use mathlib.Core.List.{List, [], ◌∷◌}
-use Prim.Native.Nat.{ℕ, ◌+◌, ◌-◌, ◌*◌, ◌/◌, ◌%◌, ◌^◌, ◌<◌, ◌≤◌}
+use Prim.Native.Nat.{ℕ, zero, suc, ◌+◌, ◌-◌, ◌*◌, ◌/◌, ◌%◌, ◌^◌, ◌<◌, ◌≤◌}
 use native.Mathlib.Nat.{suc-mul, mul-le-mul_right, min-le_left, le_trans, lt_of_le_of_lt, lt_of_lt_of_le, div-eq_of_lt, zero-div}
 use native.Mathlib.Decide.{dec_lt}
 use native.Mathlib.Omega.{arith}
 use lib.ListN.{length, get_or, take, drop, length-drop, length-take, get_or-eq_default}
 use lib.Pow.{shr-shr, shr_le, pow_mono}
 use lib.Seq.{length-take-le, get_or-take, get_or-drop}
+use Rattle.std.proofs.lemmas.List.{drop_all}
 use Rattle.gf2.specs.Sums.{sum, every}
 use Rattle.gf2.specs.Coordinates.{coord, value}
 use Rattle.gf2.specs.Operands.{max_width, bytes_for, carried_bytes, IsOperand, is_clear}
@@ -74,6 +75,15 @@ row_fits {m} {t} s d l e = rw e (row_within m d t s.is_table.size l)
 pub row-part : (m : ℕ) (t : List ℕ) (d : ℕ) {n : ℕ} → n ≡ bytes_for m → take (d * n + n - d * n) (drop (d * n) t) ≡ row m t d
 unfolding row
 row-part m t d {n} e = let k : d * n + n - d * n ≡ n = omega arith in rw (k, e)
+
+take-none : (n : ℕ) → [] ≡ take {A = ℕ} n []
+take-none zero = refl
+take-none (suc n) = refl
+
+-- there is none past the last
+pub row-none : {m : ℕ} {t : List ℕ} → Shaped m t → (d : ℕ) → m ≤ d → [] ≡ row m t d
+unfolding row
+row-none {m} {t} s d h = let l : length t ≤ d * bytes_for m = rw s.is_table.size (mul-le-mul_right (bytes_for m) h) in rw (drop_all (d * bytes_for m) t l) (take-none (bytes_for m))
 
 past_end : (l : List ℕ) (b : ℕ) → length l ≤ b → get_or l b 0 < 256
 past_end l b h = rw (get_or-eq_default l 0 {n = b} h) (omega arith)

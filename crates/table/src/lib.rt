@@ -5,12 +5,13 @@ mod carried;
 mod counts;
 mod first;
 mod rows;
+mod shaped;
 mod sums;
 mod symmetry;
 mod triples;
 
 pub use carried::Carried;
 pub use counts::ones;
-pub use rows::judge_shape;
-pub use symmetry::judge_symmetry;
+pub use shaped::Table;
+pub use symmetry::SymmetricTable;
 pub use triples::check;

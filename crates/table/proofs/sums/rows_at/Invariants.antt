@@ -1,8 +1,0 @@
--- `table::sums::rows_at` meets its contract.
-use Prim.Native.Nat.{◌*◌}
-use Rattle.table.specs.Inner.{Below}
-use Rattle.table.proofs.RowsAtOnes.{rows_to}
-use Rattle.table.proofs.sums.rows_at.Given as goal
-
-abbrev pub invariant-loop-w : goal.invariant-loop-w
-invariant-loop-w l = Below l.width (rows_to l.width l.table l.x (l.w * 64)) l.total
