@@ -15,6 +15,6 @@ pub returns : goal.returns
 unfolding answered
 returns c =
     let e = sym c.judge_shape.ensures ∙ c.in_ok-judge_shape.was in
-    let is = shaped (λ k. (c.shared_slice_known-1.given k).fits) e in
+    let is = shaped (λ k. (c.type_inv.table k).fits) e in
     let a = c.args in
     rw (c.ones_of.ensures ∙ ones_small a.width a.table.now is.greatest is.is_table, e)

@@ -3,14 +3,15 @@ use mathlib.Core.Path.{sym, ◌∙◌}
 use mathlib.Core.List.{[], ◌∷◌}
 use Rattle.judging.specs.FaultTable.{row_zero_wrong, row_pair_causes, shape_causes, rule_causes}
 use Rattle.judging.proofs.CauseLaws.{ends, follows, handed_on}
+use Rattle.limbs.proofs.ByteLists.{Bytes}
 use Rattle.table.specs.Rows.{Shaped}
 use Rattle.table.proofs.Shapes.{shaped as shape-shown}
 use Rattle.table.proofs.symmetry.judge_symmetry.Goals as goal
 use Rattle.table.proofs.symmetry.judge_symmetry.Goals.{In_ok-judge_shape}
 
 -- where the shape has passed
-shaped : (c : In_ok-judge_shape) → let a = c.args in Shaped a.width a.table.now
-shaped c = shape-shown (λ k. (c.shared_slice_known-1.given k).fits) (sym c.judge_shape.ensures ∙ c.in_ok-judge_shape.was)
+shaped : (c : In_ok-judge_shape) → let a = c.args in Bytes a.table.now → Shaped a.width a.table.now
+shaped c small = shape-shown small (sym c.judge_shape.ensures ∙ c.in_ok-judge_shape.was)
 
 pub returns-in_err-judge_shape : goal.returns-in_err-judge_shape
 returns-in_err-judge_shape c =
@@ -19,7 +20,7 @@ returns-in_err-judge_shape c =
     (ends (shape_causes a.width a.table.now) (rule_causes a.width a.table.now) c.judge_shape.ensures c.in_err-judge_shape.was)
 
 pub judge_row_zero-requires : goal.judge_row_zero-requires
-judge_row_zero-requires c = shaped (goal.at.judge_row_zero-requires c).In_ok-judge_shape
+judge_row_zero-requires c = shaped (goal.at.judge_row_zero-requires c).In_ok-judge_shape (λ k. (c.type_inv.table k).fits)
 
 pub returns-in_err-judge_row_zero : goal.returns-in_err-judge_row_zero
 returns-in_err-judge_row_zero c =
@@ -29,7 +30,7 @@ returns-in_err-judge_row_zero c =
     (ends (row_zero_wrong a.width a.table.now ∷ []) (row_pair_causes a.width a.table.now) c.judge_row_zero.ensures c.in_err-judge_row_zero.was))
 
 pub judge_row_pairs-requires : goal.judge_row_pairs-requires
-judge_row_pairs-requires c = shaped (goal.at.judge_row_pairs-requires c).In_ok-judge_shape
+judge_row_pairs-requires c = shaped (goal.at.judge_row_pairs-requires c).In_ok-judge_shape (λ k. (c.type_inv.table k).fits)
 
 pub returns : goal.returns
 returns c =
