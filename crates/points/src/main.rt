@@ -1,5 +1,5 @@
-// The base points that FIPS 186 publishes for B-163, K-163, K-233, B-283, K-409 and K-571, after the coefficients a and b of each curve, tried under the drawn
-// tables of their widths by the proved calls. One has all coordinates 1.
+// The base points that FIPS 186 publishes for B-163, K-163, K-233, B-283, K-409 and K-571, after the coefficients a and b of each curve,
+// tried under the drawn tables of their widths by the proved calls. One has all coordinates 1.
 #![tactic(auto)]
 
 ghost use Rattle.std.specs.Prelude.{◌≤◌};
@@ -80,13 +80,23 @@ fn point(rt: &impl Print, curve: &Curve) -> io::Result<()>
     requires { curve.now.width ≤ max_width }
     ensures { Unit {0} }
 {
-    let Curve { name, width, kind, a, b, x, y } = *curve;
+    let Curve {
+        name,
+        width,
+        kind,
+        a,
+        b,
+        x,
+        y,
+    } = *curve;
     let mut buffer = [0u8; limbs::MAX_WIDTH * limbs::BYTES];
     let table = &mut buffer[..width * limbs::bytes_for(width)];
     let drawn = gaussian::draw(width, table).unwrap_or(0);
     let on = u8::from(curves::lies(width, table, a, b, x, y, b"0"));
     let changed = u8::from(curves::lies(width, table, a, b, x, y, b"1"));
-    println!(rt; "{name}, type {kind}: drawn type {drawn}, on the curve {on}, with one bit changed {changed}")
+    println!(rt;
+        "{name}, type {kind}: drawn type {drawn}, on the curve {on}, with one bit changed {changed}"
+    )
 }
 
 fn main(rt: HostRuntime) -> io::Result<()> {
