@@ -45,7 +45,7 @@ loop-d-preserved c =
 
 pub returns-then-all-used-ne0 : goal.returns-then-all-used-ne0
 returns-then-all-used-ne0 c =
-    sym (ends-broken _ _ c.requires.1 c.if-used-eq0.false (λ k. (c.shared_slice_known-1.given k).fits) (λ z.
+    sym (ends-broken _ _ c.requires.1 c.if-used-eq0.false (λ k. (c.type_inv.table k).fits) (λ z.
     c.if-all-used-ne0.true (ap (λ y. y / 2 ^ (c.args.width % 8)) (whole (goal.at.returns-then-all-used-ne0 c).After-loop-d) ∙ z)))
 
 pub returns : goal.returns
