@@ -16,7 +16,7 @@ use borrow.Author.Tests.{ltb-true, ne_eqb}
 use Rattle.gf2.proofs.Parity.{and_both}
 use Rattle.judging.specs.declared.fault.Fault.{Fault}
 use Rattle.judging.specs.Faults.{number_of}
-use Rattle.judging.specs.Causes.{Cause, Verdict, judged, answered, First, NoCause, Exact}
+use Rattle.judging.specs.Causes.{Cause, Verdict, judged, answered, verdict_of, First, NoCause, Exact}
 
 never : {A : Type 0} → false ≡ true → A
 never e = absurd (true≢false (sym e))
@@ -151,3 +151,10 @@ module _ (P : Verdict → Type 0) (none : P (Ok tt)) where
   keeps-both (c ∷ cs) ds p q = cases c.test
       (λ e. rw (head-holds c (cs ++ ds) e) (rw (sym (head-holds c cs e)) p))
       (λ e. rw (head-fails c (cs ++ ds) e) (keeps-both cs ds (rw (sym (head-fails c cs e)) p) (λ n. q (e, n))))
+
+-- table. The verdict of an answer of which the rest is said apart
+pub verdict_err : {A : Type 0} {r : Result A Fault} {f : Fault} {v : Verdict} → verdict_of r ≡ v → r ≡ Err f → v ≡ Err f
+verdict_err e h = sym e ∙ ap verdict_of h
+
+pub verdict_ok : {A : Type 0} {r : Result A Fault} {x : A} {v : Verdict} → verdict_of r ≡ v → r ≡ Ok x → v ≡ Ok tt
+verdict_ok e h = sym e ∙ ap verdict_of h
