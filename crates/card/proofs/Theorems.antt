@@ -1,10 +1,10 @@
 -- The proofs of the statements in specs/Statements.antt.
 -- A card without fault has a table, and the call answers as the statements say.
-use Rattle.std.specs.Prelude.{Ok, IsOk}
+use Rattle.std.specs.Prelude.{IsOk}
 use Rattle.std.specs.Result.{is_ok, result_unwrap_or}
 use mathlib.Core.Path.{◌≡◌, refl, sym, ap, ap₂, ◌∙◌}
 use mathlib.Core.List.{List, []}
-use mathlib.Core.Bool.{true, false, true≢false}
+use mathlib.Core.Bool.{true≢false}
 use Prim.Native.Nat.{ℕ, ◌*◌, ◌≤◌}
 use lib.ListN.{length, take}
 use lib.Seq.{take_at}

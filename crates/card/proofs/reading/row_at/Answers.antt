@@ -1,6 +1,5 @@
 -- `card::reading::row_at` meets its contract.
 use mathlib.Core.Path.{sym}
-use native.Mathlib.Omega.{arith}
 use Rattle.card.proofs.ReadSteps.{told-refused, row-refused, row-some, row-far}
 use Rattle.card.proofs.reading.row_at.Goals as goal
 
