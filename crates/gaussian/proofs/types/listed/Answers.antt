@@ -1,4 +1,5 @@
 -- `gaussian::types::listed` meets its contract.
+use borrow.Author.Rules.{rules}
 use Rattle.gaussian.specs.Types.{type_of}
 use Rattle.gaussian.proofs.Answers.{listed-none, listed-some}
 use Rattle.gaussian.proofs.types.listed.Goals as goal
@@ -9,4 +10,4 @@ returns-in-0 c = listed-none c.args.width c.in-0.is
 
 pub returns-in_default : goal.returns-in_default
 unfolding type_of
-returns-in_default c = listed-some c.args.width c.from.ensures c.in_default
+returns-in_default c = listed-some c.args.width c.from.ensures (search rules)
