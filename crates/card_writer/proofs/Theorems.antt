@@ -1,14 +1,13 @@
 -- The proofs of the statements in specs/Statements.antt.
 use Rattle.std.specs.Prelude.{Ok}
-use mathlib.Core.Path.{◌≡◌, refl, ◌∙◌}
+use mathlib.Core.Path.{◌≡◌, refl, sym, ◌∙◌}
 use mathlib.Core.List.{List, [], ◌∷◌}
 use Prim.Native.Nat.{ℕ, ◌≤◌}
 use lib.ListN.{length}
 use Rattle.gf2.specs.Coordinates.{coord}
 use Rattle.gf2.specs.Tables.{row}
-use Rattle.judging.specs.Causes.{answered}
 use Rattle.judging.specs.FaultTable.{too_short, shape_causes}
-use Rattle.judging.proofs.CauseLaws.{none-given}
+use Rattle.judging.proofs.CauseLaws.{none-given, answer-given}
 use Rattle.judging.proofs.Searches.{fine-append}
 use Rattle.judging.proofs.Passed.{room-passes}
 use Rattle.table.specs.Rows.{Shaped}
@@ -30,8 +29,7 @@ module _ (m : ℕ) (table out : List ℕ) (shape : Shaped m table) (fits : lengt
       (fine-append (shape_causes m table) (too_short (length out) (length (card m table)) ∷ []) (shape-passes shape) (room-passes (length out) (length (card m table)) fits, tt))
 
   write-answers : write_call m table out ≡ Ok (length (card m table))
-  unfolding answered
-  write-answers = rw write-none
+  write-answers = sym (answer-given (length (card m table)) write-none)
 
   write-writes : write_card m table out ≡ in_front (card m table) out
   write-writes = rw write-none

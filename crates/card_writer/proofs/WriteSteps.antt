@@ -28,9 +28,9 @@ use Rattle.ones.proofs.RowLimbs.{next_known, row-limbs}
 use Rattle.judging.specs.declared.fault.Fault.{Fault}
 use Rattle.judging.specs.declared.fault.Fault.TheVariants.{Call}
 use Rattle.judging.specs.declared.fault.CallFault.TheVariants.{OutputShort}
-use Rattle.judging.specs.Causes.{Cause, Verdict, answered}
+use Rattle.judging.specs.Causes.{Cause, Verdict}
 use Rattle.judging.specs.FaultTable.{too_short, shape_causes}
-use Rattle.judging.proofs.CauseLaws.{fine, head-holds, none-given, ends, follows}
+use Rattle.judging.proofs.CauseLaws.{fine, head-holds, none-given, ends, follows, answer-given, answer-refused}
 use Rattle.judging.proofs.Passed.{is-width, are-clear, room-passes}
 use Rattle.table.specs.Judgements.{shape_verdict}
 use Rattle.table.proofs.Shapes.{clear_row}
@@ -279,8 +279,7 @@ module _ (m : ℕ) (table old : List ℕ) where
   short = too_short (length old) (length (card m table))
 
   wrote-fault : {f : Fault} → Err f ≡ write_verdict m table (length old) → Wrote m table old (Err f) old
-  unfolding answered
-  wrote-fault e = record { answers = rw (← e); leaves = rw (← e) }
+  wrote-fault e = record { answers = answer-refused (length (card m table)) (sym e); leaves = rw (← e) }
 
   -- v is the verdict on the shape
   module _ {v : Verdict} (e : v ≡ shape_verdict m table) where
@@ -293,7 +292,6 @@ module _ (m : ℕ) (table old : List ℕ) where
           wrote-fault (follows (shape_causes m table) (short ∷ []) e q (sym (head-holds short [] (lt-ltb (length old) (length (card m table)) (omega arith)))))
 
       pub wrote-card : {new : List ℕ} → n ≤ length old → new ≡ sets old 0 (card m table) → Wrote m table old (Ok n) new
-      unfolding answered
       wrote-card h s =
           let z = follows (shape_causes m table) (short ∷ []) e q (sym (none-given (short ∷ []) (room-passes (length old) (length (card m table)) (omega arith), tt))) in
-          record { answers = rw (← z, size, zero-add); leaves = s ∙ rw (← z) (sets-front old (card m table) (omega arith)) }
+          record { answers = rw (size, zero-add) (answer-given (length (card m table)) (sym z)); leaves = s ∙ rw (← z) (sets-front old (card m table) (omega arith)) }

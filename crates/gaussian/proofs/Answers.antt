@@ -13,7 +13,7 @@ use Rattle.judging.specs.declared.fault.Fault.{Fault}
 use Rattle.judging.specs.declared.fault.Fault.TheVariants.{Call}
 use Rattle.judging.specs.declared.fault.CallFault.TheVariants.{NoType}
 use Rattle.judging.specs.Causes.{Cause, Verdict, judged, answered}
-use Rattle.judging.proofs.CauseLaws.{fine, ends, follows, goes_on, ok_or_err, same_fault}
+use Rattle.judging.proofs.CauseLaws.{fine, stops, goes_on, answer-given, answer-refused}
 use Rattle.judging.proofs.Passed.{is-width, as-laid-down}
 use Rattle.gaussian.specs.Types.{type_of}
 use Rattle.gaussian.specs.Table.{drawn}
@@ -44,22 +44,10 @@ module _ (m : ℕ) where
 -- a part that code has judged: v is its verdict
 module _ (m : ℕ) (cs ds : List Cause) {v : Verdict} (e : v ≡ judged cs) where
   pub answer-ends : {f : Fault} → v ≡ Err f → Err f ≡ answer (judged (cs ++ ds)) m
-  unfolding answered
-  answer-ends q = ap (λ w. answer w m) (ends cs ds e q)
+  answer-ends q = answer-refused (type_of m) (stops cs ds (sym e ∙ q))
 
   pub answer-follows : {r : Result ℕ Fault} → v ≡ Ok tt → r ≡ answer (judged ds) m → r ≡ answer (judged (cs ++ ds)) m
   answer-follows q h = h ∙ ap (λ w. answer w m) (sym (goes_on cs ds (sym e ∙ q)))
-
--- the verdict that an answer tells
-pub answer-refused : (v : Verdict) (m : ℕ) {f : Fault} → Err f ≡ answer v m → v ≡ Err f
-unfolding answered
-answer-refused (Ok u) m e = ok_or_err e
-answer-refused (Err g) m e = ap Err (same_fault (answer (Err g) m) refl (sym e))
-
-pub answer-given : (v : Verdict) (m : ℕ) {t : ℕ} → Ok t ≡ answer v m → (v ≡ Ok tt) × (t ≡ type_of m)
-unfolding answered
-answer-given (Ok u) m e = (refl, (cc))
-answer-given (Err g) m e = ok_or_err (sym e)
 
 module _ (m size : ℕ) where
   -- what is judged when there is no fault
@@ -91,9 +79,7 @@ pub record Drew (m : ℕ) (old : List ℕ) (r : Result ℕ Fault) (new : List �
 
 module _ (m : ℕ) (old : List ℕ) where
   pub drew-none : {f : Fault} → Err f ≡ draw_verdict m (length old) → Drew m old (Err f) old
-  unfolding answered
-  drew-none e = record { answers = rw (← e); leaves = rw (← e) }
+  drew-none e = record { answers = answer-refused (type_of m) (sym e); leaves = rw (← e) }
 
   pub drew-table : {t : ℕ} {new : List ℕ} → draw_verdict m (length old) ≡ Ok tt → t ≡ type_of m → new ≡ drawn m t → Drew m old (Ok t) new
-  unfolding answered
-  drew-table e t h = record { answers = rw (e, t); leaves = rw e (h ∙ ap (drawn m) t) }
+  drew-table e t h = record { answers = rw t (answer-given (type_of m) e); leaves = rw e (h ∙ ap (drawn m) t) }

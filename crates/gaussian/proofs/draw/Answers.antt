@@ -4,21 +4,22 @@ use mathlib.Core.List.{[], ◌∷◌}
 use native.Mathlib.Omega.{arith}
 use lib.ListN.{length}
 use Rattle.std.specs.Prelude.{Ok}
+use Rattle.judging.specs.Causes.{judged}
 use Rattle.judging.specs.FaultTable.{bad_width, bad_length}
-use Rattle.judging.proofs.CauseLaws.{fine, ends, follows, handed_on}
+use Rattle.judging.proofs.CauseLaws.{fine, ends, follows, handed_on, answer-passed, answer-failed}
 use Rattle.judging.proofs.Passed.{is-width}
 use Rattle.gaussian.specs.Types.{type_of}
 use Rattle.gaussian.specs.Causes.{type_zero}
 use Rattle.gaussian.specs.Calls.{draw_verdict}
-use Rattle.gaussian.proofs.Answers.{answer-refused, answer-given, draw-fine, drawable, drew-none, drew-table}
+use Rattle.gaussian.proofs.Answers.{draw-fine, drawable, drew-none, drew-table}
 use Rattle.gaussian.proofs.draw.Goals as goal
 use Rattle.gaussian.proofs.draw.Goals.{In_ok-t}
 
 -- nothing is refused, and the type is the list's
 type-drawn : (c : In_ok-t) → let a = c.args in (draw_verdict a.width (length a.table.now) ≡ Ok tt) × (c.in_ok-t.t ≡ type_of a.width)
 type-drawn c =
-    let g = answer-given _ _ c.in_ok-t.ensures in
-    (sym (follows (bad_width _ ∷ bad_length _ _ ∷ []) (type_zero _ ∷ []) c.judge_table_size.ensures c.in_ok-judge_table_size.was (sym g.0)), g.1)
+    let g = answer-passed (judged (type_zero _ ∷ [])) (sym c.in_ok-t.ensures) in
+    (sym (follows (bad_width _ ∷ bad_length _ _ ∷ []) (type_zero _ ∷ []) c.judge_table_size.ensures c.in_ok-judge_table_size.was (sym g.0)), sym g.1)
 
 pub returns-in_err-judge_table_size : goal.returns-in_err-judge_table_size
 returns-in_err-judge_table_size c =
@@ -33,7 +34,7 @@ listed_type-requires c =
 pub returns-in_err-t : goal.returns-in_err-t
 returns-in_err-t c =
     let e = c.from_residual-in_err-t in
-    let x = drew-none _ _ (follows (bad_width _ ∷ bad_length _ _ ∷ []) (type_zero _ ∷ []) c.judge_table_size.ensures c.in_ok-judge_table_size.was (sym (answer-refused _ _ c.in_err-t.ensures))) in
+    let x = drew-none _ _ (follows (bad_width _ ∷ bad_length _ _ ∷ []) (type_zero _ ∷ []) c.judge_table_size.ensures c.in_ok-judge_table_size.was (sym (answer-failed (judged (type_zero _ ∷ [])) _ (sym c.in_err-t.ensures)))) in
     record { answer = handed_on e.result e.ensures.1 x.answers; bytes = x.leaves }
 
 pub fill-requires : goal.fill-requires
