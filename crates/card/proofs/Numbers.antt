@@ -93,32 +93,33 @@ written_read_lem (g ∷ h ∷ s) n rest small e = elim (dec_lt g 128) [
       same_read q.1 (two-groups g h s (omega arith) (small 0) (eqb-false h 0 p.0) (ltb-true h 128 q.0) (λ b. small (suc (suc b))))
 ]
 
-module _ (s : List ℕ) (at : ℕ) where
-  pub number-ends : length s ≤ at → read_number (drop at s) ≡ refused card_ends
+pub number-ends : (s : List ℕ) (at : ℕ) → length s ≤ at → read_number (drop at s) ≡ refused card_ends
+unfolding read_number
+number-ends s at h = rw (drop_of_length-le s h)
+
+-- the byte there is g
+module _ (s : List ℕ) (at : ℕ) {g : ℕ} (byte : g ≡ get_or s at 0) (h : at < length s) where
+  pub number_short : g < 128 → read_number (drop at s) ≡ got g (drop (at + 1) s)
   unfolding read_number
-  number-ends h = rw (drop_of_length-le s h)
+  number_short l = rw (drop-cons s at 0 h, ← byte, lt-ltb g 128 l, add-one)
 
-  pub number_short : at < length s → get_or s at 0 < 128 → read_number (drop at s) ≡ got (get_or s at 0) (drop (at + 1) s)
+  pub number-long : {x : Read ℕ} → 128 ≤ g → second_group (g - 128) (drop (at + 1) s) ≡ x → read_number (drop at s) ≡ x
   unfolding read_number
-  number_short h l = rw (drop-cons s at 0 h, lt-ltb (get_or s at 0) 128 l, add-one)
+  number-long l e = rw (drop-cons s at 0 h, ← byte, le-ltb g 128 l) (rw add-one at e)
 
-  pub number-long : at < length s → 128 ≤ get_or s at 0 → read_number (drop at s) ≡ second_group (get_or s at 0 - 128) (drop (at + 1) s)
-  unfolding read_number
-  number-long h l = rw (drop-cons s at 0 h, le-ltb (get_or s at 0) 128 l, add-one)
+pub second-ends : (low : ℕ) (s : List ℕ) (at : ℕ) → length s ≤ at → second_group low (drop at s) ≡ refused card_ends
+unfolding second_group
+second-ends low s at h = rw (drop_of_length-le s h)
 
-module _ (low : ℕ) (s : List ℕ) (at : ℕ) where
-  pub second-ends : length s ≤ at → second_group low (drop at s) ≡ refused card_ends
+module _ (low : ℕ) (s : List ℕ) (at : ℕ) {g : ℕ} (byte : g ≡ get_or s at 0) (h : at < length s) where
+  pub second-zero : g ≡ 0 → second_group low (drop at s) ≡ refused card_number
   unfolding second_group
-  second-ends h = rw (drop_of_length-le s h)
+  second-zero e = rw (drop-cons s at 0 h, ← byte, eq-eqb g 0 e)
 
-  pub second-zero : at < length s → get_or s at 0 ≡ 0 → second_group low (drop at s) ≡ refused card_number
+  pub second-third : 128 ≤ g → second_group low (drop at s) ≡ refused card_number
   unfolding second_group
-  second-zero h e = rw (drop-cons s at 0 h, eq-eqb (get_or s at 0) 0 e)
+  second-third l = rw (drop-cons s at 0 h, ← byte, ne_eqb g 0 (λ e. omega arith), le-ltb g 128 l)
 
-  pub second-third : at < length s → 128 ≤ get_or s at 0 → second_group low (drop at s) ≡ refused card_number
+  pub second-last : (g ≡ 0 → ⊥) → g < 128 → second_group low (drop at s) ≡ got (low + g * 128) (drop (at + 1) s)
   unfolding second_group
-  second-third h l = rw (drop-cons s at 0 h, ne_eqb (get_or s at 0) 0 (λ e. omega arith), le-ltb (get_or s at 0) 128 l)
-
-  pub second-last : at < length s → (get_or s at 0 ≡ 0 → ⊥) → get_or s at 0 < 128 → second_group low (drop at s) ≡ got (low + get_or s at 0 * 128) (drop (at + 1) s)
-  unfolding second_group
-  second-last h n l = rw (drop-cons s at 0 h, ne_eqb (get_or s at 0) 0 n, lt-ltb (get_or s at 0) 128 l, add-one)
+  second-last n l = rw (drop-cons s at 0 h, ← byte, ne_eqb g 0 n, lt-ltb g 128 l, add-one)

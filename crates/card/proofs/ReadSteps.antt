@@ -2,12 +2,13 @@
 -- Places: the loop over the places of a row, and the row's count.
 -- Rows: the loop over the rows, and what it stores.
 -- Head and card: form, width, and the card as a whole.
-use Rattle.std.specs.Prelude.{Ok, is_ok}
+use Rattle.std.specs.Prelude.{Result, Ok, Err, IsErrAnd}
 use mathlib.Core.Path.{◌≡◌, refl, sym, ap, ◌∙◌}
 use mathlib.Core.List.{List, [], ◌∷◌, ◌++◌, append_assoc, append-nil}
 use mathlib.Core.Bool.{Bool, true, false}
 use Prim.Native.Nat.{ℕ, zero, suc, ◌+◌, ◌-◌, ◌*◌, ◌/◌, ◌%◌, ◌^◌, ◌<◌, ◌≤◌}
-use native.Mathlib.Nat.{zero-add, add-zero, zero-mul, mul_comm, mul-le-mul_left}
+use native.Mathlib.Nat.{zero-add, add-zero, zero-mul, suc-mul, mul-le-mul}
+use native.Mathlib.Numerals.{add-one}
 use native.Mathlib.Decide.{ℕ_discrete, dec_lt}
 use native.Mathlib.Omega.{arith}
 use lib.ListN.{length, get_or, take, drop, set, replicate, length-append, length-set, drop_of_length-le}
@@ -25,9 +26,7 @@ use Rattle.gf2.proofs.Coordinates.{length-tabulate, length-pack, pack-byte, coor
 use Rattle.gf2.proofs.Operands.{below_in, below_out, length_from}
 use Rattle.judging.specs.declared.fault.Fault.{Fault}
 use Rattle.judging.specs.Faults.{card_form, card_place, card_tail}
-use Rattle.card.specs.declared.CardAnswer.{CardAnswer}
-use Rattle.card.specs.declared.reading.Step.{Step}
-use Rattle.card.specs.declared.reading.Step.TheVariants.{Got, Refused}
+use Rattle.judging.proofs.CauseLaws.{handed_on}
 use Rattle.card.specs.Numbers.{Read, refused, got, read_number}
 use Rattle.card.specs.Rows.{after, read_places, read_row, is_place, row_of, read_rows}
 use Rattle.card.specs.Cards.{lent_verdict, read_width, read_head, ended, read_card}
@@ -38,17 +37,9 @@ use Rattle.card.proofs.Places.{place_here, place-there}
 use Rattle.card.proofs.Stores.{sets-append, sets-front}
 use Rattle.card.proofs.Trips.{head-parts, rows-table}
 
--- what is to be read, where the code says a step
-module _ (s : List ℕ) {r : Step} {x : Read ℕ} (e : told s r ≡ x) where
-  pub got_of : {v n : ℕ} → r ≡ Got v n → x ≡ got v (drop n s)
-  got_of g = sym e ∙ ap (told s) g
-
-  pub refused-of : {f : Fault} → r ≡ Refused f → x ≡ refused f
-  refused-of g = sym e ∙ ap (told s) g
-
--- one is left, and the others
-one_left : {left : ℕ} → 0 < left → left ≡ suc (left - 1)
-one_left h = omega arith
+-- the exit of a `?`
+pub told-refused : {A : Type 0} (s : List ℕ) {x : Read A} {f : Fault} (r : Result (A × ℕ) Fault) → IsErrAnd r (λ g. g ≡ f) → refused f ≡ x → told s r ≡ x
+told-refused s r e h = ap (told s) (handed_on r e refl) ∙ h
 
 after-nil : (x : Read (List ℕ)) → x ≡ after [] x
 after-nil (refused f) = refl
@@ -159,31 +150,31 @@ places-none m count s = record {
 }
 
 module _ {m free left : ℕ} {x : Read (List ℕ)} {s bytes : List ℕ} (to : PlacesTo m x s bytes free left) where
-  pub places-refused : {f : Fault} → 0 < left → read_number s ≡ refused f → refused f ≡ carried_places m x
+  pub places-refused : {f : Fault} {more : ℕ} → left ≡ suc more → read_number s ≡ refused f → refused f ≡ carried_places m x
   unfolding read_places
-  places-refused h e = rw (rw (one_left h) at to.reads, e)
+  places-refused h e = rw (rw h at to.reads, e)
 
-  pub places-far : {k : ℕ} {r : List ℕ} → 0 < left → read_number s ≡ got k r → m - free ≤ k → refused card_place ≡ carried_places m x
+  pub places-far : {k more : ℕ} {r : List ℕ} → left ≡ suc more → read_number s ≡ got k r → m - free ≤ k → refused card_place ≡ carried_places m x
   unfolding read_places
-  places-far {k} h e far = let w = to.within in rw (rw (one_left h) at to.reads, e, le-ltb (free + k) m (omega arith))
+  places-far {k} h e far = let w = to.within in rw (rw h at to.reads, e, le-ltb (free + k) m (omega arith))
 
-  pub places-more : {k : ℕ} {r : List ℕ} → m ≤ max_width → 0 < left → read_number s ≡ got k r → k < m - free →
-      PlacesTo m x r (set bytes ((free + k) / 8) (bit_xor (get_or bytes ((free + k) / 8) 0) (2 ^ ((free + k) % 8)))) (free + k + 1) (left - 1)
+  pub places-more : {k more : ℕ} {r : List ℕ} → m ≤ max_width → left ≡ suc more → read_number s ≡ got k r → k < m - free →
+      PlacesTo m x r (set bytes ((free + k) / 8) (bit_xor (get_or bytes ((free + k) / 8) 0) (2 ^ ((free + k) % 8)))) (free + k + 1) more
   unfolding read_places
-  places-more {k} {r} small h e near =
+  places-more {k} {more} {r} small h e near =
       let p = free + k in
       let u : p < m = omega arith in
       let new = to.above p (omega arith) in record {
         front = to.front ++ (p ∷ []);
         within = omega arith;
-        reads = rw (one_left h) at to.reads ∙ rw (e, lt-ltb p m u) (after-after to.front (p ∷ []) (read_places m (p + 1) (left - 1) r));
+        reads = rw h at to.reads ∙ rw (e, lt-ltb p m u) (after-after to.front (p ∷ []) (read_places m (p + 1) more r));
         above = λ i l. place-last to.front p i new ∙ rw (to.above i (omega arith), ne_eqb i p (λ z. omega arith));
         stored = rw to.stored (stored-place m to.front p u small new);
       }
 
-  pub places-done : left ≤ 0 → got bytes s ≡ carried_places m x
+  pub places-done : left ≡ 0 → got bytes s ≡ carried_places m x
   unfolding read_places
-  places-done h = let z : left ≡ 0 = omega arith in rw (rw z at to.reads, to.stored, append-nil)
+  places-done z = rw (rw z at to.reads, to.stored, append-nil)
 
 -- a row's count
 module _ (m : ℕ) (s : List ℕ) where
@@ -223,56 +214,50 @@ take_row : (m : ℕ) (f : ℕ → ℕ) → m ≤ max_width → take (bytes_for m
 unfolding from_coords pack
 take_row m f h = take-tabulate carried_bytes (bytes_for m) _ (omega arith)
 
--- the loop over the rows: those in `front` are read, and stored
-pub record RowsTo (m first count : ℕ) (s₀ s old new : List ℕ) (from left : ℕ) : Type 0 where
+-- the loop over the rows: those in `front`, from the row `first` to the row d, are read and stored, and `left` more are to be read
+pub record RowsTo (m first count : ℕ) (s₀ s old new : List ℕ) (d left : ℕ) : Type 0 where
   pub front : List ℕ
-  pub short : from + carried_bytes * left ≤ carried_bytes * max_width
-  pub size : first * bytes_for m + length front ≡ from
+  pub size : first * bytes_for m + length front ≡ d * bytes_for m
   pub reads : read_rows m count s₀ ≡ after front (read_rows m left s)
   pub stored : new ≡ sets old (first * bytes_for m) front
   pub kept : length new ≡ length old
 
--- the first row has its place in the table
-pub row-place : (m first count size : ℕ) → m ≤ max_width → first + count ≤ m → size ≡ bytes_for m → first * size + carried_bytes * count ≤ carried_bytes * max_width
-row-place m first count size small h e =
-    let w : size ≤ carried_bytes = omega arith in
-    omega (arith, mul-le-mul_left first w, mul_comm first carried_bytes)
+-- row d has its place in a table
+pub row-place : (d size : ℕ) → d ≤ max_width → size ≤ carried_bytes → d * size ≤ max_width * carried_bytes
+row-place d size h l = mul-le-mul h l
 
-pub rows_none : (m first count size : ℕ) (s old : List ℕ) → m ≤ max_width → first + count ≤ m → size ≡ bytes_for m → RowsTo m first count s s old old (first * size) count
-rows_none m first count size s old small h e = record {
+pub rows_none : (m first count : ℕ) (s old : List ℕ) → RowsTo m first count s s old old first count
+rows_none m first count s old = record {
   front = [];
-  short = row-place m first count size small h e;
-  size = rw e (add-zero (first * bytes_for m));
+  size = add-zero (first * bytes_for m);
   reads = after-nil (read_rows m count s);
   stored = refl;
   kept = refl;
 }
 
-module _ {m first count from left : ℕ} {s₀ s old new : List ℕ} (to : RowsTo m first count s₀ s old new from left) where
-  pub rows-refused : {f : Fault} → 0 < left → read_row m s ≡ refused f → RowsRead m first count s₀ (refused f) old new
+module _ {m first count d left : ℕ} {s₀ s old new : List ℕ} (to : RowsTo m first count s₀ s old new d left) where
+  pub rows-refused : {f : Fault} {more : ℕ} → left ≡ suc more → read_row m s ≡ refused f → RowsRead m first count s₀ (refused f) old new
   unfolding read_rows
   rows-refused {f} h e =
-      let q : read_rows m count s₀ ≡ refused f = rw (one_left h) at to.reads ∙ rw e in
+      let q : read_rows m count s₀ ≡ refused f = rw h at to.reads ∙ rw e in
       record { ends = sym (ap end_of q); stores = λ t rest g. no_value (sym q ∙ g) }
 
-  pub rows_more : {ps r bytes next : List ℕ} → m ≤ max_width → 0 < left → read_row m s ≡ got ps r → bytes ≡ from_coords carried_bytes m (is_place ps) →
-      next ≡ sets new from (take (bytes_for m) bytes) → length next ≡ length new → RowsTo m first count s₀ r old next (from + bytes_for m) (left - 1)
+  pub rows_more : {more : ℕ} {ps r bytes next : List ℕ} → m ≤ max_width → left ≡ suc more → read_row m s ≡ got ps r → bytes ≡ from_coords carried_bytes m (is_place ps) →
+      next ≡ sets new (d * bytes_for m) (take (bytes_for m) bytes) → length next ≡ length new → RowsTo m first count s₀ r old next (d + 1) more
   unfolding read_rows
-  rows_more {ps} {r} small h e b n k =
+  rows_more {more} {ps} {r} small h e b n k =
       let size = length_from (bytes_for m) m (is_place ps) in
-      let short = to.short in record {
+      let step : (d + 1) * bytes_for m ≡ d * bytes_for m + bytes_for m = rw add-one (suc-mul d (bytes_for m)) in record {
         front = to.front ++ row_of m ps;
-        short = omega arith;
-        size = omega (arith, length-append to.front (row_of m ps), size, to.size);
-        reads = rw (one_left h) at to.reads ∙ rw e (after-after to.front (row_of m ps) (read_rows m (left - 1) r));
+        size = omega (arith, length-append to.front (row_of m ps), size, to.size, step);
+        reads = rw h at to.reads ∙ rw e (after-after to.front (row_of m ps) (read_rows m more r));
         stored = n ∙ rw (b, take_row m (is_place ps) small, to.stored, ← to.size) (sym (sets-append old (first * bytes_for m) to.front (row_of m ps)));
         kept = k ∙ to.kept;
       }
 
-  pub rows-done : left ≤ 0 → RowsRead m first count s₀ (got 0 s) old new
+  pub rows-done : left ≡ 0 → RowsRead m first count s₀ (got 0 s) old new
   unfolding read_rows
-  rows-done h =
-      let z : left ≡ 0 = omega arith in
+  rows-done z =
       let q : read_rows m count s₀ ≡ got (to.front ++ []) s = rw z at to.reads in record {
         ends = sym (ap end_of q);
         stores = λ t rest g. (let e : to.front ≡ t = sym (append-nil to.front) ∙ (cc (sym q ∙ g)) in rw (← e) to.stored);
@@ -284,11 +269,11 @@ module _ (room : ℕ) (s : List ℕ) where
   unfolding read_width
   width-refused e = rw e
 
-  pub width_some : {m : ℕ} {r : List ℕ} → read_number s ≡ got m r → is_ok (lent_verdict room m) ≡ true → got m r ≡ read_width room s
+  pub width_some : {m : ℕ} {r : List ℕ} → read_number s ≡ got m r → lent_verdict room m ≡ Ok tt → got m r ≡ read_width room s
   unfolding read_width
   width_some e n = rw (e, n)
 
-  pub width-fault : {m : ℕ} {r : List ℕ} → read_number s ≡ got m r → is_ok (lent_verdict room m) ≡ false → refused (lent_verdict room m) ≡ read_width room s
+  pub width-fault : {m : ℕ} {r : List ℕ} {f : Fault} → read_number s ≡ got m r → lent_verdict room m ≡ Err f → refused f ≡ read_width room s
   unfolding read_width
   width-fault e n = rw (e, n)
 
@@ -305,7 +290,7 @@ module _ (room : ℕ) (s : List ℕ) where
   head-form {form} e n = rw (e, ne_eqb form 1 n)
 
 -- the card as a whole: the answer, and the lent table afterwards
-pub record Answered (s old : List ℕ) (r : CardAnswer) (new : List ℕ) : Type 0 where
+pub record Answered (s old : List ℕ) (r : Result ℕ Fault) (new : List ℕ) : Type 0 where
   pub answers : r ≡ read_call s old
   pub leaves : new ≡ read_table s old
 
@@ -323,11 +308,15 @@ ended-more m end t s h = rw (drop-cons s end 0 h)
 ended-all : (m end : ℕ) (t s : List ℕ) → length s ≤ end → ended m (got t (drop end s)) ≡ got (record { width = m; bytes = t }) []
 ended-all m end t s h = rw (drop_of_length-le s h)
 
+-- the exit of a `?`
+pub answered-refused : {s old new : List ℕ} {f : Fault} (r : Result ℕ Fault) → IsErrAnd r (λ g. g ≡ f) → Answered s old (Err f) new → Answered s old r new
+answered-refused r e x = record { answers = handed_on r e x.answers; leaves = x.leaves }
+
 module _ (s old : List ℕ) where
-  refusal : {f : Fault} → read_card (length old) s ≡ refused f → Answered s old (record { fault = f; value = 0 }) old
+  refusal : {f : Fault} → read_card (length old) s ≡ refused f → Answered s old (Err f) old
   refusal e = record { answers = sym (ap read_answer e); leaves = sym (ap (λ x. read_into x old) e) }
 
-  pub card-head : {f : Fault} → read_head (length old) s ≡ refused f → Answered s old (record { fault = f; value = 0 }) old
+  pub card-head : {f : Fault} → read_head (length old) s ≡ refused f → Answered s old (Err f) old
   unfolding read_card
   card-head e = refusal (rw e)
 
@@ -336,16 +325,16 @@ module _ (s old : List ℕ) where
     unfolding read_card
     card-is q = rw (head, q)
 
-    pub card-rows : {f : Fault} → end_of (read_rows m m rows) ≡ refused f → Answered s old (record { fault = f; value = 0 }) old
+    pub card-rows : {f : Fault} → end_of (read_rows m m rows) ≡ refused f → Answered s old (Err f) old
     card-rows e = refusal (card-is (end_refused (read_rows m m rows) e))
 
-    pub card-tail : {v end : ℕ} → end_of (read_rows m m rows) ≡ got v (drop end s) → end < length s → Answered s old (record { fault = card_tail; value = 0 }) old
+    pub card-tail : {v end : ℕ} → end_of (read_rows m m rows) ≡ got v (drop end s) → end < length s → Answered s old (Err card_tail) old
     card-tail {end = end} e h =
         let (t, q) = end-got (read_rows m m rows) e in
         refusal (card-is q ∙ ended-more m end t s h)
 
     pub card-done : {v end : ℕ} {r : Read ℕ} {new : List ℕ} → end_of (read_rows m m rows) ≡ got v (drop end s) → length s ≤ end →
-        RowsRead m 0 m rows r old new → Answered s old (record { fault = None; value = m }) new
+        RowsRead m 0 m rows r old new → Answered s old (Ok m) new
     card-done {end = end} e h f =
         let (t, q) = end-got (read_rows m m rows) e in
         let c : read_card (length old) s ≡ got (record { width = m; bytes = t }) [] = card-is q ∙ ended-all m end t s h in

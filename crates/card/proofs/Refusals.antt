@@ -1,6 +1,6 @@
 -- What a refusal of a card can be: a fault of the card's own, or one of its width. A test of faults that is false of each of these
 -- is false of every refusal.
-use Rattle.std.specs.Prelude.{is_ok}
+use Rattle.std.specs.Prelude.{Ok, Err}
 use mathlib.Core.Path.{◌≡◌, refl, sym, ap, ◌∙◌}
 use mathlib.Core.Bool.{Bool, true, false}
 use mathlib.Core.List.{List, [], ◌∷◌}
@@ -8,10 +8,11 @@ use Prim.Native.Nat.{ℕ, zero, suc, ◌+◌, ◌-◌, ◌*◌}
 use lib.Dec.{ltb, leb, eqb}
 use Rattle.gf2.specs.Operands.{choose}
 use Rattle.judging.specs.declared.fault.Fault.{Fault}
+use Rattle.judging.specs.Causes.{Verdict}
 use Rattle.judging.specs.Faults.{card_ends, card_number, card_form, card_place, card_tail}
 use Rattle.card.specs.Numbers.{Read, refused, got, and_then, second_group, read_number}
 use Rattle.card.specs.Rows.{after, read_places, read_row, row_of, read_rows}
-use Rattle.card.specs.Cards.{lent_verdict, read_width, read_head, ended, read_card}
+use Rattle.card.specs.Cards.{lent_verdict, passed, read_width, read_head, ended, read_card}
 
 -- the test is false of each fault that a card can have, where the lent table has `room` bytes
 pub record Apart (test : Fault → Bool) (room : ℕ) : Type 0 where
@@ -20,7 +21,7 @@ pub record Apart (test : Fault → Bool) (room : ℕ) : Type 0 where
   pub form : test card_form ≡ false
   pub place : test card_place ≡ false
   pub tail : test card_tail ≡ false
-  pub lent : (m : ℕ) → is_ok (lent_verdict room m) ≡ false → test (lent_verdict room m) ≡ false
+  pub lent : (m : ℕ) (f : Fault) → lent_verdict room m ≡ Err f → test f ≡ false
 
 -- what was read is a refusal of which the test is true
 abbrev meets : {A : Type 0} → (Fault → Bool) → Read A → Bool
@@ -35,6 +36,10 @@ module _ (test : Fault → Bool) where
   pick-apart : {A : Type 0} (t : Bool) (x y : Read A) → meets test x ≡ false → meets test y ≡ false → meets test (choose t x y) ≡ false
   pick-apart true x y hx hy = hx
   pick-apart false x y hx hy = hy
+
+  passed-apart : {A : Type 0} (v : Verdict) (a : A) (s : List ℕ) → ((f : Fault) → v ≡ Err f → test f ≡ false) → meets test (passed v a s) ≡ false
+  passed-apart (Ok u) a s h = refl
+  passed-apart (Err f) a s h = h f refl
 
   after-apart : (x : List ℕ) (y : Read (List ℕ)) → meets test y ≡ false → meets test (after x y) ≡ false
   after-apart x (refused f) h = h
@@ -69,11 +74,7 @@ module _ (test : Fault → Bool) (room : ℕ) (apart : Apart test room) where
 
   width-apart : (s : List ℕ) → meets test (read_width room s) ≡ false
   unfolding read_width
-  width-apart s = then-apart test (read_number s) _ (number-apart s) (λ m r. go m r (is_ok (lent_verdict room m)) refl)
-    where
-      go : (m : ℕ) (r : List ℕ) (b : Bool) → is_ok (lent_verdict room m) ≡ b → meets test (choose (is_ok (lent_verdict room m)) (got m r) (refused (lent_verdict room m))) ≡ false
-      go m r true e = rw e
-      go m r false e = rw e (apart.lent m e)
+  width-apart s = then-apart test (read_number s) _ (number-apart s) (λ m r. passed-apart test (lent_verdict room m) m r (apart.lent m))
 
   ended-apart : (m : ℕ) (x : Read (List ℕ)) → meets test x ≡ false → meets test (ended m x) ≡ false
   ended-apart m (refused f) h = h

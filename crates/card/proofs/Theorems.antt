@@ -1,45 +1,29 @@
 -- The proofs of the statements in specs/Statements.antt.
--- A refusal has a number. A card without fault has a table, and the call answers as the statements say.
-use Rattle.std.specs.Prelude.{Ok, is_ok}
+-- A card without fault has a table, and the call answers as the statements say.
+use Rattle.std.specs.Prelude.{IsOk}
+use Rattle.std.specs.Result.{is_ok, result_unwrap_or}
 use mathlib.Core.Path.{◌≡◌, refl, sym, ap, ap₂, ◌∙◌}
 use mathlib.Core.List.{List, []}
-use mathlib.Core.Bool.{true, false, true≢false}
+use mathlib.Core.Bool.{true≢false}
 use Prim.Native.Nat.{ℕ, ◌*◌, ◌≤◌}
 use lib.ListN.{length, take}
 use lib.Seq.{take_at}
 use Rattle.gf2.specs.Operands.{max_width, bytes_for}
 use Rattle.gf2.specs.Tables.{IsTable}
-use Rattle.judging.specs.declared.fault.Fault.{Fault}
 use Rattle.card.specs.Numbers.{Read, refused, got}
 use Rattle.card.specs.Cards.{card, Table, read_card}
 use Rattle.card.specs.Calls.{in_front, read_answer, read_into, read_call}
 use Rattle.card.specs.Statements.{Bytes, TableTrip, width_read, table_read, CardOf, CardLaws}
 use Rattle.card.proofs.Numbers.{read-written, written_read_lem}
 use Rattle.card.proofs.Trips.{rows-placed, rows-read, rows_written, card-read, card-written}
-use Rattle.card.proofs.Refusals.{card-refusals}
-
--- a refusal has a number
-card-blank : (room : ℕ) (s : List ℕ) (f : Fault) → read_card room s ≡ refused f → is_ok f ≡ false
-unfolding is_ok
-card-blank room s f e =
-    card-refusals is_ok room (record { ends = refl; number = refl; form = refl; place = refl; tail = refl; lent = λ m h. h }) s f e
 
 -- an answer without fault rests on a table
-pub found : (room : ℕ) (s : List ℕ) → (read_answer (read_card room s)).fault ≡ Ok tt → (t : Table) × (rest : List ℕ) × (read_card room s ≡ got t rest)
+pub found : (room : ℕ) (s : List ℕ) → IsOk (read_answer (read_card room s)) → (t : Table) × (rest : List ℕ) × (read_card room s ≡ got t rest)
 found room s e = go (read_card room s) refl e
   where
-    go : (x : Read Table) → read_card room s ≡ x → (read_answer x).fault ≡ Ok tt → (t : Table) × (rest : List ℕ) × (read_card room s ≡ got t rest)
-    go (refused f) q e =
-        absurd (true≢false (sym (none_true e) ∙ card-blank room s f q))
+    go : (x : Read Table) → read_card room s ≡ x → IsOk (read_answer x) → (t : Table) × (rest : List ℕ) × (read_card room s ≡ got t rest)
+    go (refused f) q e = absurd (true≢false (sym e))
     go (got t rest) q e = (t, rest, q)
-
--- and one without a number has no fault
-pub read_none : (s old : List ℕ) → is_ok (read_call s old).fault ≡ true → (read_call s old).fault ≡ Ok tt
-read_none s old n = go (read_card (length old) s) refl n
-  where
-    go : (x : Read Table) → read_card (length old) s ≡ x → is_ok (read_answer x).fault ≡ true → (read_answer x).fault ≡ Ok tt
-    go (refused f) q e = absurd (true≢false (sym e ∙ card-blank (length old) s f q))
-    go (got t rest) q e = refl
 
 front_of : (m : ℕ) (table old : List ℕ) → length table ≡ m * bytes_for m → take (m * bytes_for m) (in_front table old) ≡ table
 front_of m table old h = take_at table _ (m * bytes_for m) h
@@ -47,11 +31,11 @@ front_of m table old h = take_at table _ (m * bytes_for m) h
 same-card : {s : List ℕ} {m n : ℕ} {table t : List ℕ} → m ≡ n → table ≡ t → CardOf s n t → CardOf s m table
 same-card e q c = rw (e, q) c
 
-cards : (s old : List ℕ) → Bytes s → (read_call s old).fault ≡ Ok tt → CardOf s (width_read s old) (table_read s old)
+cards : (s old : List ℕ) → Bytes s → IsOk (read_call s old) → CardOf s (width_read s old) (table_read s old)
 cards s old small e =
     let (t, rest, q) = found (length old) s e in
     let r = card-written (length old) s t rest small q in
-    let w : width_read s old ≡ t.width = ap (λ x. (read_answer x).value) q in
+    let w : width_read s old ≡ t.width = ap (λ x. result_unwrap_or (read_answer x) 0) q in
     let b : table_read s old ≡ t.bytes = ap₂ (λ k x. take (k * bytes_for k) x) w (ap (λ x. read_into x old) q) ∙ front_of t.width t.bytes old r.is_table.size in
     same-card w b (record { least = r.lent.least; greatest = r.lent.greatest; shape = r.is_table; is_card = sym r.is_card })
 
@@ -60,8 +44,8 @@ tables m table least greatest t = record {
   answers = λ old h. ap read_answer (reads old h);
   fills = λ old h. ap (λ x. read_into x old) (reads old h);
   only = λ s old small a f.
-      let c = cards s old small (ap (λ x. x.fault) a) in
-      let w : width_read s old ≡ m = ap (λ x. x.value) a in
+      let c = cards s old small (ap is_ok a) in
+      let w : width_read s old ≡ m = ap (λ r. result_unwrap_or r 0) a in
       let b : table_read s old ≡ table = ap₂ (λ k x. take (k * bytes_for k) x) w f ∙ front_of m table old t.size in
       sym c.is_card ∙ ap₂ card w b;
 }

@@ -2,10 +2,9 @@
 -- Ranges: the bytes of a range of rows, row by row, and stored at their own place.
 -- Rows: a range written is read as it was; a range read is written as it was, and its rows are operands.
 -- Cards: a table's card is read as the table; a card read is the card of its table.
-use Rattle.std.specs.Prelude.{is_ok}
-use mathlib.Core.Path.{◌≡◌, sym, ap, ◌∙◌}
+use Rattle.std.specs.Prelude.{Ok, Err}
+use mathlib.Core.Path.{◌≡◌, refl, sym, ap, ◌∙◌}
 use mathlib.Core.List.{List, [], ◌∷◌, ◌++◌, append_assoc, append-nil}
-use mathlib.Core.Bool.{true}
 use Prim.Native.Nat.{ℕ, zero, suc, ◌+◌, ◌-◌, ◌*◌, ◌<◌, ◌≤◌}
 use native.Mathlib.Nat.{zero-mul, suc-mul, add-mul, mul-le-mul_right}
 use native.Mathlib.Numerals.{add-one}
@@ -18,12 +17,14 @@ use Rattle.gf2.specs.Operands.{max_width, bytes_for, IsOperand, choose}
 use Rattle.gf2.specs.Tables.{row, IsTable}
 use Rattle.gf2.proofs.Operands.{from-operand, length_from}
 use Rattle.judging.specs.Faults.{card_form}
+use Rattle.judging.specs.Causes.{Verdict}
 use Rattle.judging.proofs.CauseLaws.{fine, none-given}
 use Rattle.judging.proofs.Passed.{is-width, width-passes, has_room, room-passes}
 use Rattle.card.specs.Numbers.{number, Read, refused, got, read_number}
 use Rattle.card.specs.Rows.{rows_card, row_range, after, read_row, row_of, is_place, read_rows}
 use Rattle.card.specs.Cards.{card, lent_causes, lent_verdict, read_width, read_head, Table, ended, read_card}
 use Rattle.card.specs.Statements.{Bytes}
+use Rattle.card.specs.Cards as Cards
 use Rattle.card.proofs.Numbers.{no_value, parts, passed, read-written, written_read_lem}
 use Rattle.card.proofs.Places.{row-of-ones, row_read, after-got, row_written}
 
@@ -179,15 +180,15 @@ pub record Lent (room m : ℕ) : Type 0 where
   pub greatest : m ≤ max_width
   pub fits : m * bytes_for m ≤ room
 
-pub lent-fine : (room m : ℕ) → is_ok (lent_verdict room m) ≡ true → Lent room m
+pub lent-fine : (room m : ℕ) → lent_verdict room m ≡ Ok tt → Lent room m
 lent-fine room m e =
     let p = fine (lent_causes room m) e in
     let w = is-width m p.0 in
     record { least = w.least; greatest = w.greatest; fits = has_room _ _ p.1.0 }
 
-pub lent_none : {room m : ℕ} → Lent room m → is_ok (lent_verdict room m) ≡ true
+pub lent_none : {room m : ℕ} → Lent room m → lent_verdict room m ≡ Ok tt
 lent_none {room} {m} l =
-    none_true (none-given (lent_causes room m) (width-passes m (record { least = l.least; greatest = l.greatest }), (room-passes room (m * bytes_for m) l.fits, tt)))
+    none-given (lent_causes room m) (width-passes m (record { least = l.least; greatest = l.greatest }), (room-passes room (m * bytes_for m) l.fits, tt))
 
 pub card-read : (room m : ℕ) (table : List ℕ) → Lent room m → IsTable m table → read_card room (card m table) ≡ got (record { width = m; bytes = table }) []
 unfolding read_card read_head read_width card
@@ -201,6 +202,11 @@ card-read room m table l t =
       rows,
     )
 
+-- a verdict that has passed
+verdict_passed : {A : Type 0} (v : Verdict) {a b : A} {s rest : List ℕ} → Cards.passed v a s ≡ got b rest → (v ≡ Ok tt) × (got a s ≡ got b rest)
+verdict_passed (Ok u) e = (refl, e)
+verdict_passed (Err f) e = no_value e
+
 -- what a head without fault rests on
 pub record HeadParts (room : ℕ) (s : List ℕ) (m : ℕ) (rest : List ℕ) : Type 0 where
   pub middle : List ℕ
@@ -213,8 +219,8 @@ unfolding read_head read_width
 head-parts room s m rest e =
     let (f, q, e1, e2) = parts (read_number s) (λ form r. choose (eqb form 1) (read_width room r) (refused card_form)) e in
     let t = passed (eqb f 1) _ card_form e2 in
-    let (k, r, e3, e4) = parts (read_number q) (λ m rest. choose (is_ok (lent_verdict room m)) (got m rest) (refused (lent_verdict room m))) t.1 in
-    let u = passed (is_ok (lent_verdict room k)) (got k r) (lent_verdict room k) e4 in
+    let (k, r, e3, e4) = parts (read_number q) (λ m rest. Cards.passed (lent_verdict room m) m rest) t.1 in
+    let u = verdict_passed (lent_verdict room k) e4 in
     let em : k ≡ m = cc u.1 in
     let er : r ≡ rest = cc u.1 in
     record {

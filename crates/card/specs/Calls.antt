@@ -1,5 +1,6 @@
 -- What reading a card answers, for every input, and the buffer that it leaves.
-use Rattle.std.specs.Prelude.{List, ◌++◌, ℕ, length, drop, Ok}
+use Rattle.std.specs.Prelude.{List, ◌++◌, ℕ, length, drop, Result, Ok, Err}
+use Rattle.judging.specs.declared.fault.Fault.{Fault}
 use Rattle.card.specs.Numbers.{Read, refused, got}
 use Rattle.card.specs.Cards.{Table, read_card}
 

@@ -1,6 +1,7 @@
 -- What is proved of cards beside the contract of reading: the statements alone, over the definitions that the contract cites.
 -- Numbers, rows and cards: what is written is read as it was, and what is read is written as it was. A table has exactly one card.
-use Rattle.std.specs.Prelude.{◌≡◌, List, ◌++◌, ℕ, ◌+◌, ◌*◌, ◌<◌, ◌≤◌, length, take, Ok}
+use Rattle.std.specs.Prelude.{◌≡◌, List, ◌++◌, ℕ, ◌+◌, ◌*◌, ◌<◌, ◌≤◌, length, take, Ok, IsOk}
+use Rattle.std.specs.Result.{result_unwrap_or}
 use Rattle.std.proofs.lemmas.List.Edits.{sets}
 pub use Rattle.gf2.specs.Coordinates.{Bytes}
 use Rattle.gf2.specs.Operands.{max_width, bytes_for, IsOperand}

@@ -18,9 +18,7 @@ pub(crate) fn put_bytes(out: &mut [u8], at: usize, row: [u8; limbs::BYTES], size
     requires { (at ≤ max_width * carried_bytes) × (size ≤ carried_bytes) }
     ensures { out.new ≡ sets out.old at (take size row) }
 {
-    let mut b = 0;
-    while b < size {
+    for b in 0..size {
         put(out, at + b, row[b]);
-        b += 1;
     }
 }

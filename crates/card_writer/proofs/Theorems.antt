@@ -1,13 +1,13 @@
 -- The proofs of the statements in specs/Statements.antt.
-use Rattle.std.specs.Prelude.{Ok, is_ok}
-use mathlib.Core.Path.{◌≡◌, refl, ◌∙◌}
+use Rattle.std.specs.Prelude.{Ok}
+use mathlib.Core.Path.{◌≡◌, refl, sym, ◌∙◌}
 use mathlib.Core.List.{List, [], ◌∷◌}
 use Prim.Native.Nat.{ℕ, ◌≤◌}
 use lib.ListN.{length}
 use Rattle.gf2.specs.Coordinates.{coord}
 use Rattle.gf2.specs.Tables.{row}
 use Rattle.judging.specs.FaultTable.{too_short, shape_causes}
-use Rattle.judging.proofs.CauseLaws.{none-given}
+use Rattle.judging.proofs.CauseLaws.{none-given, answer-given}
 use Rattle.judging.proofs.Searches.{fine-append}
 use Rattle.judging.proofs.Passed.{room-passes}
 use Rattle.table.specs.Rows.{Shaped}
@@ -28,12 +28,10 @@ module _ (m : ℕ) (table out : List ℕ) (shape : Shaped m table) (fits : lengt
   write-none = none-given (write_causes m table (length out))
       (fine-append (shape_causes m table) (too_short (length out) (length (card m table)) ∷ []) (shape-passes shape) (room-passes (length out) (length (card m table)) fits, tt))
 
-  write-answers : write_call m table out ≡ (record { fault = None; value = length (card m table) })
-  unfolding is_ok
-  write-answers = rw write-none
+  write-answers : write_call m table out ≡ Ok (length (card m table))
+  write-answers = sym (answer-given (length (card m table)) write-none)
 
   write-writes : write_card m table out ≡ in_front (card m table) out
-  unfolding is_ok
   write-writes = rw write-none
 
 -- a card, and the table of which it is the card

@@ -2,7 +2,7 @@
 -- CardPut: bytes put at a place, one part after the other, and what is left to be put.
 -- Places and rows: the loops over the places of a row and over the rows.
 -- Calls: the answers of `write`, and the output afterwards.
-use Rattle.std.specs.Prelude.{Ok, is_ok}
+use Rattle.std.specs.Prelude.{Result, Ok, Err}
 use mathlib.Core.Path.{◌≡◌, refl, sym, ap, ap₂, ◌∙◌}
 use mathlib.Core.List.{List, [], ◌∷◌, ◌++◌}
 use mathlib.Core.Bool.{Bool, true, false}
@@ -28,13 +28,12 @@ use Rattle.ones.proofs.RowLimbs.{next_known, row-limbs}
 use Rattle.judging.specs.declared.fault.Fault.{Fault}
 use Rattle.judging.specs.declared.fault.Fault.TheVariants.{Call}
 use Rattle.judging.specs.declared.fault.CallFault.TheVariants.{OutputShort}
-use Rattle.judging.specs.Causes.{Cause}
+use Rattle.judging.specs.Causes.{Cause, Verdict}
 use Rattle.judging.specs.FaultTable.{too_short, shape_causes}
-use Rattle.judging.proofs.CauseLaws.{fine, head-holds, none-given, ends, follows}
+use Rattle.judging.proofs.CauseLaws.{fine, head-holds, none-given, ends, follows, answer-given, answer-refused}
 use Rattle.judging.proofs.Passed.{is-width, are-clear, room-passes}
 use Rattle.table.specs.Judgements.{shape_verdict}
 use Rattle.table.proofs.Shapes.{clear_row}
-use Rattle.card.specs.declared.CardAnswer.{CardAnswer}
 use Rattle.card.specs.Numbers.{number}
 use Rattle.card.specs.Rows.{places, steps, ones_of, row_card, rows_card}
 use Rattle.card.specs.Cards.{card}
@@ -149,7 +148,7 @@ pub steps-none : (x : List ℕ) (at : ℕ) (old : List ℕ) {count : ℕ} → co
 steps-none x at old e = record { counted = e; remains = left-all at (steps 0 (limb_ones x)) old }
 
 module _ {x : List ℕ} {at : ℕ} {old new : List ℕ} {next free left : ℕ} (to : StepsTo x at old new next free left) where
-  module _ (some : 0 < left) {r : ℕ} (e : r ≡ next_one x free) where
+  module _ {more : ℕ} (h : left ≡ suc more) {r : ℕ} (e : r ≡ next_one x free) where
     pub steps_next : Next x free r
     steps_next = next_place x free e (omega (arith, to.counted))
 
@@ -158,19 +157,19 @@ module _ {x : List ℕ} {at : ℕ} {old new : List ℕ} {next free left : ℕ} (
     steps-split = rw steps_next.first
 
     pub steps-fits : InCard at (steps 0 (limb_ones x)) → InCard next (number (r - free))
-    steps-fits h = in-first _ (steps (r + 1) (ones_from x (r + 1))) (rw steps-split at (left-fits to.remains h))
+    steps-fits within = in-first _ (steps (r + 1) (ones_from x (r + 1))) (rw steps-split at (left-fits to.remains within))
 
-    pub steps-more : {put : List ℕ} {then : ℕ} → CardPut next (number (r - free)) then new put → StepsTo x at old put then (r + 1) (left - 1)
+    pub steps-more : {put : List ℕ} {then : ℕ} → CardPut next (number (r - free)) then new put → StepsTo x at old put then (r + 1) more
     steps-more p = record { counted = omega (arith, to.counted, ap length steps_next.first); remains = left-more to.remains steps-split p }
 
-  steps_all : left ≤ 0 → ones_from x free ≡ []
+  steps_all : left ≡ 0 → ones_from x free ≡ []
   steps_all h = go (ones_from x free) (omega (arith, to.counted))
     where
       go : (l : List ℕ) → length l ≤ 0 → l ≡ []
       go [] h = refl
       go (p ∷ l) h = absurd (omega arith)
 
-  pub steps-done : left ≤ 0 → CardPut at (steps 0 (limb_ones x)) next old new
+  pub steps-done : left ≡ 0 → CardPut at (steps 0 (limb_ones x)) next old new
   unfolding steps
   steps-done h = left-done to.remains (ap (steps free) (steps_all h))
 
@@ -224,13 +223,12 @@ module _ {m : ℕ} {t : List ℕ} (ok : Writable m t) (d : ℕ) (l : d < m) {x :
 
 -- the loop over the rows: those below d are put
 pub record RowsPut (m : ℕ) (table : List ℕ) (start count at : ℕ) (old new : List ℕ) (next d : ℕ) : Type 0 where
-  pub within : d ≤ start + count
   pub remains : Left at (rows_card m table start count) old next (rows_card m table d (start + count - d)) new
 
 pub rows_none : (m : ℕ) (table : List ℕ) (start count at : ℕ) (old : List ℕ) → RowsPut m table start count at old old at start
 rows_none m table start count at old =
     let z : start + count - start ≡ count = omega arith in
-    record { within = omega arith; remains = rw z (left-all at (rows_card m table start count) old) }
+    record { remains = rw z (left-all at (rows_card m table start count) old) }
 
 module _ {m : ℕ} {table : List ℕ} {start count at : ℕ} {old new : List ℕ} {next d : ℕ} (to : RowsPut m table start count at old new next d) where
   rows_split : d < start + count → rows_card m table d (start + count - d) ≡ row_card m (row m table d) ++ rows_card m table (d + 1) (start + count - (d + 1))
@@ -241,7 +239,7 @@ module _ {m : ℕ} {table : List ℕ} {start count at : ℕ} {old new : List ℕ
   rows-fits f h = in-first _ (rows_card m table (d + 1) (start + count - (d + 1))) (rw (rows_split h) at (left-fits to.remains f))
 
   pub rows_more : {then : ℕ} {put : List ℕ} → d < start + count → CardPut next (row_card m (row m table d)) then new put → RowsPut m table start count at old put then (d + 1)
-  rows_more h p = record { within = omega arith; remains = left-more to.remains (rows_split h) p }
+  rows_more h p = record { remains = left-more to.remains (rows_split h) p }
 
   pub rows-done : start + count ≤ d → CardPut at (rows_card m table start count) next old new
   unfolding rows_card
@@ -263,7 +261,7 @@ module _ (m : ℕ) (table : List ℕ) where
   card-put p q r = put_both p (put_both q r)
 
 -- a table without fault of shape can be written
-pub shape-writable : (m : ℕ) (table : List ℕ) → is_ok (shape_verdict m table) ≡ true → Writable m table
+pub shape-writable : (m : ℕ) (table : List ℕ) → shape_verdict m table ≡ Ok tt → Writable m table
 shape-writable m table e =
     let p = fine (shape_causes m table) e in
     record {
@@ -272,7 +270,7 @@ shape-writable m table e =
     }
 
 -- the answer of `write`, and the output afterwards
-pub record Wrote (m : ℕ) (table old : List ℕ) (r : CardAnswer) (new : List ℕ) : Type 0 where
+pub record Wrote (m : ℕ) (table old : List ℕ) (r : Result ℕ Fault) (new : List ℕ) : Type 0 where
   pub answers : r ≡ write_call m table old
   pub leaves : new ≡ write_card m table old
 
@@ -280,21 +278,20 @@ module _ (m : ℕ) (table old : List ℕ) where
   abbrev short : Cause
   short = too_short (length old) (length (card m table))
 
-  wrote-fault : {f : Fault} → f ≡ write_verdict m table (length old) → is_ok f ≡ false → Wrote m table old (record { fault = f; value = 0 }) old
-  wrote-fault e n = record { answers = rw (← e, n); leaves = rw (← e, n) }
+  wrote-fault : {f : Fault} → Err f ≡ write_verdict m table (length old) → Wrote m table old (Err f) old
+  wrote-fault e = record { answers = answer-refused (length (card m table)) (sym e); leaves = rw (← e) }
 
-  -- b is the test whether the shape has no fault
-  module _ {f : Fault} {b : Bool} (e : f ≡ shape_verdict m table) (t : b ≡ is_ok f) where
-    pub wrote-shape : b ≡ false → Wrote m table old (record { fault = f; value = 0 }) old
-    wrote-shape q = wrote-fault (ends (shape_causes m table) (short ∷ []) e t q) (sym t ∙ q)
+  -- v is the verdict on the shape
+  module _ {v : Verdict} (e : v ≡ shape_verdict m table) where
+    pub wrote-shape : {f : Fault} → v ≡ Err f → Wrote m table old (Err f) old
+    wrote-shape q = wrote-fault (ends (shape_causes m table) (short ∷ []) e q)
 
-    module _ (q : b ≡ true) {n : ℕ} (size : n ≡ 0 + length (card m table)) where
-      pub wrote-short : length old < n → Wrote m table old (record { fault = Call OutputShort; value = 0 }) old
+    module _ (q : v ≡ Ok tt) {n : ℕ} (size : n ≡ 0 + length (card m table)) where
+      pub wrote-short : length old < n → Wrote m table old (Err (Call OutputShort)) old
       wrote-short h =
-          wrote-fault (follows (shape_causes m table) (short ∷ []) e t q (sym (head-holds short [] (lt-ltb (length old) (length (card m table)) (omega arith))))) (some short)
+          wrote-fault (follows (shape_causes m table) (short ∷ []) e q (sym (head-holds short [] (lt-ltb (length old) (length (card m table)) (omega arith)))))
 
-      pub wrote-card : {new : List ℕ} → n ≤ length old → new ≡ sets old 0 (card m table) → Wrote m table old (record { fault = None; value = n }) new
-      unfolding is_ok
+      pub wrote-card : {new : List ℕ} → n ≤ length old → new ≡ sets old 0 (card m table) → Wrote m table old (Ok n) new
       wrote-card h s =
-          let z = follows (shape_causes m table) (short ∷ []) e t q (sym (none-given (short ∷ []) (room-passes (length old) (length (card m table)) (omega arith), tt))) in
-          record { answers = rw (← z, size, zero-add); leaves = s ∙ rw (← z) (sets-front old (card m table) (omega arith)) }
+          let z = follows (shape_causes m table) (short ∷ []) e q (sym (none-given (short ∷ []) (room-passes (length old) (length (card m table)) (omega arith), tt))) in
+          record { answers = rw (size, zero-add) (answer-given (length (card m table)) (sym z)); leaves = s ∙ rw (← z) (sets-front old (card m table) (omega arith)) }

@@ -1,6 +1,6 @@
 -- What is proved of writing beside its contract: the statements alone, over the definitions that the contracts cite.
 -- A card that was read is written as it was. How long a card can be. The cards of the four carried tables, byte by byte.
-use Rattle.std.specs.Prelude.{◌≡◌, List, [], ◌∷◌, ◌++◌, ℕ, zero, suc, ◌≤◌, length, Ok}
+use Rattle.std.specs.Prelude.{◌≡◌, List, [], ◌∷◌, ◌++◌, ℕ, zero, suc, ◌≤◌, length, Ok, IsOk}
 use Rattle.gf2.specs.Operands.{bytes_for, ones}
 use Rattle.gf2.specs.Tables.{IsTable}
 use Rattle.table.specs.Carried.{carried2, carried3, carried4, carried5}

@@ -30,13 +30,10 @@ fn put_places(out: &mut [u8], at: usize, row: &[u64; limbs::LIMBS], count: usize
 {
     let mut next = at;
     let mut free = 0;
-    let mut left = count;
-    while 0 < left {
+    for _ in 0..count {
         let i = ones::next_one(row, free);
-        let then = put_number(out, next, i - free);
-        next = then;
+        next = put_number(out, next, i - free);
         free = i + 1;
-        left -= 1;
     }
     next
 }
@@ -65,11 +62,8 @@ fn put_rows(
     ensures { CardPut at (rows_card width table.now start count) result out.old out.new }
 {
     let mut next = at;
-    let mut d = start;
-    while d < start + count {
-        let then = put_row(out, next, table, width, d);
-        next = then;
-        d += 1;
+    for d in start..start + count {
+        next = put_row(out, next, table, width, d);
     }
     next
 }

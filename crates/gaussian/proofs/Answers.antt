@@ -1,49 +1,53 @@
--- What the calls answer, by the fault that is given.
-use Rattle.std.specs.Prelude.{Ok, is_ok}
-use mathlib.Core.Path.{◌≡◌, sym, ap, ◌∙◌}
+-- What the calls answer, by the verdict.
+use Rattle.std.specs.Prelude.{Option, None, Some, Result, Ok, Err}
+use Rattle.core.specs.Option.{ok_or}
+use mathlib.Core.Path.{◌≡◌, refl, sym, ap, ◌∙◌}
 use mathlib.Core.Bool.{Bool, true, false}
 use mathlib.Core.List.{List, [], ◌∷◌, ◌++◌}
 use Prim.Native.Nat.{ℕ, ◌*◌, ◌≤◌}
+use lib.ListN.{length}
+use lib.Dec.{eqb}
 use borrow.Author.Tests.{eq-eqb, ne_eqb, eqb-false}
-use Rattle.gf2.specs.Operands.{max_width, bytes_for}
+use Rattle.gf2.specs.Operands.{max_width, bytes_for, choose}
 use Rattle.judging.specs.declared.fault.Fault.{Fault}
 use Rattle.judging.specs.declared.fault.Fault.TheVariants.{Call}
 use Rattle.judging.specs.declared.fault.CallFault.TheVariants.{NoType}
-use Rattle.judging.specs.Causes.{Cause, judged}
-use Rattle.judging.proofs.CauseLaws.{fine, ends, goes_on}
+use Rattle.judging.specs.Causes.{Cause, Verdict, judged, answered}
+use Rattle.judging.proofs.CauseLaws.{fine, stops, goes_on, answer-given, answer-refused}
 use Rattle.judging.proofs.Passed.{is-width, as-laid-down}
-use Rattle.gaussian.specs.declared.TypeAnswer.{TypeAnswer}
 use Rattle.gaussian.specs.Types.{type_of}
+use Rattle.gaussian.specs.Table.{drawn}
 use Rattle.gaussian.specs.Causes.{type_zero, draw_causes}
-use Rattle.gaussian.specs.Calls.{answer, draw_fault, draw_call}
-use Rattle.gaussian.specs.Inner.{Drawable}
+use Rattle.gaussian.specs.Calls.{answer, draw_verdict, draw_call, drawn_into}
+use Rattle.gaussian.specs.Inner.{Drawable, listed}
 use Rattle.gaussian.proofs.TypeBound.{type-small}
 use Rattle.gaussian.proofs.Theorems.{type-list, type-orders}
 
-abbrev pub given : Fault → ℕ → TypeAnswer
-given f t = record { fault = f; t = t }
-
-refused : (m : ℕ) {f g : Fault} → f ≡ g → is_ok g ≡ false → given f 0 ≡ answer g m
-unfolding answer
-refused m e n = rw (e, n)
-
--- a part that code has judged: f is its fault, b the test whether that is none
-module _ (m : ℕ) (cs ds : List Cause) {f : Fault} {b : Bool} (e : f ≡ judged cs) (t : b ≡ is_ok f) where
-  pub answer-ends : b ≡ false → given f 0 ≡ answer (judged (cs ++ ds)) m
-  answer-ends q = refused m (ends cs ds e t q) (ends_some cs ds e t q)
-
-  pub answer-follows : {r : TypeAnswer} → b ≡ true → r ≡ answer (judged ds) m → r ≡ answer (judged (cs ++ ds)) m
-  answer-follows q h = h ∙ ap (λ g. answer g m) (sym (goes_on cs ds (judged cs ds e t q)))
-
 -- the entry of the list
-module _ (m : ℕ) {t : ℕ} (e : t ≡ type_of m) where
-  pub type-refused : t ≡ 0 → given (Call NoType) 0 ≡ answer (judged (type_zero m ∷ [])) m
-  unfolding answer is_ok judged
-  type-refused z = rw (eq-eqb (type_of m) 0 (sym e ∙ z))
+module _ (m : ℕ) where
+  pub listed-none : type_of m ≡ 0 → None ≡ listed m
+  unfolding listed
+  listed-none z = rw (eq-eqb (type_of m) 0 z)
 
-  pub type-given : ¬ (t ≡ 0) → given None t ≡ answer (judged (type_zero m ∷ [])) m
-  unfolding answer is_ok judged
-  type-given n = rw (ne_eqb (type_of m) 0 (λ z. n (e ∙ z)), e)
+  pub listed-some : {t : ℕ} → t ≡ type_of m → ¬ (type_of m ≡ 0) → Some t ≡ listed m
+  unfolding listed
+  listed-some e n = rw (e, ne_eqb (type_of m) 0 n)
+
+  pub listed-answer : ok_or (listed m) (Call NoType) ≡ answer (judged (type_zero m ∷ [])) m
+  unfolding listed judged answered
+  listed-answer = go (eqb (type_of m) 0)
+    where
+      go : (b : Bool) → ok_or (choose b None (Some (type_of m))) (Call NoType) ≡ answered (choose b (Err (Call NoType)) (Ok tt)) (type_of m)
+      go true = refl
+      go false = refl
+
+-- a part that code has judged: v is its verdict
+module _ (m : ℕ) (cs ds : List Cause) {v : Verdict} (e : v ≡ judged cs) where
+  pub answer-ends : {f : Fault} → v ≡ Err f → Err f ≡ answer (judged (cs ++ ds)) m
+  answer-ends q = answer-refused (type_of m) (stops cs ds (sym e ∙ q))
+
+  pub answer-follows : {r : Result ℕ Fault} → v ≡ Ok tt → r ≡ answer (judged ds) m → r ≡ answer (judged (cs ++ ds)) m
+  answer-follows q h = h ∙ ap (λ w. answer w m) (sym (goes_on cs ds (sym e ∙ q)))
 
 module _ (m size : ℕ) where
   -- what is judged when there is no fault
@@ -53,7 +57,7 @@ module _ (m size : ℕ) where
     pub laid_down : size ≡ m * bytes_for m
     pub typed : ¬ (type_of m ≡ 0)
 
-  pub draw-fine : is_ok (draw_fault m size) ≡ true → DrawFine
+  pub draw-fine : draw_verdict m size ≡ Ok tt → DrawFine
   draw-fine e =
       let p = fine (draw_causes m size) e in
       let w = is-width m p.0 in
@@ -68,11 +72,14 @@ module _ (m size : ℕ) where
     small = type-small m d.least d.greatest;
   }
 
-  module _ {r : TypeAnswer} (e : r ≡ draw_call m size) where
-    pub fault-drawn : r.fault ≡ draw_fault m size
-    unfolding answer
-    fault-drawn = ap (λ a. a.fault) e
+-- the answer of `draw`, and the table afterwards
+pub record Drew (m : ℕ) (old : List ℕ) (r : Result ℕ Fault) (new : List ℕ) : Type 0 where
+  pub answers : r ≡ draw_call m (length old)
+  pub leaves : new ≡ drawn_into m old
 
-    pub type-drawn : is_ok (draw_fault m size) ≡ true → r.t ≡ type_of m
-    unfolding answer
-    type-drawn n = ap (λ a. a.t) e ∙ rw n
+module _ (m : ℕ) (old : List ℕ) where
+  pub drew-none : {f : Fault} → Err f ≡ draw_verdict m (length old) → Drew m old (Err f) old
+  drew-none e = record { answers = answer-refused (type_of m) (sym e); leaves = rw (← e) }
+
+  pub drew-table : {t : ℕ} {new : List ℕ} → draw_verdict m (length old) ≡ Ok tt → t ≡ type_of m → new ≡ drawn m t → Drew m old (Ok t) new
+  drew-table e t h = record { answers = rw t (answer-given (type_of m) e); leaves = rw e (h ∙ ap (drawn m) t) }

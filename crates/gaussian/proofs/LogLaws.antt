@@ -20,7 +20,6 @@ use Rattle.gaussian.proofs.Cosets.{power-one, coset-in, coset-out}
 use Rattle.gaussian.proofs.ResidueLaws.{residue, residue-of}
 
 pub record LogLoop (m t : ℕ) (logs : List ℕ) (y s : ℕ) : Type 0 where
-  pub within : s ≤ m
   pub power : (2 ^ t) ^ s % modulus m t ≡ y
   pub less : Residue (modulus m t) y
   pub entries : Logarithms m t s logs
@@ -32,7 +31,6 @@ no-logarithms m t = record { size = length-replicate {A = ℕ} residues 0; known
 module _ {m t : ℕ} (d : Drawable m t) where
   pub log-start : {logs : List ℕ} → Logarithms m t 0 logs → LogLoop m t logs 1 0
   log-start l = let h = d.is_type.0.0 in record {
-    within = omega arith;
     power = ap (λ x. x % modulus m t) (pow-zero (2 ^ t)) ∙ mod-eq_of_lt h;
     less = residue 1 d h;
     entries = l;
@@ -55,7 +53,6 @@ module _ {m t : ℕ} (d : Drawable m t) where
 
     pub log-more : {base z : ℕ} → base ≡ 2 ^ t % modulus m t → z ≡ y * base % modulus m t → LogLoop m t (set logs y (s + 1)) z (s + 1)
     log-more {base} e ez = record {
-      within = omega arith;
       power =
           ap (λ k. (2 ^ t) ^ k % modulus m t) (add-one s) ∙ ap (λ x. x % modulus m t) (pow-suc (2 ^ t) s)
           ∙ mul-cong ((2 ^ t) ^ s) y (2 ^ t) base (modulus m t) (l.power ∙ sym (mod-eq_of_lt l.less.less)) (sym (mod-mod (2 ^ t) (modulus m t)) ∙ ap (λ x. x % modulus m t) (sym e))
@@ -64,8 +61,8 @@ module _ {m t : ℕ} (d : Drawable m t) where
       entries = record { size = length-set logs y (s + 1) ∙ l.entries.size; known = new-known; sound = new-sound };
     }
 
-  pub log-done : {logs : List ℕ} {y s : ℕ} → LogLoop m t logs y s → m ≤ s → Logarithms m t m logs
-  log-done {logs} {y} {s} l h = let e : s ≡ m = omega (arith, l.within) in rw e at l.entries
+  pub log-done : {logs : List ℕ} {y s : ℕ} → LogLoop m t logs y s → s ≡ m → Logarithms m t m logs
+  log-done l e = rw e at l.entries
 
 -- what a residue gives, by its logarithm
 pub gives-odd : (p t x i : ℕ) → x ≡ 0 → t % 2 ≡ 1 → 1 % 2 ≡ gives p t x i % 2

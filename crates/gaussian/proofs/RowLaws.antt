@@ -6,7 +6,9 @@ use Prim.Native.Nat.{ℕ, zero, suc, ◌+◌, ◌*◌, ◌/◌, ◌%◌, ◌^◌
 use native.Mathlib.Nat.{add-zero, add-suc, zero-mul, zero-div, one-mul, mod-eq_of_lt, mul-le-mul, zero-add, suc-add, suc-mul, mul-le-mul_right, lt_irrefl, lt_of_lt_of_le}
 use native.Mathlib.Decide.{ℕ_discrete}
 use native.Mathlib.Omega.{arith}
-use lib.ListN.{length, get_or, set, take, drop, length-set, length-append, length-drop, get_or-append}
+use native.Mathlib.Numerals.{add-one}
+use Rattle.std.proofs.lemmas.List.{replicate_more}
+use lib.ListN.{length, get_or, set, take, drop, replicate, length-set, length-append, length-drop, get_or-append}
 use lib.Seq.{take_all, drop_at, drop-append-le, take-append-le, get_or-append-add, set-append_left, get_or-set_same, get_or-set_other}
 use lib.Bits.{bit_xor, xor_lt}
 use lib.Dec.{eqb, ltb}
@@ -138,6 +140,11 @@ zero_row m = pack-of (bytes_for m) (λ b. 0) _ (λ b h. omega arith) (λ b j h l
     zeros false = refl
 
 -- a table of zeros
+pub zeros-table : (n : ℕ) → replicate n 0 ≡ tabulate n (λ b. 0)
+unfolding tabulate
+zeros-table zero = refl
+zeros-table (suc n) = ap (λ k. replicate k 0) (sym (add-one n)) ∙ sym (replicate_more n 0) ∙ ap (λ l. l ++ (0 ∷ [])) (zeros-table n)
+
 pub zero-rows : (m n : ℕ) → tabulate (n * bytes_for m) (λ b. 0) ≡ rows_of m n (λ d s. 0)
 unfolding rows_of
 zero-rows m zero = unfold tabulate in rw zero-mul

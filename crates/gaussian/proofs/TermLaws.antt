@@ -4,17 +4,16 @@ use mathlib.Core.List.{List}
 use Prim.Native.Nat.{ℕ, ◌+◌, ◌*◌, ◌%◌, ◌^◌, ◌≤◌}
 use native.Mathlib.Nat.{add_comm, mul_comm, mul_assoc, one-mul, mod-eq_of_lt, mod-add-mod, pow-zero, pow-succ'}
 use native.Mathlib.Numerals.{add-one}
-use lib.ListN.{length}
+use lib.ListN.{length, replicate}
 use borrow.Author.Tests.{eq-eqb, ne_eqb}
 use Rattle.gf2.specs.Sums.{sum}
-use Rattle.gf2.specs.Coordinates.{tabulate}
 use Rattle.gf2.specs.Operands.{bytes_for}
 use Rattle.gaussian.specs.Types.{modulus}
 use Rattle.gaussian.specs.Table.{in_k, gives, term, row_coord, rows_of, drawn}
 use Rattle.gaussian.specs.Inner.{Residue, in_row, Adds}
 use Rattle.gf2.proofs.Remainders.{mul_mod_left}
 use Rattle.gaussian.proofs.ResidueLaws.{residue-of}
-use Rattle.gaussian.proofs.RowLaws.{zero-rows}
+use Rattle.gaussian.proofs.RowLaws.{zeros-table, zero-rows}
 use Rattle.gaussian.proofs.AddLaws.{adds_none, up_to, rows_none, rows_more, rows_all}
 
 -- what w gives in row d
@@ -69,9 +68,9 @@ module _ (m t p w : ℕ) where
 abbrev pub partial : ℕ → ℕ → ℕ → List ℕ
 partial m t n = rows_of m m (λ d s. sum n (λ w. term (modulus m t) t w d s))
 
-pub sum-start : (m t : ℕ) {l : List ℕ} → l ≡ tabulate (m * bytes_for m) (λ b. 0) → l ≡ partial m t 0
+pub sum-start : (m t : ℕ) {l : List ℕ} → l ≡ replicate (m * bytes_for m) 0 → l ≡ partial m t 0
 unfolding sum
-sum-start m t e = e ∙ zero-rows m m
+sum-start m t e = e ∙ zeros-table (m * bytes_for m) ∙ zero-rows m m
 
 pub sum_more : (m t w : ℕ) {l k : List ℕ} → l ≡ partial m t w → Adds m (term (modulus m t) t w) l k → k ≡ partial m t (w + 1)
 unfolding sum

@@ -1,7 +1,7 @@
 -- Inner definitions, which no contract of a public function cites: what drawing states of residues, logarithms and tables.
-use Rattle.std.specs.Prelude.{◌≡◌, List, ℕ, ◌+◌, ◌*◌, ◌%◌, ◌^◌, ◌<◌, ◌≤◌, length, get_or, eqb}
+use Rattle.std.specs.Prelude.{◌≡◌, List, ℕ, ◌+◌, ◌*◌, ◌%◌, ◌^◌, ◌<◌, ◌≤◌, length, get_or, eqb, Option, None, Some}
 use Rattle.gf2.specs.Operands.{max_width, bytes_for, choose}
-use Rattle.gaussian.specs.Types.{IsType, modulus, max_type}
+use Rattle.gaussian.specs.Types.{IsType, modulus, type_of, max_type}
 use Rattle.gaussian.specs.Table.{rows_of}
 
 -- one more than the greatest modulus that a listed type can give
@@ -42,9 +42,5 @@ abbrev pub Adds : ℕ → (ℕ → ℕ → ℕ) → List ℕ → List ℕ → Ty
 Adds m h old new = (f : ℕ → ℕ → ℕ) → old ≡ rows_of m m f → new ≡ rows_of m m (λ d s. f d s + h d s)
 
 -- the list's entry for a width, where it isn't 0
-abbrev pub some_type : ℕ → Option ℕ
-some_type zero = None
-some_type (suc t) = Some (suc t)
-
 unfoldable pub listed : ℕ → Option ℕ
-listed m = some_type (type_of m)
+listed m = choose (eqb (type_of m) 0) None (Some (type_of m))

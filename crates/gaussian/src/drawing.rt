@@ -1,6 +1,5 @@
 // Drawing the table of a width and its type: a sum over the w of K, each of which adds to every row.
-ghost use Rattle.std.specs.Prelude.{◌≡◌, ◌+◌, ◌*◌, ◌%◌, ◌^◌, ◌<◌, length, eqb};
-ghost use Rattle.gf2.specs.Coordinates.{tabulate};
+ghost use Rattle.std.specs.Prelude.{◌≡◌, ◌+◌, ◌*◌, ◌%◌, ◌^◌, ◌<◌, eqb};
 ghost use Rattle.gf2.specs.Operands.{choose};
 ghost use Rattle.gaussian.specs.Types.{modulus};
 ghost use Rattle.gaussian.specs.Table.{gives, term, drawn};
@@ -14,7 +13,7 @@ fn flip(table: &mut [u8], m: usize, d: usize, s: usize)
     ensures { Adds m (in_row d (λ i. choose (eqb i s) 1 0)) table.old table.new }
 {
     let at = d * limbs::bytes_for(m) + s / 8;
-    table[at] = table[at] ^ (1u8 << (s % 8));
+    table[at] ^= 1u8 << (s % 8);
 }
 
 // All ones are added to row d.
@@ -22,10 +21,8 @@ fn flip_row(table: &mut [u8], m: usize, d: usize)
     requires { HasRow m d table.old }
     ensures { Adds m (in_row d (λ i. 1)) table.old table.new }
 {
-    let mut s = 0;
-    while s < m {
+    for s in 0..m {
         flip(table, m, d, s);
-        s += 1;
     }
 }
 
@@ -53,11 +50,9 @@ fn add_images(table: &mut [u8], logs: &[u16], m: usize, t: usize, w: u32)
 {
     let p = residues::modulus(m, t);
     let mut y = w;
-    let mut d = 0;
-    while d < m {
+    for d in 0..m {
         add_image(table, logs, m, t, d, residues::plus_one(y, p));
         y = residues::times(y, 2, p);
-        d += 1;
     }
 }
 
@@ -71,29 +66,16 @@ fn add_term(table: &mut [u8], logs: &[u16], m: usize, t: usize, w: u32)
     }
 }
 
-// Every byte becomes 0.
-fn clear(table: &mut [u8])
-    ensures { table.new ≡ tabulate (length table.old) (λ b. 0) }
-{
-    let mut b = 0;
-    while b < table.len() {
-        table[b] = 0;
-        b += 1;
-    }
-}
-
 // The table of width m and type T: the sum of the terms of all w below p.
 pub(crate) fn fill(table: &mut [u8], m: usize, t: usize)
     requires { Drawable m t × HasRow m 0 table.old }
     ensures { table.new ≡ drawn m t }
 {
-    clear(table);
+    table.fill(0);
     let p = residues::modulus(m, t);
     let mut logs = [0u16; residues::RESIDUES];
     residues::logarithms(&mut logs, m, t);
-    let mut w: u32 = 0;
-    while w < p {
+    for w in 0..p {
         add_term(table, &logs, m, t, w);
-        w += 1;
     }
 }

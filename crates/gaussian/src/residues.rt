@@ -30,7 +30,7 @@ pub(crate) fn times(x: u32, y: u32, p: u32) -> u32
     requires { Residue p x × Residue p y }
     ensures { result ≡ x * y % p }
 {
-    (x as u64 * y as u64 % p as u64) as u32
+    (u64::from(x) * u64::from(y) % u64::from(p)) as u32
 }
 
 // r, times x where the last binary digit of e is 1.
@@ -52,7 +52,7 @@ pub(crate) fn power(x: u32, e: usize, p: u32) -> u32
     while 0 < left {
         r = digit(r, square, left, p);
         square = times(square, square, p);
-        left = left / 2;
+        left /= 2;
     }
     r
 }
@@ -66,11 +66,9 @@ pub(crate) fn logarithms(logs: &mut [u16], m: usize, t: usize)
     let p = modulus(m, t);
     let base = power(2, t, p);
     let mut y: u32 = 1;
-    let mut s = 0;
-    while s < m {
+    for s in 0..m {
         logs[y as usize] = (s + 1) as u16;
         y = times(y, base, p);
-        s += 1;
     }
 }
 
@@ -80,5 +78,5 @@ pub(crate) fn logarithm(logs: &[u16], m: usize, t: usize, x: u32) -> usize
     ensures { result ≡ get_or logs.now (x ^ t % modulus m t) 0 }
 {
     let y = power(x, t, modulus(m, t));
-    logs[y as usize] as usize
+    usize::from(logs[y as usize])
 }

@@ -158,3 +158,23 @@ verdict_err e h = sym e ∙ ap verdict_of h
 
 pub verdict_ok : {A : Type 0} {r : Result A Fault} {x : A} {v : Verdict} → verdict_of r ≡ v → r ≡ Ok x → v ≡ Ok tt
 verdict_ok e h = sym e ∙ ap verdict_of h
+
+-- gaussian: an answer by its verdict, and the verdict of an answer that has a value, and of one that has none
+module _ {A : Type 0} (x : A) {v : Verdict} where
+  pub answer-given : v ≡ Ok tt → Ok x ≡ answered v x
+  unfolding answered
+  answer-given e = rw e
+
+  pub answer-refused : {f : Fault} → v ≡ Err f → Err f ≡ answered v x
+  unfolding answered
+  answer-refused e = rw e
+
+pub answer-passed : {A : Type 0} (v : Verdict) {x y : A} → answered v x ≡ Ok y → (v ≡ Ok tt) × (x ≡ y)
+unfolding answered
+answer-passed (Ok _) e = (refl, cc)
+answer-passed (Err f) e = ok_or_err e
+
+pub answer-failed : {A : Type 0} (v : Verdict) (x : A) {f : Fault} → answered v x ≡ Err f → v ≡ Err f
+unfolding answered
+answer-failed (Ok _) x e = ok_or_err (sym e)
+answer-failed (Err g) x e = ap Err (same_fault (Err g) refl e)

@@ -1,12 +1,13 @@
 -- `card::reading::head_at` meets its contract.
-use Rattle.card.proofs.ReadSteps.{got_of, refused-of, head-refused, head-some, head-form}
+use mathlib.Core.Path.{sym}
+use Rattle.card.proofs.ReadSteps.{told-refused, head-refused, head-some, head-form}
 use Rattle.card.proofs.reading.head_at.Goals as goal
 
-pub returns-in-Refused : goal.returns-in-Refused
-returns-in-Refused c = head-refused _ _ (refused-of _ c.number_at.ensures c.in-Refused.is)
+pub returns-in_err-form : goal.returns-in_err-form
+returns-in_err-form c = told-refused _ c.from_residual.result c.from_residual.ensures.1 (head-refused _ _ (sym c.in_err-form.ensures))
 
-pub returns-then-form-eq1 : goal.returns-then-form-eq1
-returns-then-form-eq1 c = head-some _ _ (got_of _ c.number_at.ensures c.in-Got.is) c.if-form-eq1.true c.width_at.ensures
+pub returns-then-form-ne1 : goal.returns-then-form-ne1
+returns-then-form-ne1 c = head-form _ _ (sym c.in_ok-form.ensures) c.if-form-ne1.true
 
-pub returns-else-form-eq1 : goal.returns-else-form-eq1
-returns-else-form-eq1 c = head-form _ _ (got_of _ c.number_at.ensures c.in-Got.is) c.if-form-eq1.false
+pub returns : goal.returns
+returns c = head-some _ _ (sym c.in_ok-form.ensures) c.if-form-ne1.false c.width_at.ensures

@@ -1,21 +1,33 @@
 -- `card::reading::places_at` meets its contract.
-use Rattle.card.proofs.ReadSteps.{bit-value, got_of, refused-of, places-none, places-refused, places-far, places-more, places-done}
+use mathlib.Core.Path.{◌≡◌, sym}
+use Prim.Native.Nat.{suc, ◌+◌, ◌-◌}
+use native.Mathlib.Nat.{sub-zero}
+use native.Mathlib.Omega.{arith}
+use Rattle.card.proofs.ReadSteps.{bit-value, told-refused, places-none, places-refused, places-far, places-more, places-done}
 use Rattle.card.proofs.reading.places_at.Goals as goal
+use Rattle.card.proofs.reading.places_at.Goals.{After-number_at}
 
-pub loop-left-init : goal.loop-left-init
-loop-left-init c = places-none _ _ _
+-- this place is left, and the others
+left : (c : After-number_at) → c.args.count - c.loop.counter ≡ suc (c.args.count - (c.loop.counter + 1))
+left c = let w = c.loop-test.true in omega arith
 
-pub returns-in-Refused : goal.returns-in-Refused
-returns-in-Refused c =
-    places-refused c.loop-left.invariant c.loop-left-test.true (refused-of _ c.number_at.ensures c.in-Refused.is)
+pub loop-init : goal.loop-init
+loop-init c = rw sub-zero (places-none _ _ _)
+
+pub returns-in_err-step : goal.returns-in_err-step
+returns-in_err-step c =
+    told-refused _ c.from_residual.result c.from_residual.ensures.1 (places-refused c.loop.invariant (left (goal.at.returns-in_err-step c).After-number_at) (sym c.in_err-step.ensures))
+
+pub overflow_sub-width : goal.overflow_sub-width
+overflow_sub-width c = c.loop.invariant.within
 
 pub returns-then-width-free : goal.returns-then-width-free
 returns-then-width-free c =
-    places-far c.loop-left.invariant c.loop-left-test.true (got_of _ c.number_at.ensures c.in-Got.is) c.if-width-free.true
+    places-far c.loop.invariant (left (goal.at.returns-then-width-free c).After-number_at) (sym c.in_ok-step.ensures) c.if-width-free.true
 
-pub loop-left-preserved : goal.loop-left-preserved
-loop-left-preserved c =
-    rw bit-value (places-more c.loop-left.invariant c.requires c.loop-left-test.true (got_of _ c.number_at.ensures c.in-Got.is) c.if-width-free.false)
+pub loop-preserved : goal.loop-preserved
+loop-preserved c =
+    rw bit-value (places-more c.loop.invariant c.requires (left (goal.at.loop-preserved c).After-number_at) (sym c.in_ok-step.ensures) c.if-width-free.false)
 
 pub returns : goal.returns
-returns c = places-done c.loop-left.invariant c.loop-left-test.false
+returns c = places-done c.loop.invariant (omega arith)

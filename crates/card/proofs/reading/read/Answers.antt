@@ -1,35 +1,42 @@
 -- `card::reading::read` meets its contract.
+use mathlib.Core.Path.{sym, ◌∙◌}
 use native.Mathlib.Omega.{arith}
 use Rattle.card.proofs.Trips.{head-parts}
-use Rattle.card.proofs.ReadSteps.{got_of, refused-of, card-head, card-rows, card-tail, card-done}
+use Rattle.card.proofs.Numbers.{no_value}
+use Rattle.card.proofs.ReadSteps.{answered-refused, card-head, card-rows, card-tail, card-done}
 use Rattle.card.proofs.reading.read.Goals as goal
+
+pub returns-in_err-width : goal.returns-in_err-width
+returns-in_err-width c =
+    let x = answered-refused c.from_residual.result c.from_residual.ensures.1 (card-head _ _ (sym c.in_err-width.ensures)) in
+    record { answer = x.answers; table = x.leaves }
 
 pub rows_at-requires : goal.rows_at-requires
 rows_at-requires c =
-    let lent = (head-parts _ _ _ _ (got_of _ c.head_at.ensures c.in-Got.is)).lent in
+    let lent = (head-parts _ _ _ _ (sym c.in_ok-width.ensures)).lent in
     (lent.greatest, omega arith)
 
-pub rows_at-requires-else-end-card : goal.rows_at-requires-else-end-card
-rows_at-requires-else-end-card c =
-    let lent = (head-parts _ _ _ _ (got_of _ c.head_at.ensures c.in-Got.is)).lent in
-    (lent.greatest, omega arith)
-
-pub returns-in-Refused : goal.returns-in-Refused
-returns-in-Refused c =
-    let x = card-head _ _ (refused-of _ c.head_at.ensures c.in-Refused.is) in
-    record { answer = x.answers; table = x.leaves }
-
-pub returns-in-Refused-rows_at : goal.returns-in-Refused-rows_at
-returns-in-Refused-rows_at c =
-    let x = card-rows _ _ (got_of _ c.head_at.ensures c.in-Got.is) (refused-of _ c.rows_at.ensures.ends c.in-Refused-rows_at.is) in
+pub returns-in_err-end : goal.returns-in_err-end
+returns-in_err-end c =
+    let e = c.from_residual-in_err-end in
+    let x = answered-refused e.result e.ensures.1 (card-rows _ _ (sym c.in_ok-width.ensures) (sym c.in_err-end.ensures.ends)) in
     record { answer = x.answers; table = x.leaves }
 
 pub returns-then-end-card : goal.returns-then-end-card
 returns-then-end-card c =
-    let x = card-tail _ _ (got_of _ c.head_at.ensures c.in-Got.is) (got_of _ c.rows_at.ensures.ends c.in-Got-rows_at.is) c.if-end-card.true in
+    let x = card-tail _ _ (sym c.in_ok-width.ensures) (sym c.in_ok-end.ensures.ends) c.if-end-card.true in
     record { answer = x.answers; table = x.leaves }
 
-pub returns-else-end-card : goal.returns-else-end-card
-returns-else-end-card c =
-    let x = card-done _ _ (got_of _ c.head_at.ensures c.in-Got.is) (got_of _ c.rows_at.ensures.ends c.in-Got-rows_at.is) c.if-end-card.false c.rows_at-else-end-card.ensures in
+pub rows_at-requires-2 : goal.rows_at-requires-2
+rows_at-requires-2 c =
+    let lent = (head-parts _ _ _ _ (sym c.in_ok-width.ensures)).lent in
+    (lent.greatest, omega arith)
+
+-- the first pass has found no fault
+pub returns-in_err-rows_at : goal.returns-in_err-rows_at
+returns-in_err-rows_at c = no_value (c.in_err-rows_at.ensures.ends ∙ sym c.in_ok-end.ensures.ends)
+
+pub returns : goal.returns
+returns c =
+    let x = card-done _ _ (sym c.in_ok-width.ensures) (sym c.in_ok-end.ensures.ends) c.if-end-card.false c.rows_at-2.ensures in
     record { answer = x.answers; table = x.leaves }

@@ -1,13 +1,13 @@
 -- `card::reading::row_at` meets its contract.
-use Rattle.card.proofs.ReadSteps.{got_of, refused-of, row-refused, row-some, row-far}
-use native.Mathlib.Omega.{arith}
+use mathlib.Core.Path.{sym}
+use Rattle.card.proofs.ReadSteps.{told-refused, row-refused, row-some, row-far}
 use Rattle.card.proofs.reading.row_at.Goals as goal
 
-pub returns-in-Refused : goal.returns-in-Refused
-returns-in-Refused c = row-refused _ _ (refused-of _ c.number_at.ensures c.in-Refused.is)
+pub returns-in_err-count : goal.returns-in_err-count
+returns-in_err-count c = told-refused _ c.from_residual.result c.from_residual.ensures.1 (row-refused _ _ (sym c.in_err-count.ensures))
 
-pub returns-then-count-width : goal.returns-then-count-width
-returns-then-count-width c = row-some _ _ (got_of _ c.number_at.ensures c.in-Got.is) (omega arith) c.places_at.ensures
+pub returns-then-width-count : goal.returns-then-width-count
+returns-then-width-count c = row-far _ _ (sym c.in_ok-count.ensures) c.if-width-count.true
 
-pub returns-else-count-width : goal.returns-else-count-width
-returns-else-count-width c = row-far _ _ (got_of _ c.number_at.ensures c.in-Got.is) (omega arith)
+pub returns : goal.returns
+returns c = row-some _ _ (sym c.in_ok-count.ensures) c.if-width-count.false c.places_at.ensures

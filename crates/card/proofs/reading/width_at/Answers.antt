@@ -1,19 +1,15 @@
 -- `card::reading::width_at` meets its contract.
-use mathlib.Core.Path.{ap, ◌∙◌}
-use mathlib.Core.List.{[]}
-use Rattle.card.specs.Numbers.{refused}
-use Rattle.card.specs.Cards.{lent_causes}
-use Rattle.card.proofs.ReadSteps.{got_of, refused-of, width-refused, width_some, width-fault}
+use mathlib.Core.Path.{sym, ◌∙◌}
+use Rattle.card.proofs.ReadSteps.{told-refused, width-refused, width_some, width-fault}
 use Rattle.card.proofs.reading.width_at.Goals as goal
 
-pub returns-in-Refused : goal.returns-in-Refused
-returns-in-Refused c = width-refused _ _ (refused-of _ c.number_at.ensures c.in-Refused.is)
+pub returns-in_err-width : goal.returns-in_err-width
+returns-in_err-width c = told-refused _ c.from_residual.result c.from_residual.ensures.1 (width-refused _ _ (sym c.in_err-width.ensures))
 
-pub returns-then-is_none : goal.returns-then-is_none
-returns-then-is_none c =
-    width_some _ _ (got_of _ c.number_at.ensures c.in-Got.is) (judged (lent_causes _ _) [] c.judge_lent-fault.ensures c.is_none.ensures c.if-is_none.true)
+pub returns-in_err-judge_lent : goal.returns-in_err-judge_lent
+returns-in_err-judge_lent c =
+    told-refused _ c.from_residual-in_err-judge_lent.result c.from_residual-in_err-judge_lent.ensures.1
+    (width-fault _ _ (sym c.in_ok-width.ensures) (sym c.judge_lent.ensures ∙ c.in_err-judge_lent.was))
 
-pub returns-else-is_none : goal.returns-else-is_none
-returns-else-is_none c =
-    ap refused c.judge_lent-fault.ensures
-    ∙ width-fault _ _ (got_of _ c.number_at.ensures c.in-Got.is) (judged (lent_causes _ _) [] c.judge_lent-fault.ensures c.is_none.ensures c.if-is_none.false)
+pub returns : goal.returns
+returns c = width_some _ _ (sym c.in_ok-width.ensures) (sym c.judge_lent.ensures ∙ c.in_ok-judge_lent.was)

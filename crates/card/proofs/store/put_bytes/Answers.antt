@@ -8,17 +8,17 @@ use borrow.Author.Rules.{rules}
 use Rattle.card.proofs.store.put_bytes.Goals as goal
 
 pub loop-b-init : goal.loop-b-init
-loop-b-init c = (omega arith, refl, refl)
+loop-b-init c = (refl, refl)
 
 pub loop-b-preserved : goal.loop-b-preserved
 loop-b-preserved c =
     let w = c.loop-b in
     let a = c.args in
     let len : length a.row ≡ carried_bytes = search rules in
-    (omega arith, c.put.ensures ∙ rw w.invariant.1 (sets-one a.out.now a.row a.at w.b (omega arith)), c.put.auto.out ∙ w.invariant.2)
+    (c.put.ensures ∙ rw w.invariant.0 (sets-one a.out.now a.row a.at w.b (omega arith)), c.put.auto.out ∙ w.invariant.1)
 
 pub shape_of-out : goal.shape_of-out
-shape_of-out c = c.loop-b.invariant.2
+shape_of-out c = c.loop-b.invariant.1
 
 pub returns : goal.returns
-returns c = let e : c.loop-b.b ≡ c.args.size = omega arith in rw e at c.loop-b.invariant.1
+returns c = let e : c.loop-b.b ≡ c.args.size = omega arith in rw e at c.loop-b.invariant.0

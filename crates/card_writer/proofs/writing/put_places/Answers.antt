@@ -1,30 +1,38 @@
 -- `card_writer::writing::put_places` meets its contract.
+use mathlib.Core.Path.{◌≡◌}
+use Prim.Native.Nat.{suc, ◌+◌, ◌-◌}
+use native.Mathlib.Nat.{sub-zero}
 use native.Mathlib.Omega.{arith}
 use Rattle.card_writer.proofs.WriteSteps.{left-kept, steps-none, steps_next, steps-fits, steps-more, steps-done}
 use Rattle.card_writer.proofs.writing.put_places.Goals as goal
+use Rattle.card_writer.proofs.writing.put_places.Goals.{After-next_one-i}
 
-pub loop-left-init : goal.loop-left-init
-loop-left-init c = steps-none _ _ _ c.requires.0
+-- this place is left, and the others
+left : (c : After-next_one-i) → c.args.count - c.loop.counter ≡ suc (c.args.count - (c.loop.counter + 1))
+left c = let w = c.loop-test.true in omega arith
+
+pub loop-init : goal.loop-init
+loop-init c = rw sub-zero (steps-none _ _ _ c.requires.0)
 
 pub overflow_sub-i : goal.overflow_sub-i
-overflow_sub-i c = (steps_next c.loop-left.invariant c.loop-left-test.true c.next_one-i.ensures).above
+overflow_sub-i c = (steps_next c.loop.invariant (left (goal.at.overflow_sub-i c).After-next_one-i) c.next_one-i.ensures).above
 
-pub put_number-then-requires : goal.put_number-then-requires
-put_number-then-requires c =
-    let some = c.loop-left-test.true in
+pub put_number-next-requires : goal.put_number-next-requires
+put_number-next-requires c =
+    let h = left (goal.at.put_number-next-requires c).After-next_one-i in
     let e = c.next_one-i.ensures in
-    (omega (arith, (steps_next c.loop-left.invariant some e).within), omega (arith, (steps-fits c.loop-left.invariant some e c.requires.1).within))
+    (omega (arith, (steps_next c.loop.invariant h e).within), omega (arith, (steps-fits c.loop.invariant h e c.requires.1).within))
 
 pub overflow_add-free : goal.overflow_add-free
 overflow_add-free c =
-    omega (arith, (steps_next c.loop-left.invariant c.loop-left-test.true c.next_one-i.ensures).within)
+    omega (arith, (steps_next c.loop.invariant (left (goal.at.overflow_add-free c).After-next_one-i) c.next_one-i.ensures).within)
 
-pub loop-left-preserved : goal.loop-left-preserved
-loop-left-preserved c =
-    steps-more c.loop-left.invariant c.loop-left-test.true c.next_one-i.ensures c.put_number-then.ensures
+pub loop-preserved : goal.loop-preserved
+loop-preserved c =
+    steps-more c.loop.invariant (left (goal.at.loop-preserved c).After-next_one-i) c.next_one-i.ensures c.put_number-next.ensures
 
 pub shape_of-out : goal.shape_of-out
-shape_of-out c = left-kept c.loop-left.invariant.remains
+shape_of-out c = left-kept c.loop.invariant.remains
 
 pub returns : goal.returns
-returns c = steps-done c.loop-left.invariant c.loop-left-test.false
+returns c = steps-done c.loop.invariant (omega arith)

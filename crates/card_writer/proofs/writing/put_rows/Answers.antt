@@ -6,17 +6,17 @@ use Rattle.card_writer.proofs.writing.put_rows.Goals as goal
 pub loop-d-init : goal.loop-d-init
 loop-d-init c = rows_none _ _ _ _ _ _
 
-pub put_row-then-requires : goal.put_row-then-requires
-put_row-then-requires c =
+pub put_row-next-requires : goal.put_row-next-requires
+put_row-next-requires c =
     let p = c.requires in
     (p.0, omega (arith, c.loop-d-test.true, p.1), rows-fits c.loop-d.invariant p.2 (omega (arith, c.loop-d-test.true)))
 
 pub loop-d-preserved : goal.loop-d-preserved
 loop-d-preserved c =
-    rows_more c.loop-d.invariant (omega (arith, c.loop-d-test.true)) c.put_row-then.ensures
+    rows_more c.loop-d.invariant (omega (arith, c.loop-d-test.true)) c.put_row-next.ensures
 
 pub shape_of-out : goal.shape_of-out
 shape_of-out c = left-kept c.loop-d.invariant.remains
 
 pub returns : goal.returns
-returns c = rows-done c.loop-d.invariant c.loop-d-test.false
+returns c = rows-done c.loop-d.invariant (omega arith)

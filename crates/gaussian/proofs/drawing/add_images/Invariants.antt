@@ -1,11 +1,7 @@
 -- `gaussian::drawing::add_images` meets its contract.
-use Prim.Native.Nat.{◌-◌}
 use Rattle.gaussian.specs.Types.{modulus}
 use Rattle.gaussian.proofs.TermLaws.{TermLoop}
 use Rattle.gaussian.proofs.drawing.add_images.Given as goal
 
 abbrev pub invariant-loop-d : goal.invariant-loop-d
 invariant-loop-d l = TermLoop l.m l.t (modulus l.m l.t) l.w l.initial.table l.table l.y l.d
-
-abbrev pub decreases-loop-d : goal.decreases-loop-d
-decreases-loop-d l = l.m - l.d

@@ -1,7 +1,7 @@
 -- `gaussian::drawing::fill` meets its contract.
 use mathlib.Core.Path.{sym, ap, ◌∙◌}
 use native.Mathlib.Omega.{arith}
-use Rattle.gf2.specs.Coordinates.{tabulate}
+use lib.ListN.{replicate}
 use Rattle.gaussian.proofs.ResidueLaws.{residue}
 use Rattle.gaussian.proofs.LogLaws.{no-logarithms}
 use Rattle.gaussian.proofs.AddLaws.{has-row}
@@ -17,7 +17,7 @@ logarithms-requires c = (c.requires.0, no-logarithms _ _)
 pub loop-w-init : goal.loop-w-init
 loop-w-init c =
     let size = c.requires.1.size in
-    (sum-start _ _ (c.clear.ensures ∙ ap (λ n. tabulate n (λ b. 0)) size), omega (arith, size), omega arith)
+    (sum-start _ _ (c.fill.ensures.after (λ y e. e) ∙ ap (λ n. replicate n 0) size), omega (arith, size))
 
 pub add_term-requires : goal.add_term-requires
 add_term-requires c =
@@ -28,17 +28,10 @@ add_term-requires c =
       residue _ p.0 (omega (arith, c.modulus-p.ensures, c.loop-w-test.true)),
     )
 
-pub overflow_add-w : goal.overflow_add-w
-overflow_add-w c = omega (arith, c.modulus-p.ensures)
-
-pub loop-w-smaller : goal.loop-w-smaller
-loop-w-smaller c = omega arith
-
 pub loop-w-preserved : goal.loop-w-preserved
 loop-w-preserved c = (
   sum_more _ _ _ c.loop-w.invariant.0 c.add_term.ensures,
   omega (arith, c.loop-w.invariant.1),
-  omega (arith, c.modulus-p.ensures, c.loop-w-test.true),
 )
 
 pub shape_of-table : goal.shape_of-table

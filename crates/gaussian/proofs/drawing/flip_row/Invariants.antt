@@ -1,6 +1,5 @@
 -- `gaussian::drawing::flip_row` meets its contract.
 use mathlib.Core.Path.{◌≡◌}
-use Prim.Native.Nat.{◌-◌}
 use lib.ListN.{length}
 use lib.Dec.{ltb}
 use Rattle.gf2.specs.Operands.{choose}
@@ -9,6 +8,3 @@ use Rattle.gaussian.proofs.drawing.flip_row.Given as goal
 
 abbrev pub invariant-loop-s : goal.invariant-loop-s
 invariant-loop-s l = Adds l.m (in_row l.d (λ i. choose (ltb i l.s) 1 0)) l.initial.table l.table × (length l.table ≡ length l.initial.table)
-
-abbrev pub decreases-loop-s : goal.decreases-loop-s
-decreases-loop-s l = l.m - l.s

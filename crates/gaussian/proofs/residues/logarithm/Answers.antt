@@ -1,5 +1,5 @@
 -- `gaussian::residues::logarithm` meets its contract.
-use mathlib.Core.Path.{ap}
+use mathlib.Core.Path.{ap, ◌∙◌}
 use native.Mathlib.Omega.{arith}
 use lib.ListN.{get_or}
 use Rattle.gaussian.specs.Types.{modulus}
@@ -17,8 +17,5 @@ bounds-logs-y c =
     let r = less (goal.at.bounds-logs-y c).After-power-y in
     omega (arith, r.small, r.less, c.requires.1.size)
 
-pub overflow_cast-result-2 : goal.overflow_cast-result-2
-overflow_cast-result-2 c = omega (arith, c.shared_slice_known-2-1.given c.power-y.result)
-
 pub returns : goal.returns
-returns c = ap (λ y. get_or c.args.logs.now y 0) (rw c.modulus.ensures at c.power-y.ensures)
+returns c = c.from.ensures ∙ ap (λ y. get_or c.args.logs.now y 0) (rw c.modulus.ensures at c.power-y.ensures)
