@@ -166,3 +166,8 @@ pub answer-passed : {A : Type 0} (v : Verdict) {x y : A} → answered v x ≡ Ok
 unfolding answered
 answer-passed (Ok _) e = (refl, cc)
 answer-passed (Err f) e = ok_or_err e
+
+pub answer-failed : {A : Type 0} (v : Verdict) (x : A) {f : Fault} → answered v x ≡ Err f → v ≡ Err f
+unfolding answered
+answer-failed (Ok _) x e = ok_or_err (sym e)
+answer-failed (Err g) x e = cc
