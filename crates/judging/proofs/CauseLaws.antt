@@ -160,6 +160,8 @@ pub verdict_ok : {A : Type 0} {r : Result A Fault} {x : A} {v : Verdict} → ver
 verdict_ok e h = sym e ∙ ap verdict_of h
 
 -- gaussian: an answer by its verdict, and the verdict of an answer that has a value, and of one that has none
+
+-- operand: an answer by its verdict, and the verdict of an answer that has a value
 module _ {A : Type 0} (x : A) {v : Verdict} where
   pub answer-given : v ≡ Ok tt → Ok x ≡ answered v x
   unfolding answered
@@ -178,3 +180,5 @@ pub answer-failed : {A : Type 0} (v : Verdict) (x : A) {f : Fault} → answered 
 unfolding answered
 answer-failed (Ok _) x e = ok_or_err (sym e)
 answer-failed (Err g) x e = ap Err (same_fault (Err g) refl e)
+
+answer-failed (Err g) x e = cc

@@ -1,6 +1,7 @@
 // The calls where the widths or the lengths have passed: what is left is judged, and the answer made where it has no fault.
 ghost use Rattle.std.specs.Prelude.{◌≡◌};
-ghost use Rattle.product.specs.Inner.{operand_of, IsWidth, Sound, Serves, multiplied, product_answer, inverse_answer};
+ghost use Rattle.product.specs.Calls.{multiplied};
+ghost use Rattle.product.specs.Inner.{operand_of, IsWidth, Sound, Serves, product_answer, inverse_answer};
 
 use crate::{Inverted, chain, judge, times};
 use judging::Fault;
