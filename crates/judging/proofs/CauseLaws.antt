@@ -151,3 +151,23 @@ module _ (P : Verdict → Type 0) (none : P (Ok tt)) where
   keeps-both (c ∷ cs) ds p q = cases c.test
       (λ e. rw (head-holds c (cs ++ ds) e) (rw (sym (head-holds c cs e)) p))
       (λ e. rw (head-fails c (cs ++ ds) e) (keeps-both cs ds (rw (sym (head-fails c cs e)) p) (λ n. q (e, n))))
+
+-- netlist: an answer by its verdict, and what is made of an answer's value or handed on of its fault
+module _ {A : Type 0} (x : A) {v : Verdict} where
+  pub answer-given : v ≡ Ok tt → Ok x ≡ answered v x
+  unfolding answered
+  answer-given e = rw e
+
+  pub answer-refused : {f : Fault} → v ≡ Err f → Err f ≡ answered v x
+  unfolding answered
+  answer-refused e = rw e
+
+pub of-answer : {A B : Type 0} (h : A → B) (v : Verdict) (x : A) {y : A} → answered v x ≡ Ok y → Ok (h y) ≡ answered v (h x)
+unfolding answered
+of-answer h (Ok _) x e = cc
+of-answer h (Err f) x e = ok_or_err e
+
+pub fault-of_answer : {A B : Type 0} (v : Verdict) (x : A) (y : B) {f : Fault} → answered v x ≡ Err f → Err f ≡ answered v y
+unfolding answered
+fault-of_answer (Ok _) x y e = ok_or_err (sym e)
+fault-of_answer (Err g) x y e = ap Err (same_fault (Err g) e refl)
