@@ -1,9 +1,11 @@
 -- The numbers below a bound, as an iterator over a range gives them: a test of all of them, and how many pass it.
 use mathlib.Core.Path.{◌≡◌, refl, sym, ap, ◌∙◌}
 use mathlib.Core.Bool.{Bool, true, false, ◌&&◌}
-use Prim.Native.Nat.{ℕ, zero, suc, ◌+◌}
+use Prim.Native.Nat.{ℕ, zero, suc, ◌+◌, ◌≤◌}
 use native.Mathlib.Omega.{arith}
 use Rattle.std.specs.List.{range_with_len, fold, count_by, list_all}
+use Rattle.std.proofs.lemmas.List.Sums.{count_by-le-length}
+use Rattle.std.proofs.lemmas.List.FromFn.{length-range_with_len}
 use Rattle.gf2.specs.Sums.{sum, every}
 use Rattle.gf2.proofs.Counts.{num}
 
@@ -29,6 +31,9 @@ pub counted_below : (p : ℕ → Bool) (n : ℕ) → count_by p (range_with_len 
 unfolding sum
 counted_below p zero = refl
 counted_below p (suc n) = sum-last (λ d. num (p d)) 0 0 n n (omega arith) ∙ ap (λ k. k + num (p n)) (counted_below p n)
+
+pub few_below : (p : ℕ → Bool) (n : ℕ) → count_by p (range_with_len 0 n) ≤ n
+few_below p n = omega (arith, count_by-le-length p (range_with_len 0 n), length-range_with_len 0 n)
 
 pub all_below : (p : ℕ → Bool) (n : ℕ) → list_all p (range_with_len 0 n) ≡ every n p
 unfolding every
