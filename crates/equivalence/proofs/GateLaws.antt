@@ -5,7 +5,7 @@ use mathlib.Core.List.{List, [], ◌∷◌}
 use Prim.Native.Nat.{ℕ, zero, suc, ◌+◌, ◌-◌, ◌*◌, ◌<◌, ◌≤◌}
 use native.Mathlib.Omega.{arith}
 use lib.Dec.{eqb, leb}
-use borrow.Author.Tests.{lt-leb, le-leb}
+use borrow.Author.Tests.{ne_eqb, lt-leb, le-leb}
 use Rattle.gf2.specs.Sums.{sum}
 use Rattle.gf2.proofs.Counts.{num}
 use Rattle.gf2.proofs.Sums.{every-at}
@@ -68,7 +68,7 @@ module _ {m : ℕ} {list : List ℕ} (ready : Ready m list) {k : ℕ} (l : k < g
 one-gate : (kind l r : ℕ) → and_gates (gate_of kind l r ∷ []) ≡ num (eqb kind 0)
 unfolding and_gates
 one-gate zero l r = refl
-one-gate (suc kind) l r = refl
+one-gate (suc kind) l r = rw (ne_eqb (suc kind) 0 (λ e. omega arith))
 
 module _ (list : List ℕ) where
   ands-more : (k : ℕ) → and_gates (gates_to list (suc k)) ≡ and_gates (gates_to list k) + and_gates (gate_of (kind_at list k) (left_at list k) (right_at list k) ∷ [])
