@@ -162,6 +162,8 @@ verdict_ok e h = sym e ∙ ap verdict_of h
 -- gaussian: an answer by its verdict, and the verdict of an answer that has a value, and of one that has none
 
 -- operand: an answer by its verdict, and the verdict of an answer that has a value
+
+-- netlist: an answer by its verdict, and what is made of an answer's value or handed on of its fault
 module _ {A : Type 0} (x : A) {v : Verdict} where
   pub answer-given : v ≡ Ok tt → Ok x ≡ answered v x
   unfolding answered
@@ -182,3 +184,13 @@ answer-failed (Ok _) x e = ok_or_err (sym e)
 answer-failed (Err g) x e = ap Err (same_fault (Err g) refl e)
 
 answer-failed (Err g) x e = cc
+
+pub of-answer : {A B : Type 0} (h : A → B) (v : Verdict) (x : A) {y : A} → answered v x ≡ Ok y → Ok (h y) ≡ answered v (h x)
+unfolding answered
+of-answer h (Ok _) x e = cc
+of-answer h (Err f) x e = ok_or_err e
+
+pub fault-of_answer : {A B : Type 0} (v : Verdict) (x : A) (y : B) {f : Fault} → answered v x ≡ Err f → Err f ≡ answered v y
+unfolding answered
+fault-of_answer (Ok _) x y e = ok_or_err (sym e)
+fault-of_answer (Err g) x y e = ap Err (same_fault (Err g) e refl)
