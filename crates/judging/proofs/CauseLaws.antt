@@ -151,3 +151,23 @@ module _ (P : Verdict → Type 0) (none : P (Ok tt)) where
   keeps-both (c ∷ cs) ds p q = cases c.test
       (λ e. rw (head-holds c (cs ++ ds) e) (rw (sym (head-holds c cs e)) p))
       (λ e. rw (head-fails c (cs ++ ds) e) (keeps-both cs ds (rw (sym (head-fails c cs e)) p) (λ n. q (e, n))))
+
+-- list_writer: an answer by its verdict, and the verdict of an answer that has a value, and of one that has none
+module _ {A : Type 0} (x : A) {v : Verdict} where
+  pub answer-given : v ≡ Ok tt → Ok x ≡ answered v x
+  unfolding answered
+  answer-given e = rw e
+
+  pub answer-refused : {f : Fault} → v ≡ Err f → Err f ≡ answered v x
+  unfolding answered
+  answer-refused e = rw e
+
+pub answer-passed : {A : Type 0} (v : Verdict) {x y : A} → answered v x ≡ Ok y → (v ≡ Ok tt) × (x ≡ y)
+unfolding answered
+answer-passed (Ok _) e = (refl, cc)
+answer-passed (Err f) e = ok_or_err e
+
+pub answer-failed : {A : Type 0} (v : Verdict) (x : A) {f : Fault} → answered v x ≡ Err f → v ≡ Err f
+unfolding answered
+answer-failed (Ok _) x e = ok_or_err (sym e)
+answer-failed (Err g) x e = ap Err (same_fault (Err g) refl e)
