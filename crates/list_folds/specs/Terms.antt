@@ -1,5 +1,5 @@
 -- What is folded for each r, by the columns: the ones of a column, the pairs of a row, all pairs.
-use Rattle.std.specs.Prelude.{Bool, true, false, ◌&&◌, List, ◌++◌, ℕ, ◌+◌, ◌-◌, ◌*◌, ◌/◌, ◌<◌, ◌≤◌, length}
+use Rattle.std.specs.Prelude.{Bool, true, false, ◌&&◌, List, ◌++◌, ℕ, ◌+◌, ◌-◌, ◌*◌, ◌/◌, ◌<◌, ◌≤◌, length, option_to_list}
 use Rattle.gf2.specs.Operands.{max_width, minus}
 use Rattle.limbs.specs.Limbs.{carried_limbs}
 use Rattle.netlist.specs.Gates.{word_limit}
@@ -39,4 +39,4 @@ rows_to mixed m columns r n = each n (row_terms mixed m columns r)
 
 unfoldable pub fold_terms : Terms → ℕ → List ℕ → ℕ → List ℕ
 fold_terms t m columns r =
-    square_term t.mixed m r ++ rows_to t.mixed m columns r m ++ only t.last t.wire
+    square_term t.mixed m r ++ rows_to t.mixed m columns r m ++ option_to_list t.last

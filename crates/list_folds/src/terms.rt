@@ -14,13 +14,12 @@ use crate::columns::Rows;
 use crate::fold::Fold;
 use crate::{columns, fold};
 
-// What is folded for each r: first a square where the pairs are mixed, then the pairs of the kept rows, then the wire if it is given.
+// What is folded for each r: first a square where the pairs are mixed, then the pairs of the kept rows, then the last wire if it is given.
 #[derive(Clone, Copy)]
 pub struct Terms {
     pub rows: Rows,
     pub mixed: bool,
-    pub last: bool,
-    pub wire: u32,
+    pub last: Option<u32>,
 }
 
 // i - k modulo the width.
@@ -61,10 +60,8 @@ fn push_run(
     let mut g = f;
     let mut d = columns::next_one(columns, firsts, at, from, to);
     while d < to {
-        let more = fold::push(out, width, g, (start + d) as u32);
-        g = more;
-        let after = columns::next_one(columns, firsts, at, d + 1, to);
-        d = after;
+        g = fold::push(out, width, g, (start + d) as u32);
+        d = columns::next_one(columns, firsts, at, d + 1, to);
     }
     g
 }
@@ -117,11 +114,8 @@ fn push_pairs(
     ensures { Pushed width f out.old (rows_to mixed width columns.now r width) result out.new }
 {
     let mut g = f;
-    let mut i = 0;
-    while i < width {
-        let next = push_row(out, width, columns, firsts, mixed, r, i, g);
-        g = next;
-        i += 1;
+    for i in 0..width {
+        g = push_row(out, width, columns, firsts, mixed, r, i, g);
     }
     g
 }
@@ -133,16 +127,14 @@ fn first_term(width: usize, square: bool, r: usize, n: usize) -> Fold
 {
     if !square {
         return Fold {
-            begun: false,
-            running: 0,
+            running: None,
             gates: n,
         };
     }
     let i = minus(width, r, 1);
     let base = row_base(width, false, i);
     Fold {
-        begun: true,
-        running: (base + i) as u32,
+        running: Some((base + i) as u32),
         gates: n,
     }
 }
@@ -162,7 +154,7 @@ fn fold_terms(
 {
     let first = first_term(width, t.mixed, r, n);
     let all = push_pairs(out, width, columns, firsts, t.mixed, r, first);
-    fold::push_last(out, width, all, t.last, t.wire)
+    fold::push_last(out, width, all, t.last)
 }
 
 // The folds for the first coordinates, `count` of them, from gate n on, and the wires of their sums; the number of the next gate.
@@ -181,12 +173,10 @@ pub(crate) fn put_each(
     ensures ends_after { ends.new ≡ sets ends.old 0 (ends_of count (gate_wire width n) (fold_terms t width columns.now)) }
 {
     let mut k = n;
-    let mut r = 0;
-    while r < count {
+    for r in 0..count {
         let f = fold_terms(out, width, columns, firsts, t, r, k);
-        list_pairs::put(ends, r, f.running);
+        list_pairs::put(ends, r, f.running.unwrap_or(0));
         k = f.gates;
-        r += 1;
     }
     k
 }

@@ -8,6 +8,3 @@ use Rattle.list_folds.proofs.terms.push_pairs.Given as goal
 
 abbrev pub invariant-loop-i : goal.invariant-loop-i
 invariant-loop-i l = (l.i ≤ l.width) × (Pushed l.width l.initial.g l.initial.out (rows_to l.mixed l.width l.columns l.r l.i) l.g l.out) × (length l.out ≡ length l.initial.out)
-
-abbrev pub decreases-loop-i : goal.decreases-loop-i
-decreases-loop-i l = l.width - l.i
