@@ -127,15 +127,13 @@ base-least true m i l = omega arith
 
 -- a run of row i
 pub row-run : (mixed : Bool) {m : ℕ} {columns firsts : List ℕ} {at base i from to start n : ℕ} → Readable m columns firsts → i < m → at < m → base ≡ row_base mixed m i →
-    from ≤ to → to ≤ m → start ≤ base + i → 2 * m + n + (to - from) < word_limit → Run m columns firsts (at * carried_limbs) from to start n
+    from ≤ to → to ≤ m → start ≤ base + i → 2 * m + n + (to - from) < word_limit → Run m columns (at * carried_limbs) from to start n
 row-run mixed {m} {i = i} z li la e o t s f = record {
-  most = z.room.greatest;
   order = o;
   inside = t;
   room = omega (arith, z.room.room);
   gates = f;
   wires = omega (arith, e, base-most mixed m i li z.room.greatest);
-  after = z.after;
 }
 
 -- the pairs of a row

@@ -6,7 +6,7 @@ ghost use Rattle.gf2.specs.Tables.{row};
 ghost use Rattle.limbs.specs.Limbs.{carried_limbs};
 ghost use Rattle.netlist.specs.Lists.{all_ones};
 ghost use Rattle.list_folds.specs.TableFolds.{keeps};
-ghost use Rattle.list_folds.specs.Columns.{is_set, Columns, Successor, FirstFrom, Firsts};
+ghost use Rattle.list_folds.specs.Columns.{Columns, FirstFrom, Firsts};
 
 // The rows whose pairs are folded.
 #[derive(Clone, Copy)]
@@ -88,17 +88,4 @@ pub(crate) fn find_firsts(firsts: &mut [u32], columns: &[u64])
         firsts[k] = n as u32;
         n = first_from(columns, k, n);
     }
-}
-
-// The first one from bit `from` on of the column that starts at limb `at`, or `to`.
-pub(crate) fn next_one(columns: &[u64], firsts: &[u32], at: usize, from: usize, to: usize) -> usize
-    requires { (from ≤ to) × (to ≤ max_width) × (at + carried_limbs ≤ length columns.now) × Firsts columns.now 0 firsts.now }
-    ensures { Successor (is_set columns.now at) to from result }
-{
-    let k = at + from / 64;
-    let left = columns[k] >> (from % 64);
-    if left != 0 {
-        return to.min(from + u64::trailing_zeros(left) as usize);
-    }
-    to.min(firsts[k] as usize - 64 * at)
 }

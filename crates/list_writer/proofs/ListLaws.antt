@@ -1,4 +1,5 @@
 -- Laws of a whole list: the terms of each fold, the parts one after another, and its words in the buffer.
+use Rattle.std.specs.Prelude.{None, Some}
 use mathlib.Core.Path.{◌≡◌, refl, sym, ap, ap₂, ◌∙◌, subst}
 use mathlib.Core.Bool.{Bool, true, false, not, ◌&&◌, and-false, and-true}
 use mathlib.Core.List.{List, [], ◌∷◌, ◌++◌, append-nil}
@@ -44,10 +45,10 @@ pairs-mixes m = refl
 
 -- what is folded: the rows, whether the pairs are mixed, and a last wire or none
 abbrev pub none_last : Rows → Bool → Terms
-none_last rows mixed = record { rows = rows; mixed = mixed; last = false; wire = 0 }
+none_last rows mixed = record { rows = rows; mixed = mixed; last = None }
 
 abbrev pub others : ℕ → Terms
-others w = record { rows = Others; mixed = false; last = true; wire = w }
+others w = record { rows = Others; mixed = false; last = Some w }
 
 -- the terms of each list
 pairs-ext : (m : ℕ) {f g : ℕ → ℕ → Bool} (w : ℕ → ℕ → ℕ) → ((i j : ℕ) → i < m → j < m → f i j ≡ g i j) → pairs m f w ≡ pairs m g w
