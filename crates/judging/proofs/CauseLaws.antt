@@ -164,6 +164,8 @@ verdict_ok e h = sym e ∙ ap verdict_of h
 -- operand: an answer by its verdict, and the verdict of an answer that has a value
 
 -- netlist: an answer by its verdict, and what is made of an answer's value or handed on of its fault
+
+-- list_writer: an answer by its verdict, and the verdict of an answer that has a value, and of one that has none
 module _ {A : Type 0} (x : A) {v : Verdict} where
   pub answer-given : v ≡ Ok tt → Ok x ≡ answered v x
   unfolding answered
@@ -194,3 +196,4 @@ pub fault-of_answer : {A B : Type 0} (v : Verdict) (x : A) (y : B) {f : Fault} �
 unfolding answered
 fault-of_answer (Ok _) x y e = ok_or_err (sym e)
 fault-of_answer (Err g) x y e = ap Err (same_fault (Err g) e refl)
+
