@@ -1,6 +1,6 @@
 // Each function runs one example of document 01, as document 02 changes them, and prints what its calls answer.
-ghost use Rattle.std.specs.Prelude.{◌≡◌, ◌<◌, ◌≤◌, MatchResult};
-ghost use Rattle.gf2.specs.Operands.{max_width};
+ghost use Rattle.std.specs.Prelude.{◌≡◌, ◌/◌, ◌%◌, ◌^◌, ◌<◌, ◌≤◌, MatchResult, replicate, slice_set};
+ghost use Rattle.gf2.specs.Operands.{max_width, carried_bytes};
 ghost use Rattle.judging.specs.Faults.{number_of};
 ghost use Rattle.card_writer.specs.Calls.{write_card};
 
@@ -32,7 +32,7 @@ pub(crate) fn widths(rt: &impl Print, width: usize) -> io::Result<()>
 // The operand whose only coordinate is i.
 fn alone(width: usize, i: usize) -> Operand
     requires { (i < width) × (width ≤ max_width) }
-    ensures { Unit {0} }
+    ensures { (result.width ≡ width) × (result.bytes ≡ slice_set (replicate carried_bytes 0) (i / 8) (2 ^ (i % 8))) }
 {
     let mut bytes = [0u8; Operand::BYTES];
     bytes[i / 8] = 1 << (i % 8);
