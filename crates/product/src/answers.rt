@@ -47,7 +47,11 @@ pub(crate) fn product(
 }
 
 // The inverse by the chain.
-pub(crate) fn inverse(width: usize, table: &[u8], x: [u8; Operand::BYTES]) -> Result<Inverted, Fault>
+pub(crate) fn inverse(
+    width: usize,
+    table: &[u8],
+    x: [u8; Operand::BYTES],
+) -> Result<Inverted, Fault>
     requires { IsWidth width }
     ensures { result ≡ inverse_answer width table.now x }
 {

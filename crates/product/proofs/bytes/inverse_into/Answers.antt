@@ -37,7 +37,7 @@ returns-in_err-inverse c =
     let r = c.from_residual-in_err-inverse in
     let z = s.In_ok-judge_sizes in
     let e = goes_on (size_causes a.width a.a.now a.res.now) (unit_bytes a.width a.table.now a.a.now) (sym c.judge_sizes.ensures ∙ c.in_ok-judge_sizes.was)
-        ∙ inverse-failed (sizes z) (bytes z) a.table.now (answer s.After-inverse) c.in_err-inverse.was in
+    ∙ inverse-failed (sizes z) (bytes z) a.table.now (answer s.After-inverse) c.in_err-inverse.was in
     (handed_on r.result r.ensures.1 (answer-refused _ e), kept _ _ e)
 
 pub returns : goal.returns
@@ -49,5 +49,5 @@ returns c =
     let b = bytes s.In_ok-judge_sizes in
     let i = answer s.After-inverse in
     let e = goes_on (size_causes a.width a.a.now a.res.now) (unit_bytes a.width t a.a.now) (sym c.judge_sizes.ensures ∙ c.in_ok-judge_sizes.was)
-        ∙ inverse-passed z b t i c.in_ok-inverse.was in
+    ∙ inverse-passed z b t i c.in_ok-inverse.was in
     (ap Ok (inverse-counted z b t i c.in_ok-inverse.was) ∙ answer-given _ e, filled _ _ e (inverse-written z b t i c.in_ok-inverse.was c.copy_out.ensures))
