@@ -3,6 +3,13 @@ use mathlib.Core.Path.{◌≡◌, refl, sym, ap, ◌∙◌}
 use mathlib.Core.Bool.{Bool, true, false, ◌&&◌}
 use Prim.Native.Nat.{ℕ, zero, suc, ◌+◌, ◌≤◌}
 use native.Mathlib.Omega.{arith}
+use Rattle.std.specs.Fn.{Called}
+use Rattle.std.specs.Iterator.{ChecksAll}
+use Rattle.std.specs.declared.ops.Range.{Range}
+use Rattle.std.proofs.iter.Yields.{nat_range_steps}
+use Rattle.std.proofs.lemmas.Iterator.{YieldsList-from_range}
+use Rattle.std.proofs.lemmas.Iterator.Search.{all_from_yields_List}
+use denote.Param.Members.{Mut}
 use Rattle.std.specs.List.{range_with_len, fold, count_by, list_all}
 use Rattle.std.proofs.lemmas.List.Sums.{count_by-le-length}
 use Rattle.std.proofs.lemmas.List.FromFn.{length-range_with_len}
@@ -35,7 +42,12 @@ counted_below p (suc n) = sum-last (λ d. num (p d)) 0 0 n n (omega arith) ∙ a
 pub few_below : (p : ℕ → Bool) (n : ℕ) → count_by p (range_with_len 0 n) ≤ n
 few_below p n = omega (arith, count_by-le-length p (range_with_len 0 n), length-range_with_len 0 n)
 
-pub all_below : (p : ℕ → Bool) (n : ℕ) → list_all p (range_with_len 0 n) ≡ every n p
+all_below : (p : ℕ → Bool) (n : ℕ) → list_all p (range_with_len 0 n) ≡ every n p
 unfolding every
 all_below p zero = refl
 all_below p (suc n) = all-last p 0 n n (omega arith) ∙ ap (λ b. b && p n) (all_below p n)
+
+-- `all` over them, with a closure that computes a test
+pub every-from_all : {F : Type 0} {g : Mut F (ℕ × Unit {0}) Bool} (test : ℕ → Bool) (n : ℕ) (u : Range ℕ) (f : F) (r : Bool) →
+    ChecksAll nat_range_steps g (record { start = 0; end = n }) f r u → ((x : ℕ) (b : Bool) (q : F) → Called g f (x, tt) b q → (q ≡ f) × (b ≡ test x)) → r ≡ every n test
+every-from_all test n u f r ran closure = all_from_yields_List test u f r ran (YieldsList-from_range 0 n n refl (omega arith)) closure ∙ all_below test n

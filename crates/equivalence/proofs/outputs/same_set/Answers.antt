@@ -1,15 +1,11 @@
 -- `equivalence::outputs::same_set` meets its contract.
-use mathlib.Core.Path.{refl, ◌∙◌}
 use mathlib.Core.Bool.{Bool}
 use Prim.Native.Nat.{ℕ}
-use native.Mathlib.Omega.{arith}
 use lib.Dec.{eqb}
 use Rattle.std.proofs.Common.{rules, tests}
-use Rattle.std.proofs.lemmas.Iterator.{YieldsList-from_range}
-use Rattle.std.proofs.lemmas.Iterator.Search.{all_from_yields_List}
 use Rattle.gf2.specs.Sums.{every}
 use Rattle.netlist.specs.Sets.{wanted, same_products}
-use Rattle.netlist.proofs.Ranges.{all_below}
+use Rattle.netlist.proofs.Ranges.{every-from_all}
 use Rattle.equivalence.specs.Inner.{bit_at}
 use Rattle.equivalence.proofs.outputs.same_set.Goals as goal
 
@@ -18,4 +14,4 @@ unfolding same_products
 returns c =
     let a = c.args in
     let same : ℕ → Bool = λ i. every a.width (λ j. eqb (bit_at a.squares.now a.k i j) (wanted a.width a.table.now a.r i j)) in
-    all_from_yields_List same _ _ _ c.all.ensures.ran (YieldsList-from_range 0 a.width a.width refl (omega arith)) (λ x b q k. search (rules, tests)) ∙ all_below same a.width
+    every-from_all same a.width _ _ _ c.all.ensures.ran (λ x b q k. search (rules, tests))

@@ -1,15 +1,10 @@
 -- `runner::judge::are_gates` meets its contract.
-use mathlib.Core.Path.{refl, ◌∙◌}
-use native.Mathlib.Omega.{arith}
 use Rattle.std.proofs.Common.{rules, tests}
-use Rattle.std.proofs.lemmas.Iterator.{YieldsList-from_range}
-use Rattle.std.proofs.lemmas.Iterator.Search.{all_from_yields_List}
 use Rattle.netlist.specs.Judgements.{is_gate}
-use Rattle.netlist.proofs.Ranges.{all_below}
+use Rattle.netlist.proofs.Ranges.{every-from_all}
 use Rattle.runner.proofs.judge.are_gates.Goals as goal
 
 pub returns : goal.returns
 returns c =
     let a = c.args in
-    all_from_yields_List (is_gate a.width a.list.now) _ _ _ c.all.ensures.ran (YieldsList-from_range 0 a.g a.g refl (omega arith)) (λ x b q k. search (rules, tests))
-    ∙ all_below (is_gate a.width a.list.now) a.g
+    every-from_all (is_gate a.width a.list.now) a.g _ _ _ c.all.ensures.ran (λ x b q k. search (rules, tests))
