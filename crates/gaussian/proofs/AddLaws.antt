@@ -84,6 +84,3 @@ module _ (m : ℕ) (G : ℕ → ℕ → ℕ) where
 
   pub rows_all : {n : ℕ} {a b : List ℕ} → Adds m (up_to n) a b → m ≤ n → Adds m G a b
   rows_all {n} p h f e = p f e ∙ rows_ext m m _ _ (λ c i lc li. rw (lt-ltb c n (lt_of_lt_of_le lc h)))
-
-pub has-row : {m d e : ℕ} {l k : List ℕ} → HasRow m d l → length k ≡ length l → e < m → HasRow m e k
-has-row r e h = record { greatest = r.greatest; size = e ∙ r.size; row = h }

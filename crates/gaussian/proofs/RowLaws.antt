@@ -82,9 +82,6 @@ flipped-back a b s = rw (get_or-append-add, zero-add (s / 8)) (set_append_right 
 pub byte-in : (m n d s : ℕ) → d < n → s < m → d * bytes_for m + s / 8 < n * bytes_for m
 byte-in m n d s h l = omega (arith, suc-mul d (bytes_for m), mul-le-mul_right {m = suc d} {n = n} (bytes_for m) h)
 
-pub row_small : (m d : ℕ) → m ≤ max_width → d ≤ m → d * bytes_for m ≤ max_width * carried_bytes
-row_small m d h l = mul-le-mul {n₁ = d} {m₁ = bytes_for m} {n₂ = max_width} {m₂ = carried_bytes} (omega arith) (omega arith)
-
 -- one coordinate of one row
 module _ (m : ℕ) where
   flipped-row : (f : ℕ → ℕ) (s : ℕ) → s < m → flipped (from_coords (bytes_for m) m f) 0 s ≡ from_coords (bytes_for m) m (λ i. f i + choose (eqb i s) 1 0)
