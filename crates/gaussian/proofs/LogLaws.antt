@@ -2,7 +2,7 @@
 use mathlib.Core.Path.{◌≡◌, sym, ap, ◌∙◌}
 use mathlib.Core.List.{List}
 use Prim.Native.Nat.{ℕ, ◌+◌, ◌-◌, ◌*◌, ◌%◌, ◌^◌, ◌<◌, ◌≤◌}
-use native.Mathlib.Nat.{mod-mod, mod-eq_of_lt, pow-zero, pow-suc}
+use native.Mathlib.Nat.{mod-mod, mod-eq_of_lt, pow-suc}
 use native.Mathlib.Decide.{ℕ_discrete}
 use native.Mathlib.Numerals.{add-one}
 use native.Mathlib.Omega.{arith}
@@ -17,7 +17,7 @@ use Rattle.gaussian.specs.Table.{gives}
 use Rattle.gaussian.specs.Inner.{residues, Residue, Drawable, Logarithms}
 use Rattle.gaussian.proofs.Modulo.{mul-cong}
 use Rattle.gaussian.proofs.Cosets.{power-one, coset-in, coset-out}
-use Rattle.gaussian.proofs.ResidueLaws.{residue, residue-of}
+use Rattle.gaussian.proofs.ResidueLaws.{residue-of}
 
 pub record LogLoop (m t : ℕ) (logs : List ℕ) (y s : ℕ) : Type 0 where
   pub power : (2 ^ t) ^ s % modulus m t ≡ y

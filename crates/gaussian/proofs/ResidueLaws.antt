@@ -1,14 +1,13 @@
 -- Residues modulo p: what is a residue; the loop that makes a power.
 use mathlib.Core.Path.{◌≡◌, sym, ap, ◌∙◌}
 use Prim.Native.Nat.{ℕ, ◌+◌, ◌*◌, ◌/◌, ◌%◌, ◌^◌, ◌<◌, ◌≤◌}
-use native.Mathlib.Nat.{lt_of_le_of_lt, mul-le-mul, mul-one, one-mul, mul_assoc, mod-lt, mod_self, mod-mod, mod-eq_of_lt, pow-zero, pow-suc}
+use native.Mathlib.Nat.{mul-one, one-mul, mul_assoc, mod-lt, mod-mod, mod-eq_of_lt, pow-zero, pow-suc}
 use native.Mathlib.Omega.{arith}
 use lib.Pow.{pow-add}
 use Rattle.gaussian.specs.Types.{modulus}
 use Rattle.gaussian.specs.Inner.{residues, Residue, Drawable}
 use Rattle.gaussian.proofs.Modulo.{mul-cong, mul-pow, pow-cong}
-use Rattle.gaussian.proofs.TypeBound.{modulus-small, modulus-fits}
-use Rattle.gaussian.proofs.Cosets.{at_least}
+use Rattle.gaussian.proofs.TypeBound.{modulus-small}
 
 -- what is left modulo p is a residue, and so is what is less than the p of a width and type that can be drawn
 pub residue-of : {p a b : ℕ} (x : ℕ) → b ≡ x % p → Residue p a → Residue p b

@@ -2,8 +2,8 @@
 use mathlib.Core.Path.{◌≡◌, refl, sym, ap, ap₂, ◌∙◌}
 use mathlib.Core.Bool.{Bool, true, false}
 use mathlib.Core.List.{List, [], ◌∷◌, ◌++◌, append-nil, append_assoc}
-use Prim.Native.Nat.{ℕ, zero, suc, ◌+◌, ◌*◌, ◌/◌, ◌%◌, ◌^◌, ◌<◌, ◌≤◌}
-use native.Mathlib.Nat.{add-zero, add-suc, zero-mul, zero-div, one-mul, mod-eq_of_lt, mul-le-mul, zero-add, suc-add, suc-mul, mul-le-mul_right, lt_irrefl, lt_of_lt_of_le}
+use Prim.Native.Nat.{ℕ, zero, suc, ◌+◌, ◌*◌, ◌/◌, ◌%◌, ◌^◌, ◌<◌}
+use native.Mathlib.Nat.{add-zero, add-suc, zero-mul, zero-div, one-mul, mod-eq_of_lt, zero-add, suc-add, suc-mul, mul-le-mul_right, lt_irrefl, lt_of_lt_of_le}
 use native.Mathlib.Decide.{ℕ_discrete}
 use native.Mathlib.Omega.{arith}
 use native.Mathlib.Numerals.{add-one}
@@ -15,7 +15,7 @@ use lib.Dec.{eqb, ltb}
 use borrow.Author.Tests.{eq-eqb, ne_eqb, eqb-true, ltb-true}
 use Rattle.gf2.specs.Sums.{every}
 use Rattle.gf2.specs.Coordinates.{coord, tabulate}
-use Rattle.gf2.specs.Operands.{max_width, carried_bytes, bytes_for, choose, below, from_coords, IsOperand}
+use Rattle.gf2.specs.Operands.{bytes_for, choose, below, from_coords, IsOperand}
 use Rattle.gf2.specs.Tables.{IsTable, row}
 use Rattle.gf2.proofs.Sums.{every-at}
 use Rattle.gf2.proofs.Coordinates.{xor-bit, pack-of}
