@@ -7,7 +7,7 @@ use mathlib.Core.Path.{◌≡◌, refl, sym, ap, ◌∙◌}
 use mathlib.Core.List.{List, [], ◌∷◌, ◌++◌, append_assoc, append-nil}
 use mathlib.Core.Bool.{Bool, true, false}
 use Prim.Native.Nat.{ℕ, zero, suc, ◌+◌, ◌-◌, ◌*◌, ◌/◌, ◌%◌, ◌^◌, ◌<◌, ◌≤◌}
-use native.Mathlib.Nat.{zero-add, add-zero, zero-mul, suc-mul, mul-le-mul}
+use native.Mathlib.Nat.{zero-add, zero-mul, suc-mul}
 use native.Mathlib.Numerals.{add-one}
 use native.Mathlib.Decide.{ℕ_discrete, dec_lt}
 use native.Mathlib.Omega.{arith}
@@ -221,19 +221,6 @@ pub record RowsTo (m first count : ℕ) (s₀ s old new : List ℕ) (d left : �
   pub reads : read_rows m count s₀ ≡ after front (read_rows m left s)
   pub stored : new ≡ sets old (first * bytes_for m) front
   pub kept : length new ≡ length old
-
--- row d has its place in a table
-pub row-place : (d size : ℕ) → d ≤ max_width → size ≤ carried_bytes → d * size ≤ max_width * carried_bytes
-row-place d size h l = mul-le-mul h l
-
-pub rows_none : (m first count : ℕ) (s old : List ℕ) → RowsTo m first count s s old old first count
-rows_none m first count s old = record {
-  front = [];
-  size = add-zero (first * bytes_for m);
-  reads = after-nil (read_rows m count s);
-  stored = refl;
-  kept = refl;
-}
 
 module _ {m first count d left : ℕ} {s₀ s old new : List ℕ} (to : RowsTo m first count s₀ s old new d left) where
   pub rows-refused : {f : Fault} {more : ℕ} → left ≡ suc more → read_row m s ≡ refused f → RowsRead m first count s₀ (refused f) old new

@@ -5,14 +5,13 @@
 use Rattle.std.specs.Prelude.{Result, Ok, Err}
 use mathlib.Core.Path.{◌≡◌, refl, sym, ap, ap₂, ◌∙◌}
 use mathlib.Core.List.{List, [], ◌∷◌, ◌++◌}
-use mathlib.Core.Bool.{Bool, true, false}
 use Prim.Native.Nat.{ℕ, zero, suc, ◌+◌, ◌-◌, ◌*◌, ◌/◌, ◌%◌, ◌<◌, ◌≤◌}
 use native.Mathlib.Nat.{add-zero, zero-add, mod-eq_of_lt}
 use native.Mathlib.Numerals.{add-one}
 use native.Mathlib.Decide.{ℕ_discrete, dec_lt}
 use native.Mathlib.Omega.{arith}
 use lib.ListN.{length, set, length-append}
-use lib.Seq.{sets, length-sets}
+use lib.Seq.{sets}
 use borrow.Author.Tests.{lt-ltb}
 use Rattle.gf2.specs.Sums.{sum}
 use Rattle.gf2.specs.Coordinates.{coord}
@@ -74,9 +73,6 @@ module _ {at next : ℕ} {whole rest old new : List ℕ} (to : Left at whole old
 
   pub left-fits : InCard at whole → InCard next rest
   left-fits h = record { within = omega (arith, h.within, rest_put.ends) }
-
-  pub left-kept : length new ≡ length old
-  left-kept = sym (length-sets new next rest) ∙ ap length rest_put.stored ∙ length-sets old at whole
 
   pub left-more : {x y put : List ℕ} {then : ℕ} → rest ≡ x ++ y → CardPut next x then new put → Left at whole old then y put
   left-more e p = record { completes = λ q. to.completes (rw e (put_both p q)) }
@@ -143,9 +139,6 @@ next_place x free {r} e some =
 pub record StepsTo (x : List ℕ) (at : ℕ) (old new : List ℕ) (next free left : ℕ) : Type 0 where
   pub counted : left ≡ length (ones_from x free)
   pub remains : Left at (steps 0 (limb_ones x)) old next (steps free (ones_from x free)) new
-
-pub steps-none : (x : List ℕ) (at : ℕ) (old : List ℕ) {count : ℕ} → count ≡ length (limb_ones x) → StepsTo x at old old at 0 count
-steps-none x at old e = record { counted = e; remains = left-all at (steps 0 (limb_ones x)) old }
 
 module _ {x : List ℕ} {at : ℕ} {old new : List ℕ} {next free left : ℕ} (to : StepsTo x at old new next free left) where
   module _ {more : ℕ} (h : left ≡ suc more) {r : ℕ} (e : r ≡ next_one x free) where
@@ -224,11 +217,6 @@ module _ {m : ℕ} {t : List ℕ} (ok : Writable m t) (d : ℕ) (l : d < m) {x :
 -- the loop over the rows: those below d are put
 pub record RowsPut (m : ℕ) (table : List ℕ) (start count at : ℕ) (old new : List ℕ) (next d : ℕ) : Type 0 where
   pub remains : Left at (rows_card m table start count) old next (rows_card m table d (start + count - d)) new
-
-pub rows_none : (m : ℕ) (table : List ℕ) (start count at : ℕ) (old : List ℕ) → RowsPut m table start count at old old at start
-rows_none m table start count at old =
-    let z : start + count - start ≡ count = omega arith in
-    record { remains = rw z (left-all at (rows_card m table start count) old) }
 
 module _ {m : ℕ} {table : List ℕ} {start count at : ℕ} {old new : List ℕ} {next d : ℕ} (to : RowsPut m table start count at old new next d) where
   rows_split : d < start + count → rows_card m table d (start + count - d) ≡ row_card m (row m table d) ++ rows_card m table (d + 1) (start + count - (d + 1))

@@ -6,7 +6,7 @@ use Prim.Native.Nat.{ℕ, ◌+◌, ◌*◌, ◌/◌, ◌%◌, ◌^◌, ◌<◌, 
 use native.Mathlib.Nat.{lt_irrefl, lt_of_lt_of_le}
 use native.Mathlib.Decide.{ℕ_discrete, dec_lt}
 use native.Mathlib.Omega.{arith}
-use lib.ListN.{length, get_or, set}
+use lib.ListN.{get_or, set}
 use lib.Bits.{bit_xor}
 use lib.Dec.{eqb, ltb}
 use borrow.Author.Tests.{eq-eqb, ne_eqb, lt-ltb, le-ltb}
@@ -84,6 +84,3 @@ module _ (m : ℕ) (G : ℕ → ℕ → ℕ) where
 
   pub rows_all : {n : ℕ} {a b : List ℕ} → Adds m (up_to n) a b → m ≤ n → Adds m G a b
   rows_all {n} p h f e = p f e ∙ rows_ext m m _ _ (λ c i lc li. rw (lt-ltb c n (lt_of_lt_of_le lc h)))
-
-pub has-row : {m d e : ℕ} {l k : List ℕ} → HasRow m d l → length k ≡ length l → e < m → HasRow m e k
-has-row r e h = record { greatest = r.greatest; size = e ∙ r.size; row = h }

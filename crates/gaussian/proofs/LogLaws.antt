@@ -2,7 +2,7 @@
 use mathlib.Core.Path.{◌≡◌, sym, ap, ◌∙◌}
 use mathlib.Core.List.{List}
 use Prim.Native.Nat.{ℕ, ◌+◌, ◌-◌, ◌*◌, ◌%◌, ◌^◌, ◌<◌, ◌≤◌}
-use native.Mathlib.Nat.{mod-mod, mod-eq_of_lt, pow-zero, pow-suc}
+use native.Mathlib.Nat.{mod-mod, mod-eq_of_lt, pow-suc}
 use native.Mathlib.Decide.{ℕ_discrete}
 use native.Mathlib.Numerals.{add-one}
 use native.Mathlib.Omega.{arith}
@@ -17,7 +17,7 @@ use Rattle.gaussian.specs.Table.{gives}
 use Rattle.gaussian.specs.Inner.{residues, Residue, Drawable, Logarithms}
 use Rattle.gaussian.proofs.Modulo.{mul-cong}
 use Rattle.gaussian.proofs.Cosets.{power-one, coset-in, coset-out}
-use Rattle.gaussian.proofs.ResidueLaws.{residue, residue-of}
+use Rattle.gaussian.proofs.ResidueLaws.{residue-of}
 
 pub record LogLoop (m t : ℕ) (logs : List ℕ) (y s : ℕ) : Type 0 where
   pub power : (2 ^ t) ^ s % modulus m t ≡ y
@@ -29,13 +29,6 @@ pub no-logarithms : (m t : ℕ) → Logarithms m t 0 (replicate residues 0)
 no-logarithms m t = record { size = length-replicate {A = ℕ} residues 0; known = λ s l. absurd (omega arith); sound = λ y s e. absurd (omega (arith, zero-at residues y, e)) }
 
 module _ {m t : ℕ} (d : Drawable m t) where
-  pub log-start : {logs : List ℕ} → Logarithms m t 0 logs → LogLoop m t logs 1 0
-  log-start l = let h = d.is_type.0.0 in record {
-    power = ap (λ x. x % modulus m t) (pow-zero (2 ^ t)) ∙ mod-eq_of_lt h;
-    less = residue 1 d h;
-    entries = l;
-  }
-
   module _ {logs : List ℕ} {y s : ℕ} (l : LogLoop m t logs y s) (below : s < m) where
     new-known : (i : ℕ) → i < s + 1 → get_or (set logs y (s + 1)) ((2 ^ t) ^ i % modulus m t) 0 ≡ i + 1
     new-known i h = elim (ℕ_discrete i s) [

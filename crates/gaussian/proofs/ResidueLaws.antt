@@ -1,18 +1,13 @@
--- Residues modulo p: their products fit; what is a residue; what is left of a number up to p; the loop that makes a power.
+-- Residues modulo p: what is a residue; the loop that makes a power.
 use mathlib.Core.Path.{◌≡◌, sym, ap, ◌∙◌}
 use Prim.Native.Nat.{ℕ, ◌+◌, ◌*◌, ◌/◌, ◌%◌, ◌^◌, ◌<◌, ◌≤◌}
-use native.Mathlib.Nat.{lt_of_le_of_lt, mul-le-mul, mul-one, one-mul, mul_assoc, mod-lt, mod_self, mod-mod, mod-eq_of_lt, pow-zero, pow-suc}
+use native.Mathlib.Nat.{mul-one, one-mul, mul_assoc, mod-lt, mod-mod, mod-eq_of_lt, pow-zero, pow-suc}
 use native.Mathlib.Omega.{arith}
 use lib.Pow.{pow-add}
 use Rattle.gaussian.specs.Types.{modulus}
 use Rattle.gaussian.specs.Inner.{residues, Residue, Drawable}
 use Rattle.gaussian.proofs.Modulo.{mul-cong, mul-pow, pow-cong}
-use Rattle.gaussian.proofs.TypeBound.{modulus-small, modulus-fits}
-use Rattle.gaussian.proofs.Cosets.{at_least}
-
--- 64 bits hold the product of two residues
-pub product-fits : {p a b : ℕ} → Residue p a → Residue p b → a * b < 2 ^ 64
-product-fits ra rb = lt_of_le_of_lt (mul-le-mul (omega (arith, ra.less)) (omega (arith, rb.less))) (modulus-fits ra.small).multiplied
+use Rattle.gaussian.proofs.TypeBound.{modulus-small}
 
 -- what is left modulo p is a residue, and so is what is less than the p of a width and type that can be drawn
 pub residue-of : {p a b : ℕ} (x : ℕ) → b ≡ x % p → Residue p a → Residue p b
@@ -24,21 +19,7 @@ drawable-small d = modulus-small d.small d.greatest
 pub residue : {m t : ℕ} (x : ℕ) → Drawable m t → x < modulus m t → Residue (modulus m t) x
 residue x d h = record { above = d.is_type.0.0; small = drawable-small d; less = h }
 
--- 2 is a residue
-pub two-less : {m t : ℕ} → Drawable m t → 2 < modulus m t
-two-less {m} {t} d = let h = d.least in omega (arith, at_least m t d.least d.is_type)
-
--- nothing is left of p itself, and a lesser number is left whole
-pub rest-none : (s p : ℕ) → s ≡ p → 0 ≡ s % p
-rest-none s p e = rw e (sym (mod_self p))
-
-pub rest-whole : {s p : ℕ} → s ≤ p → (s ≡ p → ⊥) → s ≡ s % p
-rest-whole h n = sym (mod-eq_of_lt (omega arith))
-
--- the digit 0, and the digit 1
-pub digit-zero : {p r : ℕ} (x e : ℕ) → Residue p r → e % 2 ≡ 0 → r ≡ r * x ^ (e % 2) % p
-digit-zero {p} {r} x e q z = rw (z, pow-zero, mul-one) (sym (mod-eq_of_lt q.less))
-
+-- the digit 1
 pub digit-one : (p r x e : ℕ) → (e % 2 ≡ 0 → ⊥) → r * x % p ≡ r * x ^ (e % 2) % p
 digit-one p r x e n = let one : e % 2 ≡ 1 = omega arith in rw one (ap (λ y. r * y % p) (sym (one_power x)))
   where
@@ -50,13 +31,6 @@ pub record PowerLoop (x e p r square left : ℕ) : Type 0 where
   pub done : Residue p r
   pub factor : Residue p square
   pub value : r * square ^ left % p ≡ x ^ e % p
-
-pub power-start : {p x : ℕ} (e : ℕ) → Residue p x → PowerLoop x e p 1 x e
-power-start {p} {x} e q = let h = q.above in record {
-  done = record { above = h; small = q.small; less = h };
-  factor = q;
-  value = ap (λ y. y % p) (one-mul (x ^ e));
-}
 
 pub power-more : {x e p r square left n k : ℕ} → PowerLoop x e p r square left → n ≡ r * square ^ (left % 2) % p → k ≡ square * square % p → PowerLoop x e p n k (left / 2)
 power-more {x} {e} {p} {r} {square} {left} {n} {k} l en ek = record {

@@ -2,8 +2,8 @@
 use mathlib.Core.Path.{◌≡◌, refl, sym, ap, ap₂, ◌∙◌}
 use mathlib.Core.Bool.{Bool, true, false}
 use mathlib.Core.List.{List, [], ◌∷◌, ◌++◌, append-nil, append_assoc}
-use Prim.Native.Nat.{ℕ, zero, suc, ◌+◌, ◌*◌, ◌/◌, ◌%◌, ◌^◌, ◌<◌, ◌≤◌}
-use native.Mathlib.Nat.{add-zero, add-suc, zero-mul, zero-div, one-mul, mod-eq_of_lt, mul-le-mul, zero-add, suc-add, suc-mul, mul-le-mul_right, lt_irrefl, lt_of_lt_of_le}
+use Prim.Native.Nat.{ℕ, zero, suc, ◌+◌, ◌*◌, ◌/◌, ◌%◌, ◌^◌, ◌<◌}
+use native.Mathlib.Nat.{add-zero, add-suc, zero-mul, zero-div, one-mul, mod-eq_of_lt, zero-add, suc-add, suc-mul, mul-le-mul_right, lt_irrefl, lt_of_lt_of_le}
 use native.Mathlib.Decide.{ℕ_discrete}
 use native.Mathlib.Omega.{arith}
 use native.Mathlib.Numerals.{add-one}
@@ -15,7 +15,7 @@ use lib.Dec.{eqb, ltb}
 use borrow.Author.Tests.{eq-eqb, ne_eqb, eqb-true, ltb-true}
 use Rattle.gf2.specs.Sums.{every}
 use Rattle.gf2.specs.Coordinates.{coord, tabulate}
-use Rattle.gf2.specs.Operands.{max_width, carried_bytes, bytes_for, choose, below, from_coords, IsOperand}
+use Rattle.gf2.specs.Operands.{bytes_for, choose, below, from_coords, IsOperand}
 use Rattle.gf2.specs.Tables.{IsTable, row}
 use Rattle.gf2.proofs.Sums.{every-at}
 use Rattle.gf2.proofs.Coordinates.{xor-bit, pack-of}
@@ -81,9 +81,6 @@ flipped-back a b s = rw (get_or-append-add, zero-add (s / 8)) (set_append_right 
 -- a byte of row d
 pub byte-in : (m n d s : ℕ) → d < n → s < m → d * bytes_for m + s / 8 < n * bytes_for m
 byte-in m n d s h l = omega (arith, suc-mul d (bytes_for m), mul-le-mul_right {m = suc d} {n = n} (bytes_for m) h)
-
-pub row_small : (m d : ℕ) → m ≤ max_width → d ≤ m → d * bytes_for m ≤ max_width * carried_bytes
-row_small m d h l = mul-le-mul {n₁ = d} {m₁ = bytes_for m} {n₂ = max_width} {m₂ = carried_bytes} (omega arith) (omega arith)
 
 -- one coordinate of one row
 module _ (m : ℕ) where

@@ -1,5 +1,5 @@
 -- `gaussian::listed_type` meets its contract.
-use mathlib.Core.Path.{ap, ◌∙◌}
+use mathlib.Core.Path.{◌∙◌}
 use Rattle.gaussian.proofs.Answers.{listed-answer}
 use Rattle.gaussian.proofs.listed_type.Goals as goal
 

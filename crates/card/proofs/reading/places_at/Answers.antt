@@ -18,9 +18,6 @@ pub returns-in_err-step : goal.returns-in_err-step
 returns-in_err-step c =
     told-refused _ c.from_residual.result c.from_residual.ensures.1 (places-refused c.loop.invariant (left (goal.at.returns-in_err-step c).After-number_at) (sym c.in_err-step.ensures))
 
-pub overflow_sub-width : goal.overflow_sub-width
-overflow_sub-width c = c.loop.invariant.within
-
 pub returns-then-width-free : goal.returns-then-width-free
 returns-then-width-free c =
     places-far c.loop.invariant (left (goal.at.returns-then-width-free c).After-number_at) (sym c.in_ok-step.ensures) c.if-width-free.true

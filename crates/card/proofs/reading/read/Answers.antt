@@ -1,8 +1,7 @@
 -- `card::reading::read` meets its contract.
-use mathlib.Core.Path.{sym, ◌∙◌}
+use mathlib.Core.Path.{sym}
 use native.Mathlib.Omega.{arith}
 use Rattle.card.proofs.Trips.{head-parts}
-use Rattle.card.proofs.Numbers.{no_value}
 use Rattle.card.proofs.ReadSteps.{answered-refused, card-head, card-rows, card-tail, card-done}
 use Rattle.card.proofs.reading.read.Goals as goal
 
@@ -31,10 +30,6 @@ pub rows_at-requires-2 : goal.rows_at-requires-2
 rows_at-requires-2 c =
     let lent = (head-parts _ _ _ _ (sym c.in_ok-width.ensures)).lent in
     (lent.greatest, omega arith)
-
--- the first pass has found no fault
-pub returns-in_err-rows_at : goal.returns-in_err-rows_at
-returns-in_err-rows_at c = no_value (c.in_err-rows_at.ensures.ends ∙ sym c.in_ok-end.ensures.ends)
 
 pub returns : goal.returns
 returns c =

@@ -3,18 +3,13 @@ use mathlib.Core.Path.{◌≡◌, refl, sym}
 use Prim.Native.Nat.{suc, ◌+◌, ◌-◌}
 use native.Mathlib.Omega.{arith}
 use Rattle.judging.proofs.CauseLaws.{handed_on}
-use Rattle.card.proofs.ReadSteps.{carried-got, carried-refused, rows_none, rows-refused, rows_more, rows-done}
+use Rattle.card.proofs.ReadSteps.{carried-got, carried-refused, rows-refused, rows_more, rows-done}
 use Rattle.card.proofs.reading.rows_at.Goals as goal
 use Rattle.card.proofs.reading.rows_at.Goals.{After-row_at}
 
 -- this row is left, and the others
 left : (c : After-row_at) → c.args.first + c.args.count - c.loop-d.d ≡ suc (c.args.first + c.args.count - (c.loop-d.d + 1))
 left c = let w = c.loop-d-test.true in omega arith
-
-pub loop-d-init : goal.loop-d-init
-loop-d-init c =
-    let all : c.args.first + c.args.count - c.args.first ≡ c.args.count = omega arith in
-    rw all (rows_none _ _ _ _ _)
 
 pub returns-in_err-row : goal.returns-in_err-row
 returns-in_err-row c =

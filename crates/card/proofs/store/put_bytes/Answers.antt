@@ -1,5 +1,5 @@
 -- `card::store::put_bytes` meets its contract.
-use mathlib.Core.Path.{◌≡◌, refl, ◌∙◌}
+use mathlib.Core.Path.{◌≡◌, ◌∙◌}
 use native.Mathlib.Omega.{arith}
 use lib.ListN.{length}
 use Rattle.gf2.specs.Operands.{carried_bytes}
@@ -7,18 +7,9 @@ use Rattle.card.proofs.Stores.{sets-one}
 use borrow.Author.Rules.{rules}
 use Rattle.card.proofs.store.put_bytes.Goals as goal
 
-pub loop-b-init : goal.loop-b-init
-loop-b-init c = (refl, refl)
-
 pub loop-b-preserved : goal.loop-b-preserved
 loop-b-preserved c =
     let w = c.loop-b in
     let a = c.args in
     let len : length a.row ≡ carried_bytes = search rules in
     (c.put.ensures ∙ rw w.invariant.0 (sets-one a.out.now a.row a.at w.b (omega arith)), c.put.auto.out ∙ w.invariant.1)
-
-pub shape_of-out : goal.shape_of-out
-shape_of-out c = c.loop-b.invariant.1
-
-pub returns : goal.returns
-returns c = let e : c.loop-b.b ≡ c.args.size = omega arith in rw e at c.loop-b.invariant.0

@@ -1,18 +1,14 @@
 -- `card_writer::writing::put_places` meets its contract.
 use mathlib.Core.Path.{◌≡◌}
 use Prim.Native.Nat.{suc, ◌+◌, ◌-◌}
-use native.Mathlib.Nat.{sub-zero}
 use native.Mathlib.Omega.{arith}
-use Rattle.card_writer.proofs.WriteSteps.{left-kept, steps-none, steps_next, steps-fits, steps-more, steps-done}
+use Rattle.card_writer.proofs.WriteSteps.{steps_next, steps-fits, steps-more, steps-done}
 use Rattle.card_writer.proofs.writing.put_places.Goals as goal
 use Rattle.card_writer.proofs.writing.put_places.Goals.{After-next_one-i}
 
 -- this place is left, and the others
 left : (c : After-next_one-i) → c.args.count - c.loop.counter ≡ suc (c.args.count - (c.loop.counter + 1))
 left c = let w = c.loop-test.true in omega arith
-
-pub loop-init : goal.loop-init
-loop-init c = rw sub-zero (steps-none _ _ _ c.requires.0)
 
 pub overflow_sub-i : goal.overflow_sub-i
 overflow_sub-i c = (steps_next c.loop.invariant (left (goal.at.overflow_sub-i c).After-next_one-i) c.next_one-i.ensures).above
@@ -30,9 +26,6 @@ overflow_add-free c =
 pub loop-preserved : goal.loop-preserved
 loop-preserved c =
     steps-more c.loop.invariant (left (goal.at.loop-preserved c).After-next_one-i) c.next_one-i.ensures c.put_number-next.ensures
-
-pub shape_of-out : goal.shape_of-out
-shape_of-out c = left-kept c.loop.invariant.remains
 
 pub returns : goal.returns
 returns c = steps-done c.loop.invariant (omega arith)

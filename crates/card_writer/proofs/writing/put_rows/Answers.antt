@@ -1,10 +1,7 @@
 -- `card_writer::writing::put_rows` meets its contract.
 use native.Mathlib.Omega.{arith}
-use Rattle.card_writer.proofs.WriteSteps.{left-kept, rows_none, rows-fits, rows_more, rows-done}
+use Rattle.card_writer.proofs.WriteSteps.{rows-fits, rows_more, rows-done}
 use Rattle.card_writer.proofs.writing.put_rows.Goals as goal
-
-pub loop-d-init : goal.loop-d-init
-loop-d-init c = rows_none _ _ _ _ _ _
 
 pub put_row-next-requires : goal.put_row-next-requires
 put_row-next-requires c =
@@ -14,9 +11,6 @@ put_row-next-requires c =
 pub loop-d-preserved : goal.loop-d-preserved
 loop-d-preserved c =
     rows_more c.loop-d.invariant (omega (arith, c.loop-d-test.true)) c.put_row-next.ensures
-
-pub shape_of-out : goal.shape_of-out
-shape_of-out c = left-kept c.loop-d.invariant.remains
 
 pub returns : goal.returns
 returns c = rows-done c.loop-d.invariant (omega arith)

@@ -1,6 +1,5 @@
 -- `card_writer::writing::write` meets its contract.
 use mathlib.Core.Path.{sym, ◌∙◌}
-use native.Mathlib.Omega.{arith}
 use Rattle.judging.proofs.CauseLaws.{handed_on}
 use Rattle.card_writer.proofs.WriteSteps.{shape-writable, wrote-shape, wrote-short, wrote-card}
 use Rattle.card_writer.proofs.writing.write.Goals as goal

@@ -2,9 +2,6 @@
 use Rattle.gaussian.proofs.TermLaws.{term_in, term-out}
 use Rattle.gaussian.proofs.drawing.add_term.Goals as goal
 
-pub power-requires : goal.power-requires
-power-requires c = rw c.modulus.ensures c.requires.3
-
 pub returns-then-power-eq1 : goal.returns-then-power-eq1
 returns-then-power-eq1 c =
     term_in _ _ _ _ (rw c.modulus.ensures at c.power.ensures) c.if-power-eq1.true c.add_images.ensures

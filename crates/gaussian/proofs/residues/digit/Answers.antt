@@ -1,10 +1,7 @@
 -- `gaussian::residues::digit` meets its contract.
 use mathlib.Core.Path.{◌∙◌}
-use Rattle.gaussian.proofs.ResidueLaws.{digit-zero, digit-one}
+use Rattle.gaussian.proofs.ResidueLaws.{digit-one}
 use Rattle.gaussian.proofs.residues.digit.Goals as goal
-
-pub returns-then-e-eq0 : goal.returns-then-e-eq0
-returns-then-e-eq0 c = digit-zero _ _ c.requires.0 c.if-e-eq0.true
 
 pub returns-else-e-eq0 : goal.returns-else-e-eq0
 returns-else-e-eq0 c = c.times.ensures ∙ digit-one _ _ _ _ c.if-e-eq0.false

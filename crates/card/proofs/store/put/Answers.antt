@@ -1,7 +1,0 @@
--- `card::store::put` meets its contract.
-use mathlib.Core.Path.{sym}
-use lib.Seq.{set_out}
-use Rattle.card.proofs.store.put.Goals as goal
-
-pub returns-else-at-out : goal.returns-else-at-out
-returns-else-at-out c = sym (set_out _ _ _ c.if-at-out.false)
