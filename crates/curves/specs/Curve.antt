@@ -46,7 +46,8 @@ abbrev pub has_point : (Operand → Bool) → Result Operand Fault → Bool
 has_point test (Ok y) = test y
 has_point test (Err f) = false
 
--- m is no greater than the greatest width, and the point with the published digits x and y, `change` added to y, is on the curve with the coefficients a and b
+-- m is no greater than the greatest width, and the point with the published digits x and y, `change` added to y,
+-- is on the curve with the coefficients a and b
 abbrev pub point_on_curve : ℕ → List ℕ → List ℕ → List ℕ → List ℕ → List ℕ → List ℕ → Bool
 point_on_curve m table a b x y change =
     leb m max_width

@@ -63,7 +63,8 @@ product_answer k m table x y = answer (judged (factor_causes k m table x y)) m (
 abbrev pub inverse_answer : ℕ → List ℕ → List ℕ → Result Inverted Fault
 inverse_answer m table x = answered (judged (unit_causes m table x)) (counted m (inverse m table x) (products_made m table x))
 
--- whether row d meets its pairs one way round: always in the plain product, and in the reduced at distance m/2, where the other way gives the same pairs
+-- whether row d meets its pairs one way round: always in the plain product, and in the reduced at distance m/2,
+-- where the other way gives the same pairs
 abbrev pub is_one_way : Method → ℕ → ℕ → Bool
 is_one_way Plain m d = true
 is_one_way Reduced m d = eqb (2 * d) m

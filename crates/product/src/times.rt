@@ -43,10 +43,8 @@ pub(crate) fn times(
     requires { Serves method width table.now × Sound width a × Sound width b × (g.old ≡ replicate (slots * twice_limbs) 0) }
     ensures { result ≡ operand_of width (multiplied method width table.now a.bytes b.bytes) }
 {
-    let p = a.bytes;
-    let q = b.bytes;
-    let x = limbs::to_limbs(p);
-    let y = limbs::to_limbs(q);
+    let x = limbs::to_limbs(a.bytes);
+    let y = limbs::to_limbs(b.bytes);
     kernel::add_rows(
         method,
         width,
