@@ -29,11 +29,9 @@ fn byte(digits: &[u8], start: usize, b: usize) -> u8
     requires { (start < 4) × (b < carried_bytes) }
     ensures { result ≡ value 8 (λ j. digit_bit digits.now (start + (b * 8 + j))) }
 {
-    let mut out: u8 = 0;
-    let mut j = 0;
-    while j < 8 {
+    let mut out = 0;
+    for j in 0..8 {
         out += bit(digits, start + (b * 8 + j)) << j;
-        j += 1;
     }
     out
 }
@@ -42,12 +40,10 @@ fn byte(digits: &[u8], start: usize, b: usize) -> u8
 pub(crate) fn operand(width: u16, digits: &[u8]) -> Operand
     ensures { result ≡ published width digits.now }
 {
-    let start = (4 - width as usize % 4) % 4;
+    let start = (4 - usize::from(width) % 4) % 4;
     let mut bytes = [0u8; Operand::BYTES];
-    let mut b = 0;
-    while b < Operand::BYTES {
+    for b in 0..Operand::BYTES {
         bytes[b] = byte(digits, start, b);
-        b += 1;
     }
     Operand { bytes, width }
 }

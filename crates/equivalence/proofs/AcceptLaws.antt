@@ -3,7 +3,7 @@
 -- Operands: the products of two basis operands, and of one that is zero.
 -- Right: a list whose outputs have the right products gives the product.
 -- Given: a list that gives the product of all operands has no wrong output; basis operands tell its products.
-use Rattle.std.specs.Prelude.{is_ok}
+use Rattle.std.specs.Prelude.{Ok}
 use mathlib.Core.Path.{◌≡◌, refl, sym, ap, ap₂, ◌∙◌}
 use mathlib.Core.Logic.{inl, inr}
 use mathlib.Core.Bool.{true, false}
@@ -82,7 +82,7 @@ outputs-right m table list p r l =
     not-not _ (fine-at (λ r. wrong_output m table list r ∷ []) 0 m q.1.1.1.1 r (omega arith) (omega arith)).0
 
 -- the counts of a list that is accepted
-pub counts-few : (m : ℕ) (table list : List ℕ) → is_ok (accept_verdict m table list) ≡ true → and_gates (read_list list m).gates + xor_gates (read_list list m).gates ≤ most_gates
+pub counts-few : (m : ℕ) (table list : List ℕ) → accept_verdict m table list ≡ Ok tt → and_gates (read_list list m).gates + xor_gates (read_list list m).gates ≤ most_gates
 unfolding read_list gates_to
 counts-few m table list n =
     let p = fine (accept_causes m table list) n in

@@ -1,12 +1,13 @@
 -- Laws of a list's gates: the tests of their form as code makes them, the wires of a gate that has passed, and the ANDs among the first.
-use mathlib.Core.Path.{◌≡◌, refl, ap, ◌∙◌}
+use mathlib.Core.Path.{◌≡◌, refl, sym, ap, ap₂, ◌∙◌}
 use mathlib.Core.Bool.{true, false}
 use mathlib.Core.List.{List, [], ◌∷◌}
 use Prim.Native.Nat.{ℕ, zero, suc, ◌+◌, ◌-◌, ◌*◌, ◌<◌, ◌≤◌}
-use native.Mathlib.Numerals.{add-one}
 use native.Mathlib.Omega.{arith}
-use lib.Dec.{leb}
-use borrow.Author.Tests.{lt-leb, le-leb}
+use lib.Dec.{eqb, leb}
+use borrow.Author.Tests.{ne_eqb, lt-leb, le-leb}
+use Rattle.gf2.specs.Sums.{sum}
+use Rattle.gf2.proofs.Counts.{num}
 use Rattle.gf2.proofs.Sums.{every-at}
 use Rattle.netlist.specs.Gates.{and_gates, xor_gates}
 use Rattle.netlist.specs.Lists.{each}
@@ -64,30 +65,23 @@ module _ {m : ℕ} {list : List ℕ} (ready : Ready m list) {k : ℕ} (l : k < g
       (f.0, f.1, omega (arith, f.0, w.0), omega (arith, f.1, w.1))
 
 -- one gate more
-one-and : (kind l r : ℕ) → kind ≡ 0 → and_gates (gate_of kind l r ∷ []) ≡ 1
+one-gate : (kind l r : ℕ) → and_gates (gate_of kind l r ∷ []) ≡ num (eqb kind 0)
 unfolding and_gates
-one-and zero l r e = refl
-one-and (suc kind) l r e = absurd (omega arith)
-
-one-xor : (kind l r : ℕ) → (kind ≡ 0 → ⊥) → and_gates (gate_of kind l r ∷ []) ≡ 0
-unfolding and_gates
-one-xor zero l r n = absurd (n refl)
-one-xor (suc kind) l r n = refl
+one-gate zero l r = refl
+one-gate (suc kind) l r = rw (ne_eqb (suc kind) 0 (λ e. omega arith))
 
 module _ (list : List ℕ) where
-  pub ands-none : 0 ≡ and_gates (gates_to list 0)
-  unfolding gates_to each and_gates
-  ands-none = refl
-
-  ands-more : (k : ℕ) → and_gates (gates_to list (k + 1)) ≡ and_gates (gates_to list k) + and_gates (gate_of (kind_at list k) (left_at list k) (right_at list k) ∷ [])
+  ands-more : (k : ℕ) → and_gates (gates_to list (suc k)) ≡ and_gates (gates_to list k) + and_gates (gate_of (kind_at list k) (left_at list k) (right_at list k) ∷ [])
   unfolding gates_to each
-  ands-more k = rw add-one (and-append (gates_to list k) (gate_of (kind_at list k) (left_at list k) (right_at list k) ∷ []))
+  ands-more k = and-append (gates_to list k) (gate_of (kind_at list k) (left_at list k) (right_at list k) ∷ [])
 
-  pub and-more : (k n : ℕ) → kind_at list k ≡ 0 → n ≡ and_gates (gates_to list k) → n + 1 ≡ and_gates (gates_to list (k + 1))
-  and-more k n e h = omega (arith, ands-more k, one-and (kind_at list k) (left_at list k) (right_at list k) e, h)
-
-  pub xor-more : (k n : ℕ) → (kind_at list k ≡ 0 → ⊥) → n ≡ and_gates (gates_to list k) → n ≡ and_gates (gates_to list (k + 1))
-  xor-more k n e h = omega (arith, ands-more k, one-xor (kind_at list k) (left_at list k) (right_at list k) e, h)
+  -- the ANDs by the kinds
+  pub ands-counted : (g : ℕ) → sum g (λ k. num (eqb (kind_at list k) 0)) ≡ and_gates (gates_to list g)
+  unfolding sum
+  ands-counted zero = unfold gates_to each and_gates in refl
+  ands-counted (suc g) =
+      ap₂ ◌+◌ (ands-counted g) (sym (one-gate (kind_at list g) (left_at list g) (right_at list g)))
+      ∙ sym (ands-more g)
 
   -- what the ANDs leave of the gates
   pub xors-left : (m n g : ℕ) → g ≡ gate_count list → n ≡ and_gates (gates_to list g) →

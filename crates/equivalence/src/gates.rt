@@ -54,14 +54,7 @@ pub(crate) fn are_formed(width: usize, list: &[u32], g: usize) -> bool
     requires { (width ≤ most_width) × (g < word_limit) }
     ensures { result ≡ every g (is_formed width list.now) }
 {
-    let mut k = 0;
-    while k < g {
-        if !is_formed(width, list, k) {
-            return false;
-        }
-        k += 1;
-    }
-    true
+    (0..g).all(|k| is_formed(width, list, k))
 }
 
 // The ANDs among the first g gates.
@@ -69,13 +62,7 @@ pub(crate) fn count_ands(list: &[u32], g: usize) -> usize
     requires { g < word_limit }
     ensures { (result ≡ and_gates (gates_to list.now g)) × (result ≤ g) }
 {
-    let mut n: usize = 0;
-    let mut k = 0;
-    while k < g {
-        if runner::word(list, 2 + 3 * k) == 0 {
-            n += 1;
-        }
-        k += 1;
-    }
-    n
+    (0..g)
+        .filter(|k| runner::word(list, 2 + 3 * *k) == 0)
+        .count()
 }

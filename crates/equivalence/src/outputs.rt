@@ -42,14 +42,7 @@ fn same_row(width: usize, table: &[u8], squares: &[u64], k: usize, r: usize, i: 
     requires { Shaped width table.now × (width ≤ most_width) × HasSets squares.now × (k < most_gates) × (r < width) × (i < width) }
     ensures { result ≡ every width (λ j. eqb (bit_at squares.now k i j) (wanted width table.now r i j)) }
 {
-    let mut j = 0;
-    while j < width {
-        if in_set(squares, k, i, j) != is_wanted(width, table, r, i, j) {
-            return false;
-        }
-        j += 1;
-    }
-    true
+    (0..width).all(|j| in_set(squares, k, i, j) == is_wanted(width, table, r, i, j))
 }
 
 // The square of gate k, as far as the width goes.
@@ -57,14 +50,7 @@ fn same_set(width: usize, table: &[u8], squares: &[u64], k: usize, r: usize) -> 
     requires { Shaped width table.now × (width ≤ most_width) × HasSets squares.now × (k < most_gates) × (r < width) }
     ensures { result ≡ same_products width (bit_at squares.now k) (wanted width table.now r) }
 {
-    let mut i = 0;
-    while i < width {
-        if !same_row(width, table, squares, k, r, i) {
-            return false;
-        }
-        i += 1;
-    }
-    true
+    (0..width).all(|i| same_row(width, table, squares, k, r, i))
 }
 
 // The output for r: no product is summed in an input wire.
@@ -81,16 +67,19 @@ fn is_right(width: usize, table: &[u8], list: &[u32], squares: &[u64], r: usize)
 }
 
 // All outputs, to the first that is wrong.
-pub(crate) fn judge_outputs(width: usize, table: &[u8], list: &[u32], squares: &[u64]) -> Result<(), Fault>
+pub(crate) fn judge_outputs(
+    width: usize,
+    table: &[u8],
+    list: &[u32],
+    squares: &[u64],
+) -> Result<(), Fault>
     requires { Shaped width table.now × AllGathered width list.now squares.now }
     ensures { result ≡ judged (output_causes width table.now list.now) }
 {
-    let mut r = 0;
-    while r < width {
+    for r in 0..width {
         if !is_right(width, table, list, squares, r) {
             return Err(Fault::List(ListFault::Output(r)));
         }
-        r += 1;
     }
     Ok(())
 }

@@ -39,10 +39,8 @@ fn put_sum(sets: &mut [u64], k: usize, x: usize, y: usize)
     requires { HasSets sets.old × (k < most_gates) × (x < k) × (y < k) }
     ensures { SumPut set_limbs k x y sets.old sets.new }
 {
-    let mut w = 0;
-    while w < LIMBS {
+    for w in 0..LIMBS {
         sets[LIMBS * k + w] = sets[LIMBS * x + w] ^ sets[LIMBS * y + w];
-        w += 1;
     }
 }
 
@@ -66,9 +64,7 @@ pub(crate) fn fill_sets(width: usize, list: &[u32], g: usize, sets: &mut [u64])
     requires { Ready width list.now × (g ≡ gate_count list.now) × Gathered width list.now 0 sets.old }
     ensures { Gathered width list.now g sets.new }
 {
-    let mut k = 0;
-    while k < g {
+    for k in 0..g {
         fill_set(width, list, k, sets);
-        k += 1;
     }
 }

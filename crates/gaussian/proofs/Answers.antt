@@ -1,6 +1,6 @@
 -- What the calls answer, by the verdict.
 use Rattle.std.specs.Prelude.{None, Some, Result, Ok, Err}
-use Rattle.core.specs.Option.{ok_or}
+use Rattle.std.specs.Option.{ok_or}
 use mathlib.Core.Path.{◌≡◌, refl, sym, ap, ◌∙◌}
 use mathlib.Core.Bool.{Bool, true, false}
 use mathlib.Core.List.{List, [], ◌∷◌, ◌++◌}

@@ -2,7 +2,7 @@
 -- The fault of a list: of the first part and the rest; what a test that holds or fails makes of it.
 -- Exact: a fault is given exactly when its cause holds and no earlier one does.
 -- Small: what a fault returns has room, where that of each cause has.
--- Steps: parts judged one after another, as code does.
+-- Steps: parts judged one after another, as code does. Answers: by their verdict, and what their verdict is.
 use mathlib.Core.Path.{◌≡◌, refl, sym, ap, ◌∙◌}
 use mathlib.Core.Logic.{◌↔◌, inl, inr}
 use mathlib.Core.Bool.{Bool, true, false, true≢false}
@@ -16,7 +16,7 @@ use borrow.Author.Tests.{ltb-true, ne_eqb}
 use Rattle.gf2.proofs.Parity.{and_both}
 use Rattle.judging.specs.declared.fault.Fault.{Fault}
 use Rattle.judging.specs.Faults.{number_of}
-use Rattle.judging.specs.Causes.{Cause, Verdict, judged, answered, First, NoCause, Exact}
+use Rattle.judging.specs.Causes.{Cause, Verdict, judged, answered, verdict_of, First, NoCause, Exact}
 
 never : {A : Type 0} → false ≡ true → A
 never e = absurd (true≢false (sym e))
@@ -152,7 +152,14 @@ module _ (P : Verdict → Type 0) (none : P (Ok tt)) where
       (λ e. rw (head-holds c (cs ++ ds) e) (rw (sym (head-holds c cs e)) p))
       (λ e. rw (head-fails c (cs ++ ds) e) (keeps-both cs ds (rw (sym (head-fails c cs e)) p) (λ n. q (e, n))))
 
--- gaussian: an answer by its verdict, and the verdict of an answer that has a value, and of one that has none
+-- the verdict of an answer of which the rest is said apart
+pub verdict_err : {A : Type 0} {r : Result A Fault} {f : Fault} {v : Verdict} → verdict_of r ≡ v → r ≡ Err f → v ≡ Err f
+verdict_err e h = sym e ∙ ap verdict_of h
+
+pub verdict_ok : {A : Type 0} {r : Result A Fault} {x : A} {v : Verdict} → verdict_of r ≡ v → r ≡ Ok x → v ≡ Ok tt
+verdict_ok e h = sym e ∙ ap verdict_of h
+
+-- an answer by its verdict
 module _ {A : Type 0} (x : A) {v : Verdict} where
   pub answer-given : v ≡ Ok tt → Ok x ≡ answered v x
   unfolding answered
@@ -162,6 +169,7 @@ module _ {A : Type 0} (x : A) {v : Verdict} where
   unfolding answered
   answer-refused e = rw e
 
+-- the verdict of an answer that has a value, and of one that has none
 pub answer-passed : {A : Type 0} (v : Verdict) {x y : A} → answered v x ≡ Ok y → (v ≡ Ok tt) × (x ≡ y)
 unfolding answered
 answer-passed (Ok _) e = (refl, cc)
@@ -171,3 +179,14 @@ pub answer-failed : {A : Type 0} (v : Verdict) (x : A) {f : Fault} → answered 
 unfolding answered
 answer-failed (Ok _) x e = ok_or_err (sym e)
 answer-failed (Err g) x e = ap Err (same_fault (Err g) refl e)
+
+-- what is made of an answer's value, and its fault handed on
+pub of-answer : {A B : Type 0} (h : A → B) (v : Verdict) (x : A) {y : A} → answered v x ≡ Ok y → Ok (h y) ≡ answered v (h x)
+unfolding answered
+of-answer h (Ok _) x e = cc
+of-answer h (Err f) x e = ok_or_err e
+
+pub fault-of_answer : {A B : Type 0} (v : Verdict) (x : A) (y : B) {f : Fault} → answered v x ≡ Err f → Err f ≡ answered v y
+unfolding answered
+fault-of_answer (Ok _) x y e = ok_or_err (sym e)
+fault-of_answer (Err g) x y e = ap Err (same_fault (Err g) e refl)

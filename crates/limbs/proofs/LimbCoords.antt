@@ -8,8 +8,8 @@ use native.Mathlib.Nat.{add-zero, add_comm, mul_comm, mod-eq_of_lt, mod-lt, mod-
 use native.Mathlib.Decide.{dec_lt}
 use native.Mathlib.Omega.{arith}
 use lib.ListN.{length, get_or, replicate, length-replicate, get_or-replicate, get_or-eq_default}
-use lib.Bits.{bit_or, or_shifted, or_shifted_r}
-use lib.Pow.{pow_mono, shl_exact, shr-shr, shr_le}
+use lib.Bits.{bit_or, or_shifted}
+use lib.Pow.{pow_mono, shr-shr, shr_le}
 use Rattle.gf2.specs.Sums.{sum}
 use Rattle.gf2.specs.Coordinates.{coord, value, tabulate, pack}
 use Rattle.gf2.proofs.Coordinates.{value-ext, value-lt, value-bit, value-eq, value-split, length-tabulate, digit_at, digit-past, packed_lt, digit-packed, packed-of, packed-eq, digit-none, coord-lt, coord-past, coord-digit, pack-of, pack-ext, mod-bit}
@@ -94,23 +94,6 @@ pub joined_bytes : (s : List ℕ) (b : ℕ) → ((k : ℕ) → get_or s k 0 < 25
     ≡ value 64 (λ j. coord s (b * 8 + j))
 unfolding joined
 joined_bytes s b small = omega (arith, joined-eight s b small, ap (λ i. get_or s i 0) (add-zero b))
-
--- one byte more above the bits that are there
-or_byte : (k x y : ℕ) → x < 2 ^ k → y < 256 → k + 8 ≤ 64 → bit_or x (y * 2 ^ k % 2 ^ 64) ≡ x + y * 2 ^ k
-or_byte k x y h l r = ap (bit_or x) (shl_exact {a = y} 8 k 64 l (omega arith)) ∙ or_shifted_r y k x h ∙ add_comm _ _
-
-pub or_bytes : (a b c d e f g h : ℕ) → a < 256 → b < 256 → c < 256 → d < 256 → e < 256 → f < 256 → g < 256 → h < 256
-    → bit_or (bit_or (bit_or (bit_or (bit_or (bit_or (bit_or a (b * 2 ^ 8 % 2 ^ 64)) (c * 2 ^ 16 % 2 ^ 64)) (d * 2 ^ 24 % 2 ^ 64)) (e * 2 ^ 32 % 2 ^ 64)) (f * 2 ^ 40 % 2 ^ 64)) (g * 2 ^ 48 % 2 ^ 64)) (h * 2 ^ 56 % 2 ^ 64)
-    ≡ a + 256 * (b + 256 * (c + 256 * (d + 256 * (e + 256 * (f + 256 * (g + 256 * h))))))
-or_bytes a b c d e f g h ha hb hc hd he hf hg hh =
-    let p1 : bit_or a (b * 2 ^ 8 % 2 ^ 64) ≡ a + b * 2 ^ 8 = or_byte 8 a b ha hb (omega arith) in
-    let p2 : bit_or (a + b * 2 ^ 8) (c * 2 ^ 16 % 2 ^ 64) ≡ a + b * 2 ^ 8 + c * 2 ^ 16 = or_byte 16 _ c (omega arith) hc (omega arith) in
-    let p3 : bit_or (a + b * 2 ^ 8 + c * 2 ^ 16) (d * 2 ^ 24 % 2 ^ 64) ≡ a + b * 2 ^ 8 + c * 2 ^ 16 + d * 2 ^ 24 = or_byte 24 _ d (omega arith) hd (omega arith) in
-    let p4 = or_byte 32 (a + b * 2 ^ 8 + c * 2 ^ 16 + d * 2 ^ 24) e (omega arith) he (omega arith) in
-    let p5 = or_byte 40 (a + b * 2 ^ 8 + c * 2 ^ 16 + d * 2 ^ 24 + e * 2 ^ 32) f (omega arith) hf (omega arith) in
-    let p6 = or_byte 48 (a + b * 2 ^ 8 + c * 2 ^ 16 + d * 2 ^ 24 + e * 2 ^ 32 + f * 2 ^ 40) g (omega arith) hg (omega arith) in
-    let p7 = or_byte 56 (a + b * 2 ^ 8 + c * 2 ^ 16 + d * 2 ^ 24 + e * 2 ^ 32 + f * 2 ^ 40 + g * 2 ^ 48) h (omega arith) hh (omega arith) in
-    rw (p1, p2, p3, p4, p5, p6, p7) (omega arith)
 
 -- eight bytes from b on, by those from b + 1 on: one byte more below, and the last goes
 byte-under : (s : List ℕ) (b : ℕ) → get_or s b 0 < 256 → bit_or (value 64 (λ j. coord s ((b + 1) * 8 + j)) * 2 ^ 8 % 2 ^ 64) (get_or s b 0) ≡ value 64 (λ j. coord s (b * 8 + j))

@@ -1,15 +1,18 @@
 -- Limbs stored in a list of bytes.
--- LimbPut: the loop that stores the bytes of one limb. Cleared: the loop that stores 0.
+-- Cleared: what is stored past the limbs.
 -- Stored: the whole limbs, the last eight bytes where a limb ends past the list, and what is past the limbs.
-use mathlib.Core.Path.{◌≡◌, refl, sym, ap, ◌∙◌}
-use mathlib.Core.List.{List, [], ◌∷◌}
+use mathlib.Core.Path.{◌≡◌, sym, ap, ◌∙◌}
+use mathlib.Core.List.{List, [], ◌∷◌, ◌++◌}
 use Prim.Native.Nat.{ℕ, ◌+◌, ◌-◌, ◌*◌, ◌/◌, ◌%◌, ◌^◌, ◌<◌, ◌≤◌}
-use native.Mathlib.Decide.{dec_lt, ℕ_discrete}
+use native.Mathlib.Decide.{dec_lt}
 use native.Mathlib.Nat.{zero-div}
 use native.Mathlib.Omega.{arith}
-use lib.ListN.{length, get_or, set, length-set}
+use borrow.Author.Rules.{rules}
+use borrow.Rule.Slice.PartMut.{put_mid, post_of}
+use Rattle.std.proofs.lemmas.List.{get_or-take, places}
+use lib.ListN.{length, get_or, take, replicate, length-append, length-replicate, get_or-replicate, get_or-append}
 use lib.Pow.{shr-shr}
-use lib.Seq.{ext_get_or, get_or-set_same, get_or-set_other}
+use lib.Seq.{get_or-append-add, ext_get_or}
 use Rattle.gf2.specs.Coordinates.{value, tabulate, pack}
 use Rattle.gf2.specs.Operands.{carried_bytes}
 use Rattle.gf2.proofs.Coordinates.{value-ext, value-bits, value-bit, value-eq, length-tabulate, get_d_tabulate}
@@ -17,39 +20,24 @@ use Rattle.limbs.specs.Limbs.{carried_limbs, limb_coord, LimbPut, Cleared, Store
 use Rattle.limbs.proofs.LimbCoords.{limb-digit, limb-past}
 use Rattle.limbs.proofs.LimbLoops.{pair-coord}
 
-pub put-none : (limb b : ℕ) (l : List ℕ) → LimbPut 0 limb b l l
-put-none limb b l = record { size = refl; front = λ i h. refl; bytes = λ j h. absurd (omega arith) }
-
-module _ {t limb b : ℕ} {l₀ l : List ℕ} (done : LimbPut t limb b l₀ l) where
-  pub put-more : {at x : ℕ} → at ≡ b + t → b + t < length l₀ → x ≡ limb / 2 ^ (8 * t) % 256 → LimbPut (t + 1) limb b l₀ (set l at x)
-  put-more {at} {x} p h e = record {
-    size = length-set l at x ∙ done.size;
-    front = λ i k. get_or-set_other l at i x 0 (λ q. omega arith) ∙ done.front i k;
-    bytes = λ j k r. elim (ℕ_discrete j t) [
-      | yes q ↦ ap (λ i. get_or (set l at x) i 0) (ap (λ i. b + i) q ∙ sym p) ∙ get_or-set_same l at x 0 (omega (arith, done.size)) ∙ e ∙ ap (λ i. limb / 2 ^ (8 * i) % 256) (sym q)
-      | no q ↦ get_or-set_other l at (b + j) x 0 (λ o. q (omega arith)) ∙ done.bytes j (omega arith) r
-    ];
-  }
-
-  -- all eight bytes, or as many as the list has
-  pub put_all : ((j : ℕ) → j < 8 → b + j < length l₀ → j < t) → LimbPut 8 limb b l₀ l
-  put_all h = record { size = done.size; front = done.front; bytes = λ j k r. done.bytes j (h j k r) r }
-
-pub cleared-none : (b : ℕ) (l : List ℕ) → Cleared b b l l
-cleared-none b l = record { size = refl; front = λ i h. refl; zeroes = λ i h k. absurd (omega arith) }
-
-pub cleared_more : {a b : ℕ} {l₀ l : List ℕ} → Cleared a b l₀ l → a ≤ b → b < length l₀ → Cleared a (b + 1) l₀ (set l b 0)
-cleared_more {a} {b} {l₀} {l} done h k = record {
-  size = length-set l b 0 ∙ done.size;
-  front = λ i r. get_or-set_other l b i 0 0 (λ q. omega arith) ∙ done.front i r;
-  zeroes = λ i r s. elim (ℕ_discrete i b) [
-    | yes q ↦ ap (λ i. get_or (set l b 0) i 0) q ∙ get_or-set_same l b 0 0 (omega (arith, done.size))
-    | no q ↦ get_or-set_other l b i 0 0 q ∙ done.zeroes i r (omega arith)
-  ];
+-- 0 in all that stands from place `first` on
+pub cleared-fill : (first : ℕ) (l zeros : List ℕ) (k : ℕ) → first ≤ length l → zeros ≡ replicate k 0 → k ≡ length l - first
+    → Cleared first (length l) l (put_mid first (length l - first) l zeros)
+cleared-fill first l zeros k h e size = record {
+  size = rw (e, length-append, length-append, length-replicate {A = ℕ} k 0) (omega (arith, front, past));
+  front = λ i q. get_or-append (take first l) _ 0 i (omega (arith, front)) ∙ get_or-take first l i 0 q;
+  zeroes = λ i q r.
+      let place : i ≡ length (take first l) + (i - first) = omega (arith, front) in
+      let here : i - first < k = omega arith in
+      rw (e) (ap (λ j. get_or (take first l ++ (replicate k 0 ++ post_of first (length l - first) l)) j 0) place ∙ get_or-append-add (take first l) _ (i - first) 0
+      ∙ get_or-append (replicate k 0) _ 0 (i - first) (omega (arith, length-replicate {A = ℕ} k 0)) ∙ get_or-replicate {A = ℕ} k (i - first) 0 0 here);
 }
+  where
+    front : length (take first l) ≡ first
+    front = search (rules, places)
 
-pub cleared-all : {a b n : ℕ} {l₀ l : List ℕ} → Cleared a b l₀ l → n ≤ b → Cleared a n l₀ l
-cleared-all done h = record { size = done.size; front = done.front; zeroes = λ i r s. done.zeroes i r (omega arith) }
+    past : length (post_of first (length l - first) l) ≡ 0
+    past = search (rules, places)
 
 -- a limb whose bits are the coordinates f from byte b on
 put-coords : {limb b : ℕ} {l after : List ℕ} (f : ℕ → ℕ) → LimbPut 8 limb b l after → ((t : ℕ) → t < 64 → limb / 2 ^ t % 2 ≡ f (b * 8 + t) % 2)

@@ -5,7 +5,7 @@ use mathlib.Core.Path.{◌≡◌, refl, sym, ap, ap₂, ◌∙◌}
 use mathlib.Core.Bool.{Bool, true, false}
 use mathlib.Core.List.{List}
 use Prim.Native.Nat.{ℕ, ◌+◌, ◌-◌, ◌*◌, ◌/◌, ◌%◌, ◌^◌, ◌<◌, ◌≤◌}
-use native.Mathlib.Nat.{zero-add, zero-div, mod-eq_of_lt, mod-lt, div-eq_of_lt, lt_of_lt_of_le}
+use native.Mathlib.Nat.{zero-add, zero-div, div-one, mod-eq_of_lt, mod-lt, div-eq_of_lt, lt_of_lt_of_le}
 use native.Mathlib.Decide.{dec_lt, ℕ_discrete}
 use native.Mathlib.Omega.{arith}
 use lib.Bits.{bit_xor, xor_lt}
@@ -14,6 +14,9 @@ use lib.ListN.{length, get_or, set, length-set}
 use lib.Pow.{pow_pos, pow_mono, shr-shr, shr_le}
 use lib.Seq.{get_or-set_same, get_or-set_other}
 use borrow.Author.Tests.{le-leb, lt-leb}
+use Rattle.std.specs.Bool.{MatchBool}
+use Rattle.std.specs.List.{between, AllWithin, HoldsAt}
+use Rattle.std.proofs.lemmas.List.Edits.{get_or-between, length-between}
 use Rattle.gf2.specs.Coordinates.{coord, value}
 use Rattle.gf2.specs.Operands.{carried_bytes, choose, below, is_clear}
 use Rattle.gf2.proofs.Coordinates.{value-lt, value-bit, value-eq, coord-lt, coord-past, coord-digit, xor-bit, shl-bit, shl-bit-out}
@@ -149,3 +152,19 @@ all-clear m s n h clear = sym (clear_of m s (λ i l. elim (dec_lt i (8 * n)) [
   | yes q ↦ clear i l q
   | no q ↦ coord-past s i (omega arith)
 ]))
+
+-- by the bytes past the one that the width ends in
+pub rest-clear : (m : ℕ) (s : List ℕ) (b : ℕ) (r : Bool) → ((k : ℕ) → get_or s k 0 < 256) → m ≤ b * 8 → ((i : ℕ) → m ≤ i → i < b * 8 → coord s i ≡ 0)
+    → MatchBool r (AllWithin (λ x. x ≡ 0) (between b (length s) s) 0 (length (between b (length s) s)))
+    ((k : ℕ) × (k < length (between b (length s) s)) × HoldsAt (λ x. x ≡ 0 → ⊥) (between b (length s) s) k)
+    → r ≡ is_clear m s
+rest-clear m s b true small h front zeros = all-clear m s (length s) (omega arith) (λ i l k. elim (dec_lt i (b * 8)) [
+  | yes q ↦ front i l q
+  | no q ↦ byte-clear s (i / 8) 0 i (rw (div-one) (byte (i / 8) (omega arith) (omega arith))) (omega arith) (omega arith)
+])
+  where
+    byte : (j : ℕ) → b ≤ j → j < length s → get_or s j 0 ≡ 0
+    byte j p q =
+        let place : b + (j - b) ≡ j = omega arith in
+        ap (λ k. get_or s k 0) (sym place) ∙ sym (get_or-between s b (length s) (j - b) 0 (omega arith)) ∙ zeros (j - b) 0 (omega arith) (omega (arith, length-between s b (length s) (omega arith)))
+rest-clear m s b false small h front some = not-clear m s (b + some.0) 0 (small _) (omega arith) (λ e. some.2 0 (get_or-between s b (length s) some.0 0 (omega (arith, some.1, length-between s b (length s) (omega arith))) ∙ (omega (arith, e))))

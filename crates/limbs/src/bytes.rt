@@ -4,14 +4,13 @@ ghost use Rattle.std.specs.Prelude.{◌≡◌, ◌+◌, length};
 ghost use Rattle.gf2.specs.Coordinates.{coord, pack};
 ghost use Rattle.gf2.specs.Operands.{bytes_for, carried_bytes, from_coords, is_clear};
 
-use crate::{BYTES, LIMBS, limbs, slices};
+use crate::{BYTES, limbs, slices};
 
 // The number of bytes of an operand: the width over 8, rounded up.
 pub fn bytes_for(width: usize) -> usize
     ensures { result ≡ bytes_for width }
 {
-    let whole = width / 8;
-    if width % 8 == 0 { whole } else { whole + 1 }
+    width.div_ceil(8)
 }
 
 // The sum of the coordinates, modulo 2.
@@ -28,7 +27,7 @@ pub fn cleared(x: [u8; BYTES], m: usize) -> [u8; BYTES]
     limbs::to_bytes(limbs::low_limbs(limbs::to_limbs(x), m))
 }
 
-// Whether no coordinate at m or above is set: one byte is looked at where there are as many as the width needs.
+// Whether no coordinate at m or above is set. One byte is looked at where the slice has as many as the width needs.
 pub fn is_clear(s: &[u8], m: usize) -> bool
     ensures { result ≡ is_clear m s.now }
 {
@@ -39,14 +38,7 @@ pub fn is_clear(s: &[u8], m: usize) -> bool
     if s[first] >> (m % 8) != 0 {
         return false;
     }
-    let mut b = first + 1;
-    while b < s.len() {
-        if s[b] != 0 {
-            return false;
-        }
-        b += 1;
-    }
-    true
+    s[first + 1..].iter().all(|byte| *byte == 0)
 }
 
 // The coordinates of a slice, in the bytes of a carried operand.

@@ -23,7 +23,7 @@ pub const BYTES: usize = 72;
 pub const LIMBS: usize = BYTES / 8;
 
 // A limb of ones.
-pub const FULL: u64 = 18446744073709551615;
+pub const FULL: u64 = u64::MAX;
 
 // The limbs of the narrower operands: where a width needs no more, the kernels end after these.
 pub const FEW: usize = 4;

@@ -15,10 +15,7 @@ use crate::{BYTES, FEW, FULL, LIMBS};
 pub fn ends_at(w: usize, m: usize) -> bool
     ensures { result ≡ ends_at w m }
 {
-    if w != FEW {
-        return false;
-    }
-    m < 64 * FEW
+    w == FEW && m < 64 * FEW
 }
 
 // Whether limb w stands past those that the width m is worked on in.
@@ -38,32 +35,18 @@ pub fn to_limbs(x: [u8; BYTES]) -> [u64; LIMBS]
     ensures { result ≡ limbs_of x }
 {
     let mut out = [0u64; LIMBS];
-    let mut w = 0;
-    while w < LIMBS {
+    for w in 0..LIMBS {
         out[w] = eight(&x, w * 8);
-        w += 1;
     }
     out
 }
 
-// Byte j of a limb.
-fn byte_of(limb: u64, j: usize) -> u8
-    requires { j < 8 }
-    ensures { result ≡ limb / 2 ^ (8 * j) % 256 }
-{
-    ((limb >> (8 * j)) % 256) as u8
-}
-
-// A limb into eight bytes of a slice, from b on. Stores in a row, which are compiled to one.
+// A limb into eight bytes of a slice, from b on.
 fn put_whole(limb: u64, b: usize, out: &mut [u8])
     requires { (b < carried_bytes) × (b + 8 ≤ length out.old) }
     ensures { LimbPut 8 limb b out.old out.new }
 {
-    let mut j = 0;
-    while j < 8 {
-        out[b + j] = byte_of(limb, j);
-        j += 1;
-    }
+    out[b..b + 8].copy_from_slice(&limb.to_le_bytes());
 }
 
 // A limb into the bytes of a slice of less than eight.
@@ -71,25 +54,20 @@ fn put_part(limb: u64, out: &mut [u8])
     requires { length out.old < 8 }
     ensures { LimbPut 8 limb 0 out.old out.new }
 {
-    let mut j = 0;
-    while j < out.len() {
-        out[j] = byte_of(limb, j);
-        j += 1;
-    }
+    let n = out.len();
+    out.copy_from_slice(&limb.to_le_bytes()[..n]);
 }
 
 // The limbs that have room in the slice.
 fn put_limbs(x: [u64; LIMBS], out: &mut [u8])
     ensures { (length out.new ≡ length out.old) × Stored x carried_bytes (length out.old / 8 * 8) out.new }
 {
-    let mut w = 0;
-    while w < LIMBS {
+    for w in 0..LIMBS {
         if out.len() < 8 * w + 8 {
             return;
         }
         let limb = x[w];
         put_whole(limb, 8 * w, out);
-        w += 1;
     }
 }
 
@@ -116,10 +94,8 @@ fn put_last(x: [u64; LIMBS], out: &mut [u8])
 fn clear_rest(out: &mut [u8])
     ensures { Cleared carried_bytes (length out.old) out.old out.new }
 {
-    let mut b = BYTES;
-    while b < out.len() {
-        out[b] = 0;
-        b += 1;
+    if BYTES < out.len() {
+        out[BYTES..].fill(0);
     }
 }
 
@@ -171,14 +147,12 @@ pub fn low_limbs(x: [u64; LIMBS], m: usize) -> [u64; LIMBS]
     ensures { result ≡ pack_limbs carried_limbs (below m (limb_coord x)) }
 {
     let mut out = [0u64; LIMBS];
-    let mut w = 0;
-    while w < LIMBS {
+    for w in 0..LIMBS {
         if ends_at(w, m) {
             return out;
         }
         let limb = x[w];
         out[w] = low_limb(limb, w, m);
-        w += 1;
     }
     out
 }
@@ -188,10 +162,8 @@ pub fn xored_limbs(x: [u64; LIMBS], y: [u64; LIMBS]) -> [u64; LIMBS]
     ensures { result ≡ pack_limbs carried_limbs (λ i. limb_coord x i + limb_coord y i) }
 {
     let mut out = [0u64; LIMBS];
-    let mut w = 0;
-    while w < LIMBS {
+    for w in 0..LIMBS {
         out[w] = x[w] ^ y[w];
-        w += 1;
     }
     out
 }
@@ -200,7 +172,7 @@ pub fn xored_limbs(x: [u64; LIMBS], y: [u64; LIMBS]) -> [u64; LIMBS]
 pub fn limb_at(x: &[u64], w: usize) -> u64
     ensures { result ≡ get_or x.now w 0 }
 {
-    if w < x.len() { x[w] } else { 0 }
+    x.get(w).copied().unwrap_or(0)
 }
 
 // Limb w of the limbs moved n up, 0 before the first.

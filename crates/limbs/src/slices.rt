@@ -8,32 +8,12 @@ ghost use Rattle.limbs.specs.Limbs.{carried_limbs, few, reach, limb_coord, pack_
 use crate::limbs::ends_at;
 use crate::{BYTES, FEW, LIMBS};
 
-pub(crate) fn wide(x: u8) -> u64
-    ensures { result ≡ x }
-{
-    x as u64
-}
-
-// Eight bytes as one limb, the first lowest. In one expression, which is compiled to one load where they are read in a row.
-fn joined(a: u8, b: u8, c: u8, d: u8, e: u8, f: u8, g: u8, h: u8) -> u64
-    ensures { result ≡ a + 256 * (b + 256 * (c + 256 * (d + 256 * (e + 256 * (f + 256 * (g + 256 * h)))))) }
-{
-    wide(a)
-        | (wide(b) << 8)
-        | (wide(c) << 16)
-        | (wide(d) << 24)
-        | (wide(e) << 32)
-        | (wide(f) << 40)
-        | (wide(g) << 48)
-        | (wide(h) << 56)
-}
-
-// Eight bytes of a slice, from b on.
+// Eight bytes of a slice, from b on, the first lowest.
 pub(crate) fn eight(s: &[u8], b: usize) -> u64
     requires { b + 8 ≤ length s.now }
     ensures { result ≡ value 64 (λ j. coord s.now (b * 8 + j)) }
 {
-    joined(
+    u64::from_le_bytes([
         s[b],
         s[b + 1],
         s[b + 2],
@@ -42,7 +22,7 @@ pub(crate) fn eight(s: &[u8], b: usize) -> u64
         s[b + 5],
         s[b + 6],
         s[b + 7],
-    )
+    ])
 }
 
 // The first eight bytes of a slice as one limb, 0 past its end: for slices of less than eight.
@@ -50,10 +30,8 @@ fn few_bytes(s: &[u8]) -> u64
     ensures { result ≡ value 64 (λ j. coord s.now (0 * 8 + j)) }
 {
     let mut limb: u64 = 0;
-    let mut b = s.len();
-    while 0 < b {
-        b -= 1;
-        limb = (limb << 8) | wide(s[b]);
+    for b in (0..s.len()).rev() {
+        limb = (limb << 8) | u64::from(s[b]);
     }
     limb
 }
@@ -101,10 +79,7 @@ pub fn carried_limb(s: &[u8], w: usize) -> u64
 fn is_after(w: usize, n: usize) -> bool
     ensures { result ≡ (eqb w few && leb n (8 * few)) }
 {
-    if w != FEW {
-        return false;
-    }
-    n <= 8 * FEW
+    w == FEW && n <= 8 * FEW
 }
 
 // The coordinates of a slice, in the limbs of a carried operand.
@@ -112,13 +87,11 @@ pub fn slice_limbs(s: &[u8]) -> [u64; LIMBS]
     ensures { result ≡ limbs_of s.now }
 {
     let mut out = [0u64; LIMBS];
-    let mut w = 0;
-    while w < LIMBS {
+    for w in 0..LIMBS {
         if is_after(w, s.len()) {
             return out;
         }
         out[w] = slice_limb(s, w);
-        w += 1;
     }
     out
 }
@@ -129,13 +102,11 @@ pub fn xored_slices(a: &[u8], b: &[u8], m: usize) -> [u64; LIMBS]
     ensures { result ≡ pack_limbs carried_limbs (below (64 * reach m) (λ i. coord a.now i + coord b.now i)) }
 {
     let mut out = [0u64; LIMBS];
-    let mut w = 0;
-    while w < LIMBS {
+    for w in 0..LIMBS {
         if ends_at(w, m) {
             return out;
         }
         out[w] = slice_limb(a, w) ^ slice_limb(b, w);
-        w += 1;
     }
     out
 }
@@ -149,13 +120,11 @@ pub fn plus_bytes(x: [u64; LIMBS], s: &[u8], m: usize) -> [u64; LIMBS]
     if s.len() < BYTES {
         return out;
     }
-    let mut w = 0;
-    while w < LIMBS {
+    for w in 0..LIMBS {
         if ends_at(w, m) {
             return out;
         }
         out[w] = x[w] ^ eight(s, 8 * w);
-        w += 1;
     }
     out
 }
@@ -165,13 +134,11 @@ pub fn plus_each(x: [u64; LIMBS], s: &[u8]) -> [u64; LIMBS]
     ensures { result ≡ pack_limbs carried_limbs (λ i. limb_coord x i + coord s.now i) }
 {
     let mut out = x;
-    let mut b = 0;
-    while b < s.len() {
+    for (b, byte) in s.iter().enumerate() {
         if BYTES <= b {
             return out;
         }
-        out[b / 8] = out[b / 8] ^ (wide(s[b]) << (8 * (b % 8)));
-        b += 1;
+        out[b / 8] ^= u64::from(*byte) << (8 * (b % 8));
     }
     out
 }

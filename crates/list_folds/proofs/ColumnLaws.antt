@@ -1,4 +1,5 @@
 -- Laws of the columns: a bit stored, row after row, the next one of a column, and the first ones after limbs.
+use Rattle.std.proofs.Common.{min}
 use mathlib.Core.Path.{◌≡◌, refl, sym, ap, ap₂, ◌∙◌, subst}
 use mathlib.Core.Bool.{Bool, true, false}
 use mathlib.Core.List.{List}
@@ -224,11 +225,13 @@ module _ (columns : List ℕ) (at i : ℕ) where
         let e : i + (k - i) ≡ k = omega arith in
         ap (is_set columns at) (sym e) ∙ unset (k - i) (omega (arith, zeros-lt)) (trailing-low 64 left_of (k - i) (omega arith))
 
-    pub found-one : {to : ℕ} → i + zeros < to → Successor (is_set columns at) to i (i + zeros)
-    found-one l = record { least = omega arith; most = omega arith; none = before-one; found = λ b. one_set }
-
-    pub found-late : {to : ℕ} → i ≤ to → to ≤ i + zeros → Successor (is_set columns at) to i to
-    found-late g l = record { least = g; most = omega arith; none = λ k b lk. before-one k b (omega arith); found = λ b. absurd (omega arith) }
+    pub found-one : {to n : ℕ} → i ≤ to → n ≡ min to (i + zeros) → Successor (is_set columns at) to i n
+    found-one {to} {n} h e = record {
+      least = omega arith;
+      most = omega arith;
+      none = λ k b l. before-one k b (omega arith);
+      found = λ b. let q : n ≡ i + zeros = omega arith in ap (is_set columns at) q ∙ one_set;
+    }
 
   -- no more ones in this limb, and p the first one after it
   module _ {p : ℕ} (z : left_of ≡ 0) (s : FirstFrom columns (64 * (at + i / 64 + 1)) p) where
@@ -238,19 +241,13 @@ module _ (columns : List ℕ) (at i : ℕ) where
       | no b ↦ ap (λ q. eqb (limb_coord columns q) 1) (sym (zero-add (64 * at + k))) ∙ s.none (64 * at + k) (omega arith) (omega arith)
     ]
 
-    pub later-one : {to : ℕ} → at + carried_limbs ≤ length columns → to ≤ max_width → p - 64 * at < to → Successor (is_set columns at) to i (p - 64 * at)
-    later-one room most l = record {
+    pub later-one : {to n : ℕ} → at + carried_limbs ≤ length columns → to ≤ max_width → i ≤ to → n ≡ min to (p - 64 * at) → Successor (is_set columns at) to i n
+    later-one {to} {n} room most h e = record {
       least = omega (arith, s.least);
       most = omega arith;
-      none = none_before;
-      found = λ b. ap (λ q. eqb (limb_coord columns q) 1) place ∙ s.found (omega arith);
+      none = λ k b l. none_before k b (omega arith);
+      found = λ b. let place : 64 * at + n ≡ 64 * 0 + p = omega (arith, s.least) in ap (λ q. eqb (limb_coord columns q) 1) place ∙ s.found (omega arith);
     }
-      where
-        place : 64 * at + (p - 64 * at) ≡ 64 * 0 + p
-        place = omega (arith, s.least)
-
-    pub later-none : {to : ℕ} → i ≤ to → to ≤ p - 64 * at → Successor (is_set columns at) to i to
-    later-none h l = record { least = h; most = omega arith; none = λ k b lk. none_before k b (omega arith); found = λ b. absurd (omega arith) }
 
 -- the first one from limb k on
 module _ (columns : List ℕ) (k : ℕ) where
@@ -272,7 +269,7 @@ module _ (columns : List ℕ) (k : ℕ) where
   }
 
   pub first-here : get_or columns k 0 < 2 ^ 64 → k < length columns → (get_or columns k 0 ≡ 0 → ⊥) → FirstFrom columns (64 * k) (64 * k + count_trailing_zeros 64 (get_or columns k 0))
-  first-here small l some = rw whole at (found-one columns 0 (64 * k) small' some' inside)
+  first-here small l some = rw whole at (found-one columns 0 (64 * k) small' some' inside least)
     where
       e : 0 + 64 * k / 64 ≡ k
       e = omega arith
@@ -283,8 +280,11 @@ module _ (columns : List ℕ) (k : ℕ) where
       some' : left_of columns 0 (64 * k) ≡ 0 → ⊥
       some' q = some (sym whole ∙ q)
 
-      inside : 64 * k + count_trailing_zeros 64 (left_of columns 0 (64 * k)) < 64 * length columns
-      inside = omega (arith, zeros-lt columns 0 (64 * k) small' some')
+      inside : 64 * k ≤ 64 * length columns
+      inside = omega arith
+
+      least : 64 * k + count_trailing_zeros 64 (left_of columns 0 (64 * k)) ≡ min (64 * length columns) (64 * k + count_trailing_zeros 64 (left_of columns 0 (64 * k)))
+      least = omega (arith, zeros-lt columns 0 (64 * k) small' some')
 
 -- the first ones, limb before limb
 module _ {columns : List ℕ} where

@@ -1,4 +1,5 @@
 -- Laws of the folds of several coordinates: one after another, of the same terms, and how many are stored.
+use Rattle.std.specs.Prelude.{unwrap_or}
 use mathlib.Core.Path.{◌≡◌, refl, sym, ap, ap₂, ◌∙◌, subst}
 use mathlib.Core.List.{List, [], ◌∷◌, ◌++◌}
 use Prim.Native.Nat.{ℕ, ◌+◌, ◌-◌, ◌*◌, ◌/◌, ◌<◌, ◌≤◌}
@@ -20,17 +21,17 @@ use Rattle.list_pairs.proofs.PutLaws.{put-none, put_next, fits-true}
 use Rattle.list_folds.specs.declared.fold.Fold.{Fold}
 use Rattle.list_folds.specs.TableFolds.{folds_from}
 use Rattle.list_folds.specs.Folds.{fresh, Pushed}
-use Rattle.list_folds.proofs.WriteLaws.{whole-pushed, whole-stored}
+use Rattle.list_folds.proofs.WriteLaws.{sum_end, whole-pushed, whole-stored}
 use Rattle.list_folds.proofs.TermLaws.{each-ext}
 
 -- a whole fold
-fold-put : {m k : ℕ} {terms out mid : List ℕ} {f : Fold} → Pushed m (fresh k) out terms f mid → GatesPut k out (fold (2 * m + k) terms) f.gates mid × (f.running ≡ end (2 * m + k) terms)
+fold-put : {m k : ℕ} {terms out mid : List ℕ} {f : Fold} → Pushed m (fresh k) out terms f mid → GatesPut k out (fold (2 * m + k) terms) f.gates mid × (unwrap_or f.running 0 ≡ end (2 * m + k) terms)
 fold-put {m} {k} {terms} {out} p = (
   record {
     next = ap (λ (g : Fold). g.gates) (p.fold ∙ whole-pushed m k terms) ∙ ap (λ n. k + n) (sym (length-fold (2 * m + k) terms));
     words = p.words ∙ whole-stored m k terms out;
   },
-  ap (λ (g : Fold). g.running) (p.fold ∙ whole-pushed m k terms),
+  ap (λ (g : Fold). unwrap_or g.running 0) (p.fold ∙ whole-pushed m k terms) ∙ sum_end (2 * m + k) terms,
 )
 
 -- the folds of `terms` for the first coordinates, `count` of them, are stored from gate n on, and the wires of their sums
@@ -52,7 +53,7 @@ module _ {m n : ℕ} {terms : ℕ → List ℕ} {old wires : List ℕ} where
       first = unfold start in refl
 
   pub folds-more : {r k : ℕ} {out mid sums new : List ℕ} {f : Fold} → Folded m r n terms old wires k out sums → Pushed m (fresh k) out (terms r) f mid →
-      new ≡ set sums r f.running → Folded m (r + 1) n terms old wires f.gates mid new
+      new ≡ set sums r (unwrap_or f.running 0) → Folded m (r + 1) n terms old wires f.gates mid new
   folds-more {r} {k} {sums = sums} x p e = record {
     put = unfold folds in put_next (λ r. fold (start (2 * m + n) terms r) (terms r)) r x.put (rw at-r at (fold-put p).0);
     sums = e ∙ ap₂ (λ s w. set s r w) x.sums ((fold-put p).1 ∙ ap (λ z. end z (terms r)) at-r) ∙ ap (λ z. set (sets wires 0 (ends r (2 * m + n) terms)) z (end (start (2 * m + n) terms r) (terms r))) (sym (zero-add r))

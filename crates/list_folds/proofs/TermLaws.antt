@@ -1,4 +1,5 @@
 -- Laws of the terms: the ones of a column, the pairs of a row, all pairs for r; and the same by the table.
+use Rattle.std.specs.Prelude.{Option, None, Some, option_to_list}
 use mathlib.Core.Path.{◌≡◌, refl, sym, ap, ap₂, ◌∙◌, subst}
 use mathlib.Core.Bool.{Bool, true, false, ◌&&◌}
 use mathlib.Core.List.{List, [], ◌∷◌, ◌++◌, append-nil, append_assoc}
@@ -126,15 +127,13 @@ base-least true m i l = omega arith
 
 -- a run of row i
 pub row-run : (mixed : Bool) {m : ℕ} {columns firsts : List ℕ} {at base i from to start n : ℕ} → Readable m columns firsts → i < m → at < m → base ≡ row_base mixed m i →
-    from ≤ to → to ≤ m → start ≤ base + i → 2 * m + n + (to - from) < word_limit → Run m columns firsts (at * carried_limbs) from to start n
+    from ≤ to → to ≤ m → start ≤ base + i → 2 * m + n + (to - from) < word_limit → Run m columns (at * carried_limbs) from to start n
 row-run mixed {m} {i = i} z li la e o t s f = record {
-  most = z.room.greatest;
   order = o;
   inside = t;
   room = omega (arith, z.room.room);
   gates = f;
   wires = omega (arith, e, base-most mixed m i li z.room.greatest);
-  after = z.after;
 }
 
 -- the pairs of a row
@@ -211,19 +210,23 @@ module _ (mixed : Bool) (m : ℕ) (columns : List ℕ) (r : ℕ) where
   rows-most i = each-most i m (row_terms mixed m columns r) row-most
 
 -- the most that are folded for r
+last_most : (o : Option ℕ) → length (option_to_list o) ≤ 1
+last_most None = omega arith
+last_most (Some w) = omega arith
+
 pub terms-most : (t : Terms) (m : ℕ) (columns : List ℕ) (r : ℕ) → length (fold_terms t m columns r) ≤ m * m + 1 + 1
 unfolding fold_terms square_term
 terms-most t m columns r = rw (length-append, length-append) (omega (
   arith,
   only-most t.mixed (and_wire m (minus m r 1) (minus m r 1)),
   rows-most t.mixed m columns r m,
-  only-most t.last t.wire,
+  last_most t.last,
 ))
 
 -- the terms by the table
 pub terms-same : (t : Terms) {m : ℕ} {table columns : List ℕ} → Columns t.rows m table m columns → (r : ℕ) → r < m → fold_terms t m columns r ≡ table_terms t m table r
 unfolding fold_terms table_terms rows_to row_terms pairs picks
 terms-same t {m} c r l =
-    ap (λ z. square_term t.mixed m r ++ z ++ only t.last t.wire)
+    ap (λ z. square_term t.mixed m r ++ z ++ option_to_list t.last)
     (each-ext m (λ i li. each-ext m (λ j lj. ap (λ x. only (in_order t.mixed i j && eqb x 1) (pair_wire t.mixed m i j))
     (c.kept (minus m r i) (minus m j i) (minus-lt m r i (omega arith)) (minus-lt m j i (omega arith)) (minus-lt m j i (omega arith))))))

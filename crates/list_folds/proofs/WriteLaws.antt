@@ -1,20 +1,19 @@
 -- Laws of a fold term by term, of what it has stored, and of a whole fold.
+use Rattle.std.specs.Prelude.{Option, None, Some, unwrap_or}
 use mathlib.Core.Path.{◌≡◌, refl, sym, ap, ap₂, ◌∙◌}
-use mathlib.Core.Bool.{Bool, true, false}
+use mathlib.Core.Bool.{Bool, true}
 use mathlib.Core.List.{List, [], ◌∷◌, ◌++◌}
 use Prim.Native.Nat.{ℕ, suc, ◌+◌, ◌-◌, ◌*◌, ◌≤◌}
-use native.Mathlib.Nat.{add-zero}
 use native.Mathlib.Omega.{arith}
 use lib.ListN.{length}
 use lib.Seq.{sets}
-use Rattle.gf2.specs.Operands.{choose}
 use Rattle.netlist.specs.Gates.{gate_words}
 use Rattle.netlist.specs.Lists.{only, onto, last_wire, fold, end}
 use Rattle.list_folds.specs.declared.fold.Fold.{Fold}
-use Rattle.list_folds.specs.Folds.{fresh, pushed, stored, pushed_all, stored_all, Pushed}
+use Rattle.list_folds.specs.Folds.{fresh, term_after, pushed, stored, pushed_all, stored_all, Pushed}
 
-pub fold-path : {f g : Fold} → f.begun ≡ g.begun → f.running ≡ g.running → f.gates ≡ g.gates → f ≡ g
-fold-path a b c i = record { begun = a i; running = b i; gates = c i }
+pub fold-path : {f g : Fold} → f.running ≡ g.running → f.gates ≡ g.gates → f ≡ g
+fold-path a b i = record { running = a i; gates = b i }
 
 pub pushed-append : (m : ℕ) (f : Fold) (a b : List ℕ) → pushed_all m f (a ++ b) ≡ pushed_all m (pushed_all m f a) b
 unfolding pushed_all
@@ -33,22 +32,22 @@ pushed_most m f [] = omega arith
 pushed_most m f (w ∷ a) = omega (arith, pushed_most m (pushed m f w) a, one)
   where
     one : (pushed m f w).gates ≤ f.gates + 1
-    one = unfold pushed in go f.begun
+    one = unfold pushed in go f.running
       where
-        go : (b : Bool) → f.gates + choose b 1 0 ≤ f.gates + 1
-        go true = omega arith
-        go false = omega arith
+        go : (r : Option ℕ) → (term_after m r f.gates w).gates ≤ f.gates + 1
+        go None = omega arith
+        go (Some r) = omega arith
 
 -- a fold that has a term
 abbrev begun_at : ℕ → ℕ → Fold
-begun_at w n = record { begun = true; running = w; gates = n }
+begun_at w n = record { running = Some w; gates = n }
 
 begun-pushed : (m w n : ℕ) (a : List ℕ) → pushed_all m (begun_at w n) a ≡ begun_at (last_wire (2 * m + n) w a) (n + length a)
 unfolding pushed_all last_wire pushed
-begun-pushed m w n [] = fold-path refl refl (omega arith)
+begun-pushed m w n [] = fold-path refl (omega arith)
 begun-pushed m w n (t ∷ a) =
     begun-pushed m (2 * m + n) (n + 1) a
-    ∙ fold-path refl (ap (λ k. last_wire k (2 * m + n) a) (omega arith)) (omega arith)
+    ∙ fold-path (ap (λ k. Some (last_wire k (2 * m + n) a)) (omega arith)) (omega arith)
 
 begun-stored : (m w n : ℕ) (a out : List ℕ) → stored_all m (begun_at w n) a out ≡ sets out (2 + 3 * n) (gate_words (onto (2 * m + n) w a))
 unfolding stored_all onto gate_words pushed stored
@@ -60,30 +59,34 @@ begun-stored m w n (t ∷ a) out =
     place : 2 + 3 * (n + 1) ≡ suc (suc (suc (2 + 3 * n)))
     place = omega arith
 
-abbrev pub some : List ℕ → Bool
-some [] = false
-some (t ∷ a) = true
+-- a whole fold, and the wire of its sum
+abbrev pub sum_wire : ℕ → List ℕ → Option ℕ
+sum_wire n [] = None
+sum_wire n (t ∷ a) = Some (last_wire n t a)
 
--- a whole fold
-pub whole-pushed : (m n : ℕ) (a : List ℕ) → pushed_all m (fresh n) a ≡ record { begun = some a; running = end (2 * m + n) a; gates = n + (length a - 1) }
+pub sum_end : (n : ℕ) (a : List ℕ) → unwrap_or (sum_wire n a) 0 ≡ end n a
+sum_end n [] = refl
+sum_end n (t ∷ a) = refl
+
+pub whole-pushed : (m n : ℕ) (a : List ℕ) → pushed_all m (fresh n) a ≡ record { running = sum_wire (2 * m + n) a; gates = n + (length a - 1) }
 unfolding pushed_all pushed
-whole-pushed m n [] = fold-path refl refl (omega arith)
-whole-pushed m n (t ∷ a) = ap (λ k. pushed_all m (begun_at t k) a) (add-zero n) ∙ begun-pushed m t n a ∙ fold-path refl refl (omega arith)
+whole-pushed m n [] = fold-path refl (omega arith)
+whole-pushed m n (t ∷ a) = begun-pushed m t n a ∙ fold-path refl (omega arith)
 
 pub whole-stored : (m n : ℕ) (a out : List ℕ) → stored_all m (fresh n) a out ≡ sets out (2 + 3 * n) (gate_words (fold (2 * m + n) a))
 unfolding stored_all pushed stored
 whole-stored m n [] out = unfold gate_words in refl
-whole-stored m n (t ∷ a) out = ap (λ k. stored_all m (begun_at t k) a out) (add-zero n) ∙ begun-stored m t n a out
+whole-stored m n (t ∷ a) out = begun-stored m t n a out
 
 -- one term, with and without one before it
-pub push_begun : (m : ℕ) (f : Fold) (w : ℕ) (old out : List ℕ) → f.begun ≡ true → out ≡ sets old (2 + 3 * f.gates) (1 ∷ f.running ∷ w ∷ []) →
-    Pushed m f old (w ∷ []) (record { begun = true; running = 2 * m + f.gates; gates = f.gates + 1 }) out
+pub push_begun : (m : ℕ) (f : Fold) (w : ℕ) (old out : List ℕ) {r : ℕ} → f.running ≡ Some r → out ≡ sets old (2 + 3 * f.gates) (1 ∷ r ∷ w ∷ []) →
+    Pushed m f old (w ∷ []) (record { running = Some (2 * m + f.gates); gates = f.gates + 1 }) out
 unfolding pushed_all stored_all pushed stored
 push_begun m f w old out e h = record { fold = rw e; words = rw e h }
 
-pub push-first : (m : ℕ) (f : Fold) (w : ℕ) (old : List ℕ) → f.begun ≡ false → Pushed m f old (w ∷ []) (record { begun = true; running = w; gates = f.gates }) old
+pub push-first : (m : ℕ) (f : Fold) (w : ℕ) (old : List ℕ) → f.running ≡ None → Pushed m f old (w ∷ []) (record { running = Some w; gates = f.gates }) old
 unfolding pushed_all stored_all pushed stored
-push-first m f w old e = record { fold = rw e (fold-path refl refl (omega arith)); words = rw e }
+push-first m f w old e = record { fold = rw e; words = rw e }
 
 -- no terms, and terms after terms
 pub push-none : (m : ℕ) (f : Fold) (old : List ℕ) → Pushed m f old [] f old

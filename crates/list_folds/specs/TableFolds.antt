@@ -1,5 +1,5 @@
 -- What the public call stores: the folds of a table's pairs for the coordinates.
-use Rattle.std.specs.Prelude.{Bool, true, false, not, ◌&&◌, List, ◌++◌, ℕ, ltb, eqb}
+use Rattle.std.specs.Prelude.{Bool, true, false, not, ◌&&◌, List, ◌++◌, ℕ, ltb, eqb, option_to_list}
 use Rattle.gf2.specs.Coordinates.{coord}
 use Rattle.gf2.specs.Operands.{choose, minus}
 use Rattle.gf2.specs.Tables.{row}
@@ -38,7 +38,7 @@ unfoldable pub table_terms : Terms → ℕ → List ℕ → ℕ → List ℕ
 table_terms t m table r =
     square_term t.mixed m r
     ++ pairs m (λ i j. in_order t.mixed i j && eqb (kept_bit t.rows m table (minus m j i) (minus m r i)) 1) (pair_wire t.mixed m)
-    ++ only t.last t.wire
+    ++ option_to_list t.last
 
 -- how many coordinates are folded, where `count` are asked for
 abbrev pub folds_from : ℕ → ℕ → ℕ → ℕ

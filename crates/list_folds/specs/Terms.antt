@@ -1,12 +1,12 @@
 -- What is folded for each r, by the columns: the ones of a column, the pairs of a row, all pairs.
-use Rattle.std.specs.Prelude.{Bool, true, false, ◌&&◌, List, ◌++◌, ℕ, ◌+◌, ◌-◌, ◌*◌, ◌/◌, ◌<◌, ◌≤◌, length}
-use Rattle.gf2.specs.Operands.{max_width, minus}
+use Rattle.std.specs.Prelude.{Bool, true, false, ◌&&◌, List, ◌++◌, ℕ, ◌+◌, ◌-◌, ◌*◌, ◌/◌, ◌<◌, ◌≤◌, length, option_to_list}
+use Rattle.gf2.specs.Operands.{minus}
 use Rattle.limbs.specs.Limbs.{carried_limbs}
 use Rattle.netlist.specs.Gates.{word_limit}
 use Rattle.netlist.specs.Lists.{each, only}
 use Rattle.list_folds.specs.declared.terms.Terms.{Terms}
 use Rattle.list_folds.specs.TableFolds.{in_order, pair_wire, square_term}
-use Rattle.list_folds.specs.Columns.{is_set, Firsts}
+use Rattle.list_folds.specs.Columns.{is_set}
 
 -- the wire of the pair i, j is this and j
 abbrev pub row_base : Bool → ℕ → ℕ → ℕ
@@ -18,14 +18,12 @@ unfoldable pub picks : Bool → ℕ → List ℕ → ℕ → ℕ → ℕ → Boo
 picks mixed m columns r i j = in_order mixed i j && is_set columns (minus m r i * carried_limbs) (minus m j i)
 
 -- a run of bits of the column that starts at limb `at`: each of its ones is a wire and may give a gate, whose numbers are words
-pub record Run (m : ℕ) (columns firsts : List ℕ) (at from to start n : ℕ) : Type 0 where
-  pub most : m ≤ max_width
+pub record Run (m : ℕ) (columns : List ℕ) (at from to start n : ℕ) : Type 0 where
   pub order : from ≤ to
   pub inside : to ≤ m
   pub room : at + carried_limbs ≤ length columns
   pub gates : 2 * m + n + (to - from) < word_limit
   pub wires : start + to < word_limit
-  pub after : Firsts columns 0 firsts
 
 -- the wires start + d of the d that pass, n of them looked at from `from` on
 unfoldable pub run_terms : (ℕ → Bool) → ℕ → ℕ → ℕ → List ℕ
@@ -39,4 +37,4 @@ rows_to mixed m columns r n = each n (row_terms mixed m columns r)
 
 unfoldable pub fold_terms : Terms → ℕ → List ℕ → ℕ → List ℕ
 fold_terms t m columns r =
-    square_term t.mixed m r ++ rows_to t.mixed m columns r m ++ only t.last t.wire
+    square_term t.mixed m r ++ rows_to t.mixed m columns r m ++ option_to_list t.last

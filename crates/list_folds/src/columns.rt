@@ -6,7 +6,7 @@ ghost use Rattle.gf2.specs.Tables.{row};
 ghost use Rattle.limbs.specs.Limbs.{carried_limbs};
 ghost use Rattle.netlist.specs.Lists.{all_ones};
 ghost use Rattle.list_folds.specs.TableFolds.{keeps};
-ghost use Rattle.list_folds.specs.Columns.{is_set, Columns, Successor, FirstFrom, Firsts};
+ghost use Rattle.list_folds.specs.Columns.{Columns, FirstFrom, Firsts};
 
 // The rows whose pairs are folded.
 #[derive(Clone, Copy)]
@@ -52,9 +52,8 @@ fn fill_row(columns: &mut [u64], width: usize, table: &[u8], rows: Rows, d: usiz
     let mut s = ones::next_one(&row, 0);
     while s < width {
         let k = s * limbs::LIMBS + d / 64;
-        columns[k] = columns[k] ^ (1 << (d % 64));
-        let after = ones::next_one(&row, s + 1);
-        s = after;
+        columns[k] ^= 1 << (d % 64);
+        s = ones::next_one(&row, s + 1);
     }
 }
 
@@ -62,10 +61,8 @@ pub(crate) fn fill(columns: &mut [u64], width: usize, table: &[u8], rows: Rows)
     requires { Columns rows width table.now 0 columns.old }
     ensures { Columns rows width table.now width columns.new }
 {
-    let mut d = 0;
-    while d < width {
+    for d in 0..width {
         fill_row(columns, width, table, rows, d);
-        d += 1;
     }
 }
 
@@ -86,28 +83,9 @@ pub(crate) fn find_firsts(firsts: &mut [u32], columns: &[u64])
     requires { (length columns.now ≤ max_width * carried_limbs) × (length columns.now ≤ length firsts.old) }
     ensures { Firsts columns.now 0 firsts.new }
 {
-    let mut k = columns.len();
-    let mut n = 64 * k;
-    while 0 < k {
-        let at = k - 1;
-        firsts[at] = n as u32;
-        let one = first_from(columns, at, n);
-        n = one;
-        k = at;
+    let mut n = 64 * columns.len();
+    for k in (0..columns.len()).rev() {
+        firsts[k] = n as u32;
+        n = first_from(columns, k, n);
     }
-}
-
-// The first one from bit `from` on of the column that starts at limb `at`, or `to`.
-pub(crate) fn next_one(columns: &[u64], firsts: &[u32], at: usize, from: usize, to: usize) -> usize
-    requires { (from ≤ to) × (to ≤ max_width) × (at + carried_limbs ≤ length columns.now) × Firsts columns.now 0 firsts.now }
-    ensures { Successor (is_set columns.now at) to from result }
-{
-    let k = at + from / 64;
-    let left = columns[k] >> (from % 64);
-    if left != 0 {
-        let one = from + u64::trailing_zeros(left) as usize;
-        return if one < to { one } else { to };
-    }
-    let one = firsts[k] as usize - 64 * at;
-    if one < to { one } else { to }
 }

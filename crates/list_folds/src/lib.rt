@@ -8,10 +8,13 @@ ghost use Rattle.list_folds.specs.TableFolds.{fold_gates, fold_wires};
 
 mod columns;
 mod fold;
+mod reading;
 mod terms;
 
 pub use columns::Rows;
 pub use terms::Terms;
+
+use reading::Columns;
 
 // The folds for the first coordinates, `count` of them, from gate n on, and the wires of their sums; the number of the next gate.
 // For any width and any table: nothing is stored where a number of a gate might not be a word.
@@ -35,5 +38,10 @@ pub fn put_folds(
     columns::fill(&mut scratch, width, table, rows);
     let mut firsts = [0u32; columns::SCRATCH];
     columns::find_firsts(&mut firsts, &scratch);
-    terms::put_each(out, ends, width, &scratch, &firsts, t, count, n)
+    let columns = Columns {
+        width,
+        limbs: &scratch,
+        firsts: &firsts,
+    };
+    terms::put_each(out, ends, &columns, t, count, n)
 }

@@ -7,20 +7,20 @@ ghost use Rattle.netlist.specs.Lists.{gate_wire, folds, ends as ends_of};
 ghost use Rattle.list_pairs.specs.Pairs.{GatesPut};
 ghost use Rattle.list_folds.specs.TableFolds.{square_term};
 ghost use Rattle.list_folds.specs.Folds.{Pushed, fresh};
-ghost use Rattle.list_folds.specs.Columns.{is_set, Readable};
+ghost use Rattle.list_folds.specs.Columns.{is_set};
 ghost use Rattle.list_folds.specs.Terms.{Run, row_base, run_terms, row_terms, rows_to, fold_terms};
 
 use crate::columns::Rows;
+use crate::fold;
 use crate::fold::Fold;
-use crate::{columns, fold};
+use crate::reading::Columns;
 
-// What is folded for each r: first a square where the pairs are mixed, then the pairs of the kept rows, then the wire if it is given.
+// What is folded for each r: first a square where the pairs are mixed, then the pairs of the kept rows, then the last wire if it is given.
 #[derive(Clone, Copy)]
 pub struct Terms {
     pub rows: Rows,
     pub mixed: bool,
-    pub last: bool,
-    pub wire: u32,
+    pub last: Option<u32>,
 }
 
 // i - k modulo the width.
@@ -46,25 +46,21 @@ fn row_base(width: usize, mixed: bool, i: usize) -> usize
 // The ones of a column from bit `from` up to `to`: bit d is wire start + d.
 fn push_run(
     out: &mut [u32],
-    width: usize,
-    columns: &[u64],
-    firsts: &[u32],
+    columns: &Columns,
     at: usize,
     from: usize,
     to: usize,
     start: usize,
     f: Fold,
 ) -> Fold
-    requires { Run width columns.now firsts.now at from to start f.gates }
-    ensures { Pushed width f out.old (run_terms (is_set columns.now at) start from (to - from)) result out.new }
+    requires { Run columns.now.width columns.now.limbs.now at from to start f.gates }
+    ensures { Pushed columns.now.width f out.old (run_terms (is_set columns.now.limbs.now at) start from (to - from)) result out.new }
 {
     let mut g = f;
-    let mut d = columns::next_one(columns, firsts, at, from, to);
+    let mut d = columns.next_one(at, from, to);
     while d < to {
-        let more = fold::push(out, width, g, (start + d) as u32);
-        g = more;
-        let after = columns::next_one(columns, firsts, at, d + 1, to);
-        d = after;
+        g = fold::push(out, columns.width, g, (start + d) as u32);
+        d = columns.next_one(at, d + 1, to);
     }
     g
 }
@@ -72,56 +68,40 @@ fn push_run(
 // The pairs of row i: j below i is bit j - i + m of the column, any other bit j - i.
 fn push_row(
     out: &mut [u32],
-    width: usize,
-    columns: &[u64],
-    firsts: &[u32],
+    columns: &Columns,
     mixed: bool,
     r: usize,
     i: usize,
     f: Fold,
 ) -> Fold
-    requires { (Readable width columns.now firsts.now) × (r < width) × (i < width) × (3 * width + f.gates < word_limit) }
-    ensures { Pushed width f out.old (row_terms mixed width columns.now r i) result out.new }
+    requires { (r < columns.now.width) × (i < columns.now.width) × (3 * columns.now.width + f.gates < word_limit) }
+    ensures { Pushed columns.now.width f out.old (row_terms mixed columns.now.width columns.now.limbs.now r i) result out.new }
 {
+    let width = columns.width;
     let at = minus(width, r, i) * limbs::LIMBS;
     let start = row_base(width, mixed, i) + i;
     let upper = width - i;
     if mixed {
-        return push_run(out, width, columns, firsts, at, 1, upper, start, f);
+        return push_run(out, columns, at, 1, upper, start, f);
     }
-    let g = push_run(
-        out,
-        width,
-        columns,
-        firsts,
-        at,
-        upper,
-        width,
-        start - width,
-        f,
-    );
-    push_run(out, width, columns, firsts, at, 0, upper, start, g)
+    let g = push_run(out, columns, at, upper, width, start - width, f);
+    push_run(out, columns, at, 0, upper, start, g)
 }
 
 // All pairs, by i and then j.
 fn push_pairs(
     out: &mut [u32],
-    width: usize,
-    columns: &[u64],
-    firsts: &[u32],
+    columns: &Columns,
     mixed: bool,
     r: usize,
     f: Fold,
 ) -> Fold
-    requires { (Readable width columns.now firsts.now) × (r < width) × (3 * width + width * width + f.gates < word_limit) }
-    ensures { Pushed width f out.old (rows_to mixed width columns.now r width) result out.new }
+    requires { (r < columns.now.width) × (3 * columns.now.width + columns.now.width * columns.now.width + f.gates < word_limit) }
+    ensures { Pushed columns.now.width f out.old (rows_to mixed columns.now.width columns.now.limbs.now r columns.now.width) result out.new }
 {
     let mut g = f;
-    let mut i = 0;
-    while i < width {
-        let next = push_row(out, width, columns, firsts, mixed, r, i, g);
-        g = next;
-        i += 1;
+    for i in 0..columns.width {
+        g = push_row(out, columns, mixed, r, i, g);
     }
     g
 }
@@ -133,16 +113,14 @@ fn first_term(width: usize, square: bool, r: usize, n: usize) -> Fold
 {
     if !square {
         return Fold {
-            begun: false,
-            running: 0,
+            running: None,
             gates: n,
         };
     }
     let i = minus(width, r, 1);
     let base = row_base(width, false, i);
     Fold {
-        begun: true,
-        running: (base + i) as u32,
+        running: Some((base + i) as u32),
         gates: n,
     }
 }
@@ -150,43 +128,37 @@ fn first_term(width: usize, square: bool, r: usize, n: usize) -> Fold
 // The fold for r, its first gate being gate n.
 fn fold_terms(
     out: &mut [u32],
-    width: usize,
-    columns: &[u64],
-    firsts: &[u32],
+    columns: &Columns,
     t: Terms,
     r: usize,
     n: usize,
 ) -> Fold
-    requires { (Readable width columns.now firsts.now) × (r < width) × (3 * width + width * width + n < word_limit) }
-    ensures { Pushed width (fresh n) out.old (fold_terms t width columns.now r) result out.new }
+    requires { (r < columns.now.width) × (3 * columns.now.width + columns.now.width * columns.now.width + n < word_limit) }
+    ensures { Pushed columns.now.width (fresh n) out.old (fold_terms t columns.now.width columns.now.limbs.now r) result out.new }
 {
-    let first = first_term(width, t.mixed, r, n);
-    let all = push_pairs(out, width, columns, firsts, t.mixed, r, first);
-    fold::push_last(out, width, all, t.last, t.wire)
+    let first = first_term(columns.width, t.mixed, r, n);
+    let all = push_pairs(out, columns, t.mixed, r, first);
+    fold::push_last(out, columns.width, all, t.last)
 }
 
 // The folds for the first coordinates, `count` of them, from gate n on, and the wires of their sums; the number of the next gate.
 pub(crate) fn put_each(
     out: &mut [u32],
     ends: &mut [u32],
-    width: usize,
-    columns: &[u64],
-    firsts: &[u32],
+    columns: &Columns,
     t: Terms,
     count: usize,
     n: usize,
 ) -> usize
-    requires { (Readable width columns.now firsts.now) × (count ≤ width) × (n < word_limit / 2) }
-    ensures gates_put { GatesPut n out.old (folds count (gate_wire width n) (fold_terms t width columns.now)) result out.new }
-    ensures ends_after { ends.new ≡ sets ends.old 0 (ends_of count (gate_wire width n) (fold_terms t width columns.now)) }
+    requires { (count ≤ columns.now.width) × (n < word_limit / 2) }
+    ensures gates_put { GatesPut n out.old (folds count (gate_wire columns.now.width n) (fold_terms t columns.now.width columns.now.limbs.now)) result out.new }
+    ensures ends_after { ends.new ≡ sets ends.old 0 (ends_of count (gate_wire columns.now.width n) (fold_terms t columns.now.width columns.now.limbs.now)) }
 {
     let mut k = n;
-    let mut r = 0;
-    while r < count {
-        let f = fold_terms(out, width, columns, firsts, t, r, k);
-        list_pairs::put(ends, r, f.running);
+    for r in 0..count {
+        let f = fold_terms(out, columns, t, r, k);
+        list_pairs::put(ends, r, f.running.unwrap_or(0));
         k = f.gates;
-        r += 1;
     }
     k
 }

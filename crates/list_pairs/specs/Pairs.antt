@@ -4,6 +4,13 @@ use Rattle.std.proofs.lemmas.List.Edits.{sets}
 use Rattle.gf2.specs.Operands.{max_width, choose}
 use Rattle.netlist.specs.Gates.{Gate, AND, XOR, word_limit, gate_words}
 use Rattle.netlist.specs.Lists.{each, only, and_wire}
+use Rattle.list_pairs.specs.declared.store.Kind.{Kind}
+use Rattle.list_pairs.specs.declared.store.Kind.TheVariants.{And, Xor}
+
+-- "kind 0 AND, 1 XOR"
+abbrev pub kind_word : Kind → ℕ
+kind_word And = 0
+kind_word Xor = 1
 
 -- m is a width, `count` coordinates are no more than it has, and every wire of a part from gate n on is a word
 abbrev pub fits : ℕ → ℕ → ℕ → Bool

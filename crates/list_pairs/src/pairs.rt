@@ -7,6 +7,7 @@ ghost use Rattle.netlist.specs.Lists.{and_wire};
 ghost use Rattle.list_pairs.specs.Pairs.{fits, GatesPut, pair_gate, row_gates, pair_gates, pairs_from};
 
 use crate::store;
+use crate::store::Kind;
 
 // Half of the words: more than a list has gates, and so few that every wire of a part is a word.
 const LIMIT: usize = 2147483648;
@@ -40,12 +41,12 @@ fn put_pair(out: &mut [u32], width: usize, mixed: bool, i: usize, j: usize, n: u
     ensures { GatesPut n out.old (pair_gate mixed width i j) result out.new }
 {
     if !mixed {
-        store::put_gate(out, n, 0, i as u32, (width + j) as u32);
+        store::put_gate(out, n, Kind::And, i as u32, (width + j) as u32);
         return n + 1;
     }
     if i < j {
         let left = and_wire(width, i, j);
-        store::put_gate(out, n, 1, left, and_wire(width, j, i));
+        store::put_gate(out, n, Kind::Xor, left, and_wire(width, j, i));
         return n + 1;
     }
     n
@@ -56,11 +57,8 @@ fn put_row(out: &mut [u32], width: usize, mixed: bool, i: usize, n: usize) -> us
     ensures { GatesPut n out.old (row_gates mixed width i width) result out.new }
 {
     let mut k = n;
-    let mut j = 0;
-    while j < width {
-        let next = put_pair(out, width, mixed, i, j, k);
-        k = next;
-        j += 1;
+    for j in 0..width {
+        k = put_pair(out, width, mixed, i, j, k);
     }
     k
 }
@@ -70,11 +68,8 @@ fn put_rows(out: &mut [u32], width: usize, mixed: bool, n: usize) -> usize
     ensures { GatesPut n out.old (pair_gates mixed width width) result out.new }
 {
     let mut k = n;
-    let mut i = 0;
-    while i < width {
-        let next = put_row(out, width, mixed, i, k);
-        k = next;
-        i += 1;
+    for i in 0..width {
+        k = put_row(out, width, mixed, i, k);
     }
     k
 }

@@ -2,6 +2,20 @@
 // A store past the end does nothing, so that nothing here asks for room: the calls judge the buffer before they write.
 ghost use Rattle.std.specs.Prelude.{◌≡◌, [], ◌∷◌, ◌+◌, ◌*◌, set};
 ghost use Rattle.std.proofs.lemmas.List.Edits.{sets};
+ghost use Rattle.list_pairs.specs.Pairs.{kind_word};
+
+// The kind of a gate, with its number in a list.
+#[derive(Clone, Copy, Debug, PartialEq, Eq)]
+pub enum Kind {
+    And = 0,
+    Xor = 1,
+}
+
+fn word(kind: Kind) -> u32
+    ensures { result ≡ kind_word kind }
+{
+    kind as u32
+}
 
 pub fn put(out: &mut [u32], at: usize, word: u32)
     ensures { out.new ≡ set out.old at word }
@@ -12,14 +26,14 @@ pub fn put(out: &mut [u32], at: usize, word: u32)
 }
 
 // Far past the end the place might be no usize, so that n is looked at first.
-pub fn put_gate(out: &mut [u32], n: usize, kind: u32, left: u32, right: u32)
-    ensures { out.new ≡ sets out.old (2 + 3 * n) (kind ∷ left ∷ right ∷ []) }
+pub fn put_gate(out: &mut [u32], n: usize, kind: Kind, left: u32, right: u32)
+    ensures { out.new ≡ sets out.old (2 + 3 * n) (kind_word kind ∷ left ∷ right ∷ []) }
 {
     if out.len() <= n {
         return;
     }
     let at = 2 + 3 * n;
-    put(out, at, kind);
+    put(out, at, word(kind));
     put(out, at + 1, left);
     put(out, at + 2, right);
 }

@@ -1,7 +1,6 @@
 -- Laws of the calls that write: what the counted gates tell of a table, and the answers and buffers.
-use Rattle.std.specs.Prelude.{Ok, is_ok}
+use Rattle.std.specs.Prelude.{Result, Ok, Err, is_ok}
 use mathlib.Core.Path.{◌≡◌, refl, sym, ap, ◌∙◌}
-use mathlib.Core.Bool.{true, false}
 use mathlib.Core.List.{List, [], ◌∷◌, ◌++◌}
 use Prim.Native.Nat.{ℕ, zero, suc, ◌+◌, ◌*◌, ◌<◌, ◌≤◌}
 use native.Mathlib.Omega.{arith}
@@ -13,41 +12,37 @@ use Rattle.judging.specs.declared.fault.Fault.TheVariants.{Call}
 use Rattle.judging.specs.declared.fault.CallFault.TheVariants.{OutputShort}
 use Rattle.judging.specs.Causes.{judged}
 use Rattle.judging.specs.FaultTable.{too_short, symmetry_causes}
-use Rattle.judging.proofs.CauseLaws.{fine, head-holds, none-given, stops, goes_on}
+use Rattle.judging.proofs.CauseLaws.{head-holds, head-fails, stops, goes_on, answer-given, answer-refused, answer-passed, answer-failed}
 use Rattle.table.specs.Judgements.{symmetry_verdict}
-use Rattle.netlist.specs.declared.CountsAnswer.{CountsAnswer}
-use Rattle.netlist.specs.declared.Numbers.{Numbers}
+use Rattle.netlist.specs.declared.GateCounts.{GateCounts}
+use Rattle.netlist.specs.declared.Tallied.{Tallied}
 use Rattle.netlist.specs.declared.counts.Method.{Method}
 use Rattle.netlist.specs.declared.counts.Method.TheVariants.{Common}
-use Rattle.netlist.specs.Gates.{Netlist, word_limit, words, and_gates, xor_gates}
+use Rattle.netlist.specs.Gates.{Netlist, word_limit, words}
 use Rattle.netlist.specs.Lists.{plain, sharing, common, full_rows, if_none}
-use Rattle.netlist.specs.Calls.{answer, refused_with, counted_as, list_verdict, list_call, list_buffer}
+use Rattle.netlist.specs.Calls.{counts_of, list_verdict, list_call, list_buffer}
 use Rattle.netlist.specs.Methods.{list_by, shared_by, tallied, tally_call}
-use Rattle.netlist.proofs.CallLaws.{table-fine, sized-by, answer-counted, answer-refused, tally-answer}
+use Rattle.netlist.proofs.CallLaws.{table-fine, sized-by}
 use Rattle.list_writer.specs.Inner.{listed, Told}
 use Rattle.list_writer.proofs.ListLaws.{few_words_lem}
 
--- what is told by the numbers
-module _ (method : Method) (m : ℕ) (table : List ℕ) {t : Numbers} (e : t ≡ tally_call method m table) where
-  pub tally-fault : t.fault ≡ symmetry_verdict m table
-  unfolding tallied
-  tally-fault = ap (λ (t : Numbers). t.fault) e
+-- what is told by the numbers of a table that passes
+pub record Counted (method : Method) (m : ℕ) (table : List ℕ) (t : Tallied) : Type 0 where
+  pub passed : symmetry_verdict m table ≡ Ok tt
+  pub numbers : t ≡ tallied method m table
+  pub told : Told method m table t.full
+  pub gates : t.gates ≡ length (list_by method m table).gates
 
-  module _ (n : is_ok (symmetry_verdict m table) ≡ true) where
-    pub tally-gates : t.gates ≡ length (list_by method m table).gates
-    unfolding tallied
-    tally-gates = ap (λ (t : Numbers). t.gates) e ∙ ap (λ b. choose b (length (list_by method m table).gates) 0) n
-
-    pub told : Told method m table t.full
-    told =
-        let f = table-fine m table n in
-        record { shaped = f.0; sized = sized-by m table f.0.least f.0.is_table f.1 method; shared = same }
-      where
-        same : t.full ≡ shared_by method m table
-        same = unfold tallied in (ap (λ (t : Numbers). t.full) e ∙ ap (λ b. choose b (shared_by method m table) 0) n)
-
-    pub counted : record { fault = t.fault; ands = t.ands; xors = t.xors } ≡ counted_as (and_gates (list_by method m table).gates) (xor_gates (list_by method m table).gates)
-    counted = tally-answer (symmetry_verdict m table) (list_by method m table) (shared_by method m table) e ∙ answer-counted (symmetry_causes m table) _ _ (fine (symmetry_causes m table) n)
+pub counted : (method : Method) (m : ℕ) (table : List ℕ) {r : Result Tallied Fault} {t : Tallied} → r ≡ tally_call method m table → r ≡ Ok t → Counted method m table t
+counted method m table {t = t} e q =
+    let p = answer-passed (symmetry_verdict m table) (sym e ∙ q) in
+    let f = table-fine m table p.0 in
+    record {
+      passed = p.0;
+      numbers = sym p.1;
+      told = record { shaped = f.0; sized = sized-by m table f.0.least f.0.is_table f.1 method; shared = ap (λ (t : Tallied). t.full) (sym p.1) };
+      gates = ap (λ (t : Tallied). t.gates) (sym p.1);
+    }
 
 -- the words of a list that is told of
 module _ {method : Method} {m : ℕ} {table : List ℕ} {full : ℕ} (t : Told method m table full) {g : ℕ} (e : g ≡ length (list_by method m table).gates) where
@@ -77,42 +72,25 @@ module _ {method : Method} {m : ℕ} {table : List ℕ} {full : ℕ} (t : Told m
 
 -- a list that is refused, and one that is delivered
 module _ (m : ℕ) (table : List ℕ) (list : Netlist) (old : List ℕ) where
-  abbrev pub Answered : CountsAnswer → List ℕ → Type 0
+  abbrev pub Answered : Result GateCounts Fault → List ℕ → Type 0
   Answered r out = (r ≡ list_call m table list old) × (out ≡ list_buffer m table list old)
 
-  pub list-refused : {f : Fault} {c : CountsAnswer} → c ≡ refused_with f → f ≡ symmetry_verdict m table → is_ok (symmetry_verdict m table) ≡ false → Answered c old
-  list-refused {f} {c} e h n = (
-    e ∙ answer-refused (h ∙ sym first) (and_gates list.gates) (xor_gates list.gates) (ap is_ok h ∙ n),
-    sym (ap (λ b. choose b (words m list ++ drop (length (words m list)) old) old) (ap is_ok first ∙ n)),
-  )
-    where
-      first : list_verdict m table list old ≡ symmetry_verdict m table
-      first = stops (symmetry_causes m table) (too_short (length old) (length (words m list)) ∷ []) n
+  refused : {f : Fault} → list_verdict m table list old ≡ Err f → Answered (Err f) old
+  refused e = (answer-refused (counts_of list) e, sym (ap (λ v. choose (is_ok v) (listed m list old) old) e))
 
-  module _ (n : is_ok (symmetry_verdict m table) ≡ true) where
+  pub list-refused : {f : Fault} → symmetry_verdict m table ≡ Err f → Answered (Err f) old
+  list-refused e = refused (stops (symmetry_causes m table) (too_short (length old) (length (words m list)) ∷ []) e)
+
+  module _ (n : symmetry_verdict m table ≡ Ok tt) where
     second : list_verdict m table list old ≡ judged (too_short (length old) (length (words m list)) ∷ [])
     second = goes_on (symmetry_causes m table) (too_short (length old) (length (words m list)) ∷ []) n
 
-    pub list-short : {r : CountsAnswer} → length old < length (words m list) → r ≡ refused_with (Call OutputShort) → Answered r old
-    list-short l e = (e ∙ sym none, sym buffer)
+    pub list-short : length old < length (words m list) → Answered (Err (Call OutputShort)) old
+    list-short l = refused (second ∙ head-holds (too_short (length old) (length (words m list))) [] (lt-ltb (length old) (length (words m list)) l))
+
+    pub list-fits : {c : GateCounts} {out : List ℕ} → length (words m list) ≤ length old → c ≡ counts_of list → out ≡ listed m list old → Answered (Ok c) out
+    unfolding judged
+    list-fits l e h = (ap Ok e ∙ answer-given (counts_of list) fits, h ∙ sym (ap (λ v. choose (is_ok v) (listed m list old) old) fits))
       where
-        fault : list_verdict m table list old ≡ (Call OutputShort)
-        fault = second ∙ head-holds (too_short (length old) (length (words m list))) [] (lt-ltb (length old) (length (words m list)) l)
-
-        none : list_call m table list old ≡ refused_with (Call OutputShort)
-        none = unfold answer is_ok in rw fault
-
-        buffer : list_buffer m table list old ≡ old
-        buffer = unfold is_ok in rw fault
-
-    pub list-fits : {r : CountsAnswer} {out : List ℕ} → length (words m list) ≤ length old → r ≡ counted_as (and_gates list.gates) (xor_gates list.gates) → out ≡ listed m list old → Answered r out
-    list-fits l e h = (e ∙ sym all, h ∙ sym buffer)
-      where
-        fault : list_verdict m table list old ≡ Ok tt
-        fault = second ∙ none-given (too_short (length old) (length (words m list)) ∷ []) (le-ltb (length old) (length (words m list)) l, tt)
-
-        all : list_call m table list old ≡ counted_as (and_gates list.gates) (xor_gates list.gates)
-        all = unfold answer is_ok in rw fault
-
-        buffer : list_buffer m table list old ≡ words m list ++ drop (length (words m list)) old
-        buffer = unfold is_ok in rw fault
+        fits : list_verdict m table list old ≡ Ok tt
+        fits = second ∙ head-fails (too_short (length old) (length (words m list))) [] (le-ltb (length old) (length (words m list)) l)

@@ -1,12 +1,16 @@
 -- Laws of a whole list: the terms of each fold, the parts one after another, and its words in the buffer.
+use Rattle.std.specs.Prelude.{None, Some}
 use mathlib.Core.Path.{◌≡◌, refl, sym, ap, ap₂, ◌∙◌, subst}
 use mathlib.Core.Bool.{Bool, true, false, not, ◌&&◌, and-false, and-true}
 use mathlib.Core.List.{List, [], ◌∷◌, ◌++◌, append-nil}
 use Prim.Native.Nat.{ℕ, ◌+◌, ◌-◌, ◌*◌, ◌/◌, ◌<◌, ◌≤◌}
 use native.Mathlib.Nat.{zero-add, add-zero, mul-le-mul}
 use native.Mathlib.Omega.{arith}
-use lib.ListN.{length, get_or, set, take, length-append}
-use lib.Seq.{sets, length-sets, take_at, get_or-set_same, set-set}
+use lib.ListN.{length, get_or, set, take, drop, length-append}
+use borrow.Rule.Slice.PartMut.{put_mid}
+use Rattle.std.proofs.Common.{take_all}
+use Rattle.std.proofs.lemmas.Slice.{put_mid-paste}
+use lib.Seq.{sets, sets-eq, length-sets, take_at, get_or-set_same, set-set}
 use lib.Dec.{ltb, eqb}
 use Rattle.gf2.proofs.Sums.{sum-zero}
 use Rattle.gf2.specs.Coordinates.{coord}
@@ -44,10 +48,10 @@ pairs-mixes m = refl
 
 -- what is folded: the rows, whether the pairs are mixed, and a last wire or none
 abbrev pub none_last : Rows → Bool → Terms
-none_last rows mixed = record { rows = rows; mixed = mixed; last = false; wire = 0 }
+none_last rows mixed = record { rows = rows; mixed = mixed; last = None }
 
 abbrev pub others : ℕ → Terms
-others w = record { rows = Others; mixed = false; last = true; wire = w }
+others w = record { rows = Others; mixed = false; last = Some w }
 
 -- the terms of each list
 pairs-ext : (m : ℕ) {f g : ℕ → ℕ → Bool} (w : ℕ → ℕ → ℕ) → ((i j : ℕ) → i < m → j < m → f i j ≡ g i j) → pairs m f w ≡ pairs m g w
@@ -181,6 +185,10 @@ outputs-length {list} {wires = wires} x = ap length x.outputs ∙ length-sets wi
 -- every gate's number and every wire is a word
 pub few_words_lem : (m g : ℕ) → m ≤ max_width → g ≤ m * m * m → 3 * g + m * m + 3 * m + 2 < word_limit
 few_words_lem m g h l = omega (arith, width-square m m h h, mul-le-mul {n₁ = m * m} {m₁ = m} {n₂ = max_width * max_width} {m₂ = max_width} (width-square m m h h) h)
+
+-- words that are copied to place i are stored there one after another
+pub copied_sets : (l vs : List ℕ) (i n : ℕ) → n ≡ length vs → i + n ≤ length l → put_mid i n l vs ≡ sets l i vs
+copied_sets l vs i n e h = put_mid-paste i n l vs vs n refl refl e ∙ ap₂ (λ x k. take i l ++ x ++ drop (i + k) l) (take_all n vs (omega (arith, e))) e ∙ sym (sets-eq vs l i (omega (arith, e)))
 
 -- a whole list: its words are stored from the front
 module _ {m : ℕ} {list : Netlist} (z : Sized m list) where

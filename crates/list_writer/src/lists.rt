@@ -1,8 +1,6 @@
 // Writing a list: the gates that each pair gives by itself, then the folds for the coordinates, then their output wires.
-ghost use Rattle.std.specs.Prelude.{◌≡◌, ◌+◌, ◌*◌, ◌<◌, ◌≤◌, length, take};
-ghost use Rattle.std.proofs.lemmas.List.Edits.{sets};
+ghost use Rattle.std.specs.Prelude.{◌≡◌, ◌+◌, ◌*◌, ◌≤◌, length};
 ghost use Rattle.table.specs.Rows.{Shaped};
-ghost use Rattle.netlist.specs.Gates.{word_limit};
 ghost use Rattle.netlist.specs.Lists.{plain, reduced, sharing};
 ghost use Rattle.netlist.specs.Calls.{list_call, list_buffer};
 ghost use Rattle.netlist.specs.Methods.{list_by};
@@ -12,18 +10,6 @@ use judging::{CallFault, Fault};
 use list_folds::{Rows, Terms};
 use netlist::{GateCounts, Method};
 
-// The first n words, from place `at` on.
-fn put_words(out: &mut [u32], at: usize, words: &[u32], n: usize)
-    requires { (n ≤ length words.now) × (at + n < word_limit) }
-    ensures { out.new ≡ sets out.old at (take n words.now) }
-{
-    let mut k = 0;
-    while k < n {
-        list_pairs::put(out, at + k, words[k]);
-        k += 1;
-    }
-}
-
 fn put_plain(out: &mut [u32], ends: &mut [u32], width: usize, table: &[u8])
     requires { Shaped width table.now }
     ensures { Written (plain width table.now) out.old ends.old out.new ends.new }
@@ -31,8 +17,7 @@ fn put_plain(out: &mut [u32], ends: &mut [u32], width: usize, table: &[u8])
     let pairs = Terms {
         rows: Rows::All,
         mixed: false,
-        last: false,
-        wire: 0,
+        last: None,
     };
     let n = list_pairs::put_pairs(out, width, false, 0);
     list_folds::put_folds(out, ends, width, table, pairs, width, n);
@@ -45,8 +30,7 @@ fn put_reduced(out: &mut [u32], ends: &mut [u32], width: usize, table: &[u8])
     let pairs = Terms {
         rows: Rows::All,
         mixed: true,
-        last: false,
-        wire: 0,
+        last: None,
     };
     let ands = list_pairs::put_pairs(out, width, false, 0);
     let n = list_pairs::put_pairs(out, width, true, ands);
@@ -61,16 +45,14 @@ fn put_sharing(out: &mut [u32], ends: &mut [u32], width: usize, table: &[u8])
     let shared = Terms {
         rows: Rows::Full,
         mixed: false,
-        last: false,
-        wire: 0,
+        last: None,
     };
     let ands = list_pairs::put_pairs(out, width, false, 0);
     let n = list_folds::put_folds(out, ends, width, table, shared, 1, ands);
     let others = Terms {
         rows: Rows::Others,
         mixed: false,
-        last: true,
-        wire: ends[0],
+        last: Some(ends[0]),
     };
     list_folds::put_folds(out, ends, width, table, others, width, n);
 }
@@ -104,10 +86,11 @@ fn put_list(out: &mut [u32], width: usize, table: &[u8], method: Method, full: u
     ensures { out.new ≡ listed width (list_by method width table.now) out.old }
 {
     let mut ends = [0u32; limbs::MAX_WIDTH];
-    list_pairs::put(out, 0, width as u32);
-    list_pairs::put(out, 1, g as u32);
+    out[0] = width as u32;
+    out[1] = g as u32;
     put_gates(out, &mut ends, width, table, method, full);
-    put_words(out, 2 + 3 * g, &ends, width);
+    let q = 2 + 3 * g;
+    out[q..q + width].copy_from_slice(&ends[..width]);
 }
 
 // A list by a method, from a table that keeps rules 4 and 5, where the buffer has room for it.

@@ -12,6 +12,7 @@
 -- FormLaws: the gates of the three lists are of the form that a list to be accepted has.
 -- TableLaws: the bits of a table in its bytes, and bounds.
 -- CallLaws: the numbers of all gates, and the answers of the calls.
+-- Ranges: a test of the numbers below a bound, as an iterator gives them.
 pub mod FoldLaws
 pub mod NetlistLaws
 pub mod ListLaws
@@ -25,3 +26,4 @@ pub mod SetLaws
 pub mod FormLaws
 pub mod TableLaws
 pub mod CallLaws
+pub mod Ranges

@@ -17,13 +17,5 @@ pub(crate) fn full_rows(width: usize, table: &[u8]) -> usize
     requires { Shaped width table.now }
     ensures { (result ≡ full_rows width table.now) × (result ≤ width) }
 {
-    let mut n: usize = 0;
-    let mut d = 0;
-    while d < width {
-        if full_row(width, table, d) {
-            n += 1;
-        }
-        d += 1;
-    }
-    n
+    (0..width).filter(|d| full_row(width, table, *d)).count()
 }

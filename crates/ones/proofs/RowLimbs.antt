@@ -2,11 +2,12 @@
 -- Next: the first one from a place on, what is known of it, and the loop that looks for it.
 -- Counts: the ones of a limb, of limbs, of bytes.
 -- Rows: a row of a table, as far as the table goes.
-use Rattle.std.proofs.Common.{◌≡◌, ℕ, zero, suc, ◌+◌, ◌-◌, ◌*◌, ◌/◌, ◌%◌, ◌^◌, ◌<◌, ◌≤◌, List, length, get_or, take, drop, replicate, sym, refl, ap, ◌∙◌, ap₂, lt_of_le_of_lt, add-zero, mod-eq_of_lt, mul-le-mul, arith, length-drop, drop_of_length-le, take_all, shr-shr, le-ltb, lt-ltb, eq-eqb, ne_eqb, le-leb}
-use native.Mathlib.Nat.{zero-div, mod-add-mod}
+-- log2-only: the highest one of a number.
+use Rattle.std.proofs.Common.{◌≡◌, ℕ, zero, suc, ◌+◌, ◌-◌, ◌*◌, ◌/◌, ◌%◌, ◌^◌, ◌<◌, ◌≤◌, List, length, get_or, take, drop, replicate, sym, refl, ap, ◌∙◌, ap₂, lt_of_le_of_lt, add-zero, mod-eq_of_lt, mul-le-mul, arith, min, length-drop, drop_of_length-le, take_all, shr-shr, le-ltb, lt-ltb, eq-eqb, ne_eqb, le-leb}
+use native.Mathlib.Nat.{mul_comm, zero-div, mod-add-mod}
 use native.Mathlib.Decide.{dec_lt, ℕ_discrete}
 use lib.Seq.{take-nil}
-use lib.Pow.{shr_le}
+use lib.Pow.{pow_pos, pow_mono, pow-add, shr_le}
 use lib.Count.{count_trailing_zeros}
 use borrow.Author.Tests.{lt-leb}
 use Rattle.gf2.specs.Sums.{sum}
@@ -15,6 +16,8 @@ use Rattle.gf2.specs.Operands.{max_width, carried_bytes, bytes_for}
 use Rattle.gf2.specs.Tables.{row}
 use Rattle.gf2.proofs.Sums.{sum-ext, sum-split, sum-clear, sum-bits}
 use Rattle.gf2.proofs.Coordinates.{value-bit, coord-lt, coord-past}
+use Rattle.gf2.specs.Inverse.{log2}
+use Rattle.gf2.proofs.Logarithm.{log2-bounds}
 use Rattle.gf2.proofs.TrailingZeros.{trailing-low, lowest-one, one_below}
 use Rattle.limbs.specs.Limbs.{carried_limbs, limb_coord, pack_limbs}
 use Rattle.ones.specs.RowLimbs.{first_one, next_one, row_limbs}
@@ -167,13 +170,13 @@ pub row-place : (m d size : ℕ) → d < m → m ≤ max_width → size ≡ (m +
 row-place m d size h l e = mul-le-mul {n₁ = d} {m₁ = size} {n₂ = max_width} {m₂ = carried_bytes} (omega arith) (omega arith)
 
 -- a part of a list, as far as the list goes
-part-least : (t : List ℕ) (from size : ℕ) {start end : ℕ} → start ≡ from - (from - length t) → end ≡ start + size - (start + size - length t)
+part-least : (t : List ℕ) (from size : ℕ) {start end : ℕ} → start ≡ min from (length t) → end ≡ min (start + size) (length t)
     → take (end - start) (drop start t) ≡ take size (drop from t)
 part-least t from size {start} {end} es ee = elim (dec_lt from (length t)) [
   | yes h ↦
       let s : start ≡ from = omega arith in
       rw s (elim (dec_lt (length t) (from + size)) [
-        | yes l ↦ take_all (end - from) (drop from t) (omega (arith, length-drop from t)) ∙ sym (take_all size (drop from t) (omega (arith, length-drop from t)))
+        | yes l ↦ take_all (end - from) (drop from t) (omega (arith, min, length-drop from t)) ∙ sym (take_all size (drop from t) (omega (arith, min, length-drop from t)))
         | no l ↦ let k : end - from ≡ size = omega arith in ap (λ n. take n (drop from t)) k
       ])
   | no h ↦ ap (take (end - start)) (drop_of_length-le t {i = start} (omega arith)) ∙ take-nil (end - start) ∙ sym (ap (take size) (drop_of_length-le t {i = from} (omega arith)) ∙ take-nil size)
@@ -194,7 +197,23 @@ module _ (m : ℕ) (t : List ℕ) (d : ℕ) where
     unfolding row_limbs
     row-limbs = rw (lt-ltb d m h, le-leb m max_width l)
 
-    pub row-some : {size start end : ℕ} {x : List ℕ} → size ≡ bytes_for m → start ≡ d * size - (d * size - length t) → end ≡ start + size - (start + size - length t)
+    pub row-some : {size start end : ℕ} {x : List ℕ} → size ≡ bytes_for m → start ≡ min (d * size) (length t) → end ≡ min (start + size) (length t)
         → x ≡ pack_limbs carried_limbs (coord (take (end - start) (drop start t))) → x ≡ row_limbs m t d
     unfolding row
     row-some {size} e es ee ex = ex ∙ ap (λ s. pack_limbs carried_limbs (coord s)) (part-least t (d * size) size es ee ∙ ap (λ k. take k (drop (d * k) t)) e) ∙ sym row-limbs
+
+-- the logarithm rounded down is the only number with these bounds
+pub log2-only : (n r : ℕ) → 2 ^ r ≤ n → n < 2 * 2 ^ r → r ≡ log2 n
+log2-only n r low high = elim (dec_lt r (log2 n)) [
+  | yes h ↦ absurd (omega (arith, low, high, two, least.0, pow_mono {i = r + 1} {j = log2 n} (omega arith)))
+  | no h ↦ elim (dec_lt (log2 n) r) [
+    | yes k ↦ absurd (omega (arith, low, least.1, pow_mono {i = log2 n + 1} {j = r} (omega arith)))
+    | no k ↦ omega arith
+  ]
+]
+  where
+    least : (2 ^ log2 n ≤ n) × (n < 2 ^ (log2 n + 1))
+    least = log2-bounds n (omega (arith, low, pow_pos r))
+
+    two : 2 ^ (r + 1) ≡ 2 * 2 ^ r
+    two = pow-add 2 r 1 ∙ mul_comm (2 ^ r) 2

@@ -20,7 +20,7 @@ fn one_from(limb: u64, s: usize) -> usize
     if left == 0 {
         return 64;
     }
-    s + u64::trailing_zeros(left) as usize
+    s + left.trailing_zeros() as usize
 }
 
 // The first place from `from` on that is 1, or none of the limbs'. Limbs of zeros are passed over at once.
@@ -43,7 +43,7 @@ pub fn next_one(x: &[u64; limbs::LIMBS], from: usize) -> usize
 fn limb_ones(limb: u64) -> usize
     ensures { result ≡ sum 64 (λ j. limb / 2 ^ j % 2) }
 {
-    u64::count_ones(limb) as usize
+    limb.count_ones() as usize
 }
 
 // The ones of limbs.
@@ -51,10 +51,8 @@ pub fn ones_in(x: &[u64; limbs::LIMBS]) -> usize
     ensures { result ≡ sum (64 * carried_limbs) (limb_coord x.now) }
 {
     let mut total = 0;
-    let mut w = 0;
-    while w < limbs::LIMBS {
-        total += limb_ones(x[w]);
-        w += 1;
+    for limb in x {
+        total += limb_ones(*limb);
     }
     total
 }
@@ -63,35 +61,23 @@ pub fn ones_in(x: &[u64; limbs::LIMBS]) -> usize
 pub fn ones_of(bytes: &[u8]) -> usize
     ensures { result ≡ sum (8 * length bytes.now) (coord bytes.now) % 2 ^ 64 }
 {
-    let mut total = 0;
-    let mut w = 0;
-    while w * 8 < bytes.len() {
-        total = std::num::wrapping_add_usize(total, limb_ones(limbs::limb_of(bytes, w)));
-        w += 1;
+    let mut total: usize = 0;
+    for w in 0..bytes.len().div_ceil(8) {
+        total = total.wrapping_add(limb_ones(limbs::limb_of(bytes, w)));
     }
     total
-}
-
-// The lesser of two numbers.
-fn least(a: usize, b: usize) -> usize
-    ensures { result ≡ a - (a - b) }
-{
-    if a < b { a } else { b }
 }
 
 // Row d of a table, as far as the table goes.
 pub fn row_limbs(width: usize, table: &[u8], d: usize) -> [u64; limbs::LIMBS]
     ensures { result ≡ row_limbs width table.now d }
 {
-    if width <= d {
-        return [0u64; limbs::LIMBS];
-    }
-    if limbs::MAX_WIDTH < width {
-        return [0u64; limbs::LIMBS];
+    if width <= d || limbs::MAX_WIDTH < width {
+        return [0; limbs::LIMBS];
     }
     let size = limbs::bytes_for(width);
-    let start = least(d * size, table.len());
-    let end = least(start + size, table.len());
+    let start = (d * size).min(table.len());
+    let end = (start + size).min(table.len());
     limbs::slice_limbs(&table[start..end])
 }
 
@@ -99,11 +85,5 @@ pub fn row_limbs(width: usize, table: &[u8], d: usize) -> [u64; limbs::LIMBS]
 pub fn highest_one(n: usize) -> usize
     ensures { result ≡ log2 n }
 {
-    let mut rest = n;
-    let mut found = 0;
-    while 2 <= rest {
-        rest = rest / 2;
-        found += 1;
-    }
-    found
+    if n == 0 { 0 } else { n.ilog2() as usize }
 }

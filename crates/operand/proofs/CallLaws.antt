@@ -1,19 +1,19 @@
 -- What the calls answer, from what their parts give.
--- Answers: with and without a fault, equal faults. Values: zero, one, sum, trace, solution. Bits judged on carried bytes.
-use Rattle.std.specs.Prelude.{is_ok}
+-- Buffers: kept and filled. Values: zero, one, sum, trace, solution. Bits judged on carried bytes.
+use Rattle.std.specs.Prelude.{Ok, Err, IsErrAnd}
 use mathlib.Core.Path.{◌≡◌, refl, sym, ap, ap₂, ◌∙◌}
-use mathlib.Core.Bool.{Bool, true, false, not}
-use mathlib.Core.List.{List, [], ◌∷◌, ◌++◌}
+use mathlib.Core.Bool.{true, not}
+use mathlib.Core.List.{List, [], ◌∷◌}
 use Prim.Native.Nat.{ℕ, suc, ◌+◌, ◌*◌, ◌/◌, ◌%◌, ◌^◌, ◌<◌, ◌≤◌}
 use native.Mathlib.Nat.{mod-mod}
 use native.Mathlib.Decide.{dec_lt}
 use native.Mathlib.Omega.{arith}
 use lib.ListN.{length, replicate, get_or-replicate}
 use lib.Dec.{eqb}
-use borrow.Author.Tests.{eqb-true, not-true}
+use borrow.Author.Tests.{eqb-true}
 use Rattle.gf2.specs.Sums.{sum, every}
 use Rattle.gf2.specs.Coordinates.{coord, value, tabulate, pack}
-use Rattle.gf2.specs.Operands.{max_width, bytes_for, carried_bytes, choose, IsOperand, is_clear, carried_by, below, from_coords, zeroes, ones, added, turned}
+use Rattle.gf2.specs.Operands.{max_width, bytes_for, carried_bytes, IsOperand, is_clear, carried_by, below, from_coords, zeroes, ones, added, turned}
 use Rattle.gf2.specs.Quadratic.{trace, root_coord, root}
 use Rattle.gf2.proofs.Sums.{sum-clear, every-at}
 use Rattle.gf2.proofs.Coordinates.{pack-ext, length-pack}
@@ -24,63 +24,29 @@ use Rattle.limbs.proofs.Reach.{reach-room}
 use Rattle.limbs.proofs.LimbCoords.{limb-pack, limbs-ext, limbs-zero, limbs-below, slice-same, limbs-same}
 use Rattle.quadratic.proofs.QuadraticLimbs.{root-from}
 use Rattle.judging.specs.declared.fault.Fault.{Fault}
-use Rattle.judging.specs.Causes.{Cause, judged}
+use Rattle.judging.specs.Causes.{Cause, Verdict, judged}
 use Rattle.judging.specs.FaultTable.{bad_width, bad_length, high_bit, trace_is_one}
-use Rattle.judging.proofs.CauseLaws.{same_head, fine, ends}
+use Rattle.judging.proofs.CauseLaws.{same_head, fine, handed_on}
 use Rattle.judging.proofs.Passed.{IsWidth, is-width, as-laid-down, is-clear}
 use Rattle.turns.specs.Moves.{rolled}
 use Rattle.turns.proofs.Turns.{rolled-turned, rolled-limbs}
 use Rattle.operand.specs.declared.Operand.{Operand}
-use Rattle.operand.specs.declared.OperandAnswer.{OperandAnswer}
 use Rattle.operand.specs.Causes.{operand_causes}
-use Rattle.operand.specs.Calls.{no_operand, answer, trace_answer}
+use Rattle.operand.specs.Calls.{written}
 
--- equal faults and, where these are none, equal bytes make equal answers
-pub answer-same : {f g : Fault} (m : ℕ) {x y : List ℕ} → f ≡ g → (is_ok g ≡ true → x ≡ y) → answer f m x ≡ answer g m y
-unfolding answer
-answer-same {f} {g} m {x} {y} e h = ap (λ k. answer k m x) e ∙ go (is_ok g) refl
-  where
-    go : (b : Bool) → is_ok g ≡ b → answer g m x ≡ answer g m y
-    go true q = ap (answer g m) (h q)
-    go false q = rw q
+-- a buffer after a call: where it is refused, and where it is not
+pub kept : {v : Verdict} {f : Fault} (z old : List ℕ) → v ≡ Err f → old ≡ written v z old
+kept z old e = rw e
 
--- a call that was refused
-pub refusal : (g : Fault) {f : Fault} (m : ℕ) (y : List ℕ) {r : OperandAnswer} → f ≡ g → is_ok g ≡ false → r ≡ (record { fault = f; value = no_operand }) → r ≡ answer g m y
-unfolding answer
-refusal g m y q n e = rw n (e ∙ ap (λ z. record { fault = z; value = no_operand }) q)
+pub filled : {v : Verdict} (z old : List ℕ) {new : List ℕ} → v ≡ Ok tt → new ≡ z → new ≡ written v z old
+filled z old e q = rw e q
 
--- a trace, refused and made
-pub trace-refused : {f g : Fault} (n : ℕ) → f ≡ g → is_ok g ≡ false → (record { fault = f; trace = 0 }) ≡ trace_answer g n
-unfolding trace_answer
-trace-refused n e q = rw (q, e)
+-- the verdict with it: of a call that ends at a `?` with the fault, and of one that comes to its end
+pub ends-kept : {v : Verdict} {f : Fault} (r : Verdict) (z old : List ℕ) → IsErrAnd r (λ g. g ≡ f) → Err f ≡ v → (r ≡ v) × (old ≡ written v z old)
+ends-kept r z old e h = (handed_on r e h, kept z old (sym h))
 
-pub trace-made : {f g : Fault} {k n : ℕ} → f ≡ g → is_ok g ≡ true → k ≡ n → (record { fault = f; trace = k }) ≡ trace_answer g n
-unfolding trace_answer
-trace-made e q h = rw (q, e, h)
-
--- a buffer after a call
-pub kept : (f : Fault) (z old : List ℕ) → is_ok f ≡ false → old ≡ choose (is_ok f) z old
-kept f z old e = rw e
-
-pub filled : (f : Fault) (z old : List ℕ) {new : List ℕ} → is_ok f ≡ true → new ≡ z → new ≡ choose (is_ok f) z old
-filled f z old e q = rw e q
-
--- a part that code has judged: f is the fault of cs, b the test whether that is none
-module _ (cs : List Cause) {f : Fault} {b : Bool} (e : f ≡ judged cs) (t : b ≡ is_ok f) where
-  -- it is the last
-  pub all-kept : (z old : List ℕ) → b ≡ false → (f ≡ judged cs) × (old ≡ choose (is_ok (judged cs)) z old)
-  all-kept z old q = (e, kept (judged cs) z old (judged cs [] e t q))
-
-  pub all-filled : (z old : List ℕ) {new : List ℕ} → b ≡ true → (is_ok (judged cs) ≡ true → new ≡ z) → (f ≡ judged cs) × (new ≡ choose (is_ok (judged cs)) z old)
-  all-filled z old q h = let n = judged cs [] e t q in (e, filled (judged cs) z old n (h n))
-
-  -- it refuses, and ds are not judged
-  module _ (ds : List Cause) (q : not b ≡ true) where
-    pub ends-kept : (z old : List ℕ) → (f ≡ judged (cs ++ ds)) × (old ≡ choose (is_ok (judged (cs ++ ds))) z old)
-    ends-kept z old = (ends cs ds e t (not-true b q), kept (judged (cs ++ ds)) z old (ends_some cs ds e t (not-true b q)))
-
-    pub ends-refused : (m : ℕ) (y : List ℕ) {r : OperandAnswer} → r ≡ (record { fault = f; value = no_operand }) → r ≡ answer (judged (cs ++ ds)) m y
-    ends-refused m y = refusal (judged (cs ++ ds)) m y (ends cs ds e t (not-true b q)) (ends_some cs ds e t (not-true b q))
+pub ends-filled : {v : Verdict} (z old : List ℕ) {new : List ℕ} → Ok tt ≡ v → new ≡ z → (Ok tt ≡ v) × (new ≡ written v z old)
+ends-filled z old h q = (h, filled z old (sym h) q)
 
 -- a carried result, written to W bytes
 pub written_out : {m n : ℕ} {x new y : List ℕ} → m ≤ max_width → IsOperand (bytes_for m) m x → n ≡ bytes_for m → new ≡ pack n (coord y) → y ≡ carried_by x → new ≡ x
@@ -90,7 +56,7 @@ written_out {n = n} g is room p q = p ∙ ap (λ y. pack n (coord y)) q ∙ writ
 abbrev pub one_size : ℕ → ℕ → List Cause
 one_size m a = bad_width m ∷ bad_length a (bytes_for m) ∷ []
 
-pub has-size : (m : ℕ) (a : List ℕ) → is_ok (judged (one_size m (length a))) ≡ true → HasBytes m a
+pub has-size : (m : ℕ) (a : List ℕ) → judged (one_size m (length a)) ≡ Ok tt → HasBytes m a
 has-size m a e = let p = fine (one_size m (length a)) e in record { greatest = (is-width m p.0).greatest; size = as-laid-down _ _ p.1.0 }
 
 abbrev pub size_causes : ℕ → ℕ → ℕ → List Cause
@@ -104,7 +70,7 @@ pub record Sized (m : ℕ) (a old : List ℕ) : Type 0 where
   pub operand : HasBytes m a
   pub room : length old ≡ bytes_for m
 
-pub sized : (m : ℕ) (a old : List ℕ) → is_ok (judged (size_causes m (length a) (length old))) ≡ true → Sized m a old
+pub sized : (m : ℕ) (a old : List ℕ) → judged (size_causes m (length a) (length old)) ≡ Ok tt → Sized m a old
 sized m a old e =
     let p = fine (size_causes m (length a) (length old)) e in
     let w = is-width m p.0 in
@@ -116,7 +82,7 @@ pub record SizedPair (m : ℕ) (a b old : List ℕ) : Type 0 where
   pub right : HasBytes m b
   pub room : length old ≡ bytes_for m
 
-pub sized-pair : (m : ℕ) (a b old : List ℕ) → is_ok (judged (pair_sizes m (length a) (length b) (length old))) ≡ true → SizedPair m a b old
+pub sized-pair : (m : ℕ) (a b old : List ℕ) → judged (pair_sizes m (length a) (length b) (length old)) ≡ Ok tt → SizedPair m a b old
 sized-pair m a b old e =
     let p = fine (pair_sizes m (length a) (length b) (length old)) e in
     let w = is-width m p.0 in
@@ -133,12 +99,8 @@ pub high_same : {m : ℕ} {a : List ℕ} → HasBytes m a → (cs ds : List Caus
 high_same {m} {a} h cs ds e =
     same_head (high_bit m (pack carried_bytes (coord a))) (high_bit m a) cs ds (ap not (clear-carried h)) refl (λ q. e (is-clear m a q))
 
-pub high-by : {m : ℕ} {a x : List ℕ} → HasBytes m a → x ≡ carried_by a → (cs ds : List Cause) → (is_clear m a ≡ true → judged cs ≡ judged ds)
-    → judged (high_bit m x ∷ cs) ≡ judged (high_bit m a ∷ ds)
-high-by {m} h e cs ds k = ap (λ z. judged (high_bit m z ∷ cs)) e ∙ high_same h cs ds k
-
 -- a turn whose width and bits have passed
-pub turn-made : (a : Operand) (k : ℕ) {r : List ℕ} → length a.bytes ≡ carried_bytes → is_ok (judged (operand_causes a)) ≡ true
+pub turn-made : (a : Operand) (k : ℕ) {r : List ℕ} → length a.bytes ≡ carried_bytes → judged (operand_causes a) ≡ Ok tt
     → r ≡ pack carried_bytes (rolled a.width k (coord a.bytes)) → r ≡ turned a.width k a.bytes
 turn-made a k size e h =
     let p = fine (operand_causes a) e in

@@ -1,4 +1,5 @@
 -- The steps of the inverse's chain: the binary digits of m - 1, and what a doubling and an adding hand on.
+use Rattle.std.specs.Prelude.{Result, Ok}
 use mathlib.Core.Path.{◌≡◌, refl, sym, ap, ◌∙◌}
 use mathlib.Core.List.{List}
 use Prim.Native.Nat.{ℕ, zero, suc, ◌+◌, ◌-◌, ◌*◌, ◌/◌, ◌%◌, ◌^◌, ◌<◌, ◌≤◌}
@@ -14,12 +15,12 @@ use Rattle.gf2.specs.Inverse.{log2, Chain, start, doubling, adding, digits, chai
 use Rattle.gf2.proofs.Operands.{length_from, from-operand}
 use Rattle.gf2.proofs.Logarithm.{log2-bounds, top_digit}
 use Rattle.operand.specs.declared.Operand.{Operand}
-use Rattle.operand.specs.declared.OperandAnswer.{OperandAnswer}
+use Rattle.judging.specs.declared.fault.Fault.{Fault}
 use Rattle.operand.specs.Calls.{turn_call}
 use Rattle.table.specs.Rows.{Shaped}
 use Rattle.product.specs.declared.chain.State.{State}
 use Rattle.product.specs.Inner.{Sound, operand_of, chain_of, state_of, Underway}
-use Rattle.product.proofs.SoundOperands.{is_carried, made-sound, turn-value, turn-made}
+use Rattle.product.proofs.SoundOperands.{is_carried, made-sound, unwrapped, turn-is, turn-made}
 
 -- a small number has few digits, so that a shift by their number is no overflow
 pub few-digits : (u k : ℕ) → max_width < 2 ^ k → 2 ^ u ≤ max_width → u < k
@@ -71,12 +72,12 @@ module _ (m : ℕ) (t a : List ℕ) where
   digits-fine n (suc u) s h = digits-fine n u _ (adding-fine _ _ (product-operand m t _ _ (turned-length m s.k s.t ∙ h.size)))
 
 -- x turned k places, and what it gives as a factor
-module _ {m : ℕ} {x : Operand} (s : Sound m x) (k : ℕ) {r : OperandAnswer} (e : r ≡ turn_call x k) where
-  pub turned-sound : Sound m r.value
-  turned-sound = made-sound s _ (turn-made s k e)
+module _ {m : ℕ} {x : Operand} (s : Sound m x) (k : ℕ) {r : Result Operand Fault} {v : Operand} (e : r ≡ turn_call x k) (u : r ≡ Ok v) where
+  pub turned-sound : Sound m v
+  turned-sound = made-sound s _ (unwrapped e (turn-made s k) u)
 
-  pub turned-times : (t y : List ℕ) {p : Operand} → p ≡ operand_of m (product m t r.value.bytes y) → p ≡ operand_of m (product m t (turned m k x.bytes) y)
-  turned-times t y q = q ∙ ap (λ (o : Operand). operand_of m (product m t o.bytes y)) (turn-value s k e)
+  pub turned-times : (t y : List ℕ) {p : Operand} → p ≡ operand_of m (product m t v.bytes y) → p ≡ operand_of m (product m t (turned m k x.bytes) y)
+  turned-times t y q = q ∙ ap (λ (o : Operand). operand_of m (product m t o.bytes y)) (unwrapped e (turn-is s k) u)
 
 -- the last state of the chain, reached from s with u digits unread
 abbrev last_from : ℕ → List ℕ → Operand → ℕ → Chain → State
@@ -165,9 +166,9 @@ module _ {m : ℕ} (t : List ℕ) {a : Operand} (sa : Sound m a) {s : State} (e 
   last-sound : Sound m s.t
   last-sound = rw e (record { least = sa.least; greatest = sa.greatest; width = refl; operand = digits-fine m t a.bytes (m - 1) (log2 (m - 1)) (start a.bytes) sa.operand })
 
-  pub last-turned : {r : OperandAnswer} → r ≡ turn_call s.t 1 → r.value ≡ operand_of m (inverse m t a.bytes)
+  pub last-turns : turn_call s.t 1 ≡ Ok (operand_of m (inverse m t a.bytes))
   unfolding inverse
-  last-turned q = turn-value last-sound 1 q ∙ ap (λ (z : State). operand_of m (turned m 1 z.t.bytes)) e
+  last-turns = turn-is last-sound 1 ∙ ap (λ (z : State). Ok (operand_of m (turned m 1 z.t.bytes))) e
 
   pub last-count : s.count ≡ products_made m t a.bytes
   unfolding products_made

@@ -1,41 +1,38 @@
 -- What has passed where no fault is given, and the same causes carried and as W bytes.
 -- Passed: the table, factors by a method, operands of its width. Zero: no bit at 0 or above.
--- Bytes: causes judged on the carried bytes are those of the W bytes. Answers: without a fault.
-use Rattle.std.specs.Prelude.{Ok, is_ok}
-use mathlib.Core.Path.{◌≡◌, refl, sym, ap, ap₂, ◌∙◌}
-use mathlib.Core.Bool.{Bool, true, false}
+-- Bytes: causes judged on the carried bytes are those of the W bytes, and so are the answers.
+use Rattle.std.specs.Prelude.{Result, Ok, Err}
+use mathlib.Core.Path.{◌≡◌, refl, sym, ap, ◌∙◌}
+use mathlib.Core.Bool.{true, false}
 use mathlib.Core.List.{List, [], ◌∷◌, ◌++◌}
 use Prim.Native.Nat.{ℕ, ◌≤◌}
 use native.Mathlib.Omega.{arith}
 use lib.ListN.{length}
 use Rattle.gf2.specs.Coordinates.{coord, pack}
-use Rattle.gf2.specs.Operands.{bytes_for, carried_bytes, carried_by, choose, IsOperand, is_clear, zeroes, same}
-use Rattle.gf2.specs.Inverse.{inverse}
+use Rattle.gf2.specs.Operands.{bytes_for, carried_bytes, carried_by, IsOperand, is_clear, zeroes, same}
+use Rattle.gf2.specs.Inverse.{inverse, products_made}
 use Rattle.gf2.proofs.Parity.{bool-ext}
 use Rattle.gf2.proofs.Coordinates.{coord-none}
 use Rattle.gf2.proofs.Operands.{from-operand, from-eq, clear_at, clear_of}
 use Rattle.gf2.proofs.Carrying.{HasBytes, carried_from, same-carried, product-carried, product_is, reduced-carried, reduced-is, has-bytes, written-carried, inverse-carried, inverse-is, count-carried}
 use Rattle.gf2.proofs.Decisions.{same-decides}
 use Rattle.judging.specs.declared.fault.Fault.{Fault}
-use Rattle.judging.specs.Causes.{Cause, judged}
+use Rattle.judging.specs.Causes.{Cause, Verdict, judged}
 use Rattle.judging.specs.FaultTable.{bad_width, bad_length, not_w, not_table, high_bit, high_bit_in_row, is_zero, shape_causes, rule_causes}
-use Rattle.judging.proofs.CauseLaws.{Fine, fine, head-fails, same_head, goes_on}
+use Rattle.judging.proofs.CauseLaws.{Fine, fine, head-fails, same_head, goes_on, answer-failed, answer-passed}
 use Rattle.judging.proofs.Passed.{IsWidth as IsPassed, is-width, width-passes, is-clear}
 use Rattle.limbs.proofs.ByteLists.{Bytes}
 use Rattle.operand.specs.declared.Operand.{Operand}
-use Rattle.operand.specs.declared.OperandAnswer.{OperandAnswer}
-use Rattle.operand.specs.Calls.{no_operand, answer}
-use Rattle.operand.proofs.CallLaws.{zero-bytes, high_same, kept, filled, Sized, SizedPair}
+use Rattle.operand.proofs.CallLaws.{zero-bytes, high_same, Sized, SizedPair}
 use Rattle.table.specs.Rows.{Shaped}
 use Rattle.table.proofs.Shapes.{shape-rows, shape-none, row-bytes}
 use Rattle.table.proofs.Theorems.{rules}
-use Rattle.product.specs.declared.InverseAnswer.{InverseAnswer}
+use Rattle.product.specs.declared.Inverted.{Inverted}
 use Rattle.scatter.specs.declared.methods.Method.{Method}
 use Rattle.scatter.specs.declared.methods.Method.TheVariants.{Plain, Reduced}
-use Rattle.product.specs.declared.bytes.CountAnswer.{CountAnswer}
-use Rattle.product.specs.Causes.{inverse_bytes_causes}
-use Rattle.product.specs.Calls.{counted, inverse_count}
-use Rattle.product.specs.Inner.{IsWidth, Sound, Serves, multiplied, operand_of, row_causes, rules_by, factor_causes, unit_causes, product_answer, inverse_answer}
+use Rattle.product.specs.Calls.{counted, multiplied}
+use Rattle.product.specs.Causes.{rules_by}
+use Rattle.product.specs.Inner.{IsWidth, Sound, Serves, operand_of, row_causes, factor_causes, unit_causes, product_answer, inverse_answer}
 
 -- what an inverse judges of W bytes after the lengths
 abbrev pub unit_bytes : ℕ → List ℕ → List ℕ → List Cause
@@ -45,7 +42,7 @@ unit_bytes m t a = row_causes m t ++ (high_bit m a ∷ is_zero (bytes_for m) m a
 pub passed : {m : ℕ} → IsPassed m → IsWidth m
 passed w = (w.least, w.greatest)
 
-pub first-passed : (m : ℕ) (cs : List Cause) → is_ok (judged (bad_width m ∷ cs)) ≡ true → IsWidth m
+pub first-passed : (m : ℕ) (cs : List Cause) → judged (bad_width m ∷ cs) ≡ Ok tt → IsWidth m
 first-passed m cs e = passed (is-width m (fine (bad_width m ∷ cs) e).0)
 
 -- the bytes of a carried operand
@@ -57,15 +54,15 @@ module _ {m : ℕ} (w : IsWidth m) (t : List ℕ) where
   width-fails = width-passes m (record { least = w.0; greatest = w.1 })
 
   -- the shape of a table whose width was judged before
-  pub shape-after : {f : Fault} → f ≡ judged (shape_causes m t) → f ≡ judged (row_causes m t)
+  pub shape-after : {v : Verdict} → v ≡ judged (shape_causes m t) → v ≡ judged (row_causes m t)
   shape-after e = e ∙ head-fails (bad_width m) (row_causes m t) width-fails
 
   pub table-shaped : Bytes t → Fine (row_causes m t) → Shaped m t
   table-shaped small p = shape-rows (λ d l. row-bytes m d t small) (width-fails, p)
 
   -- rules 4 and 5 of a table whose shape was judged before
-  pub rules-after : {f : Fault} → Shaped m t → f ≡ judged (shape_causes m t ++ rule_causes m t) → f ≡ judged (rule_causes m t)
-  rules-after s e = e ∙ goes_on (shape_causes m t) (rule_causes m t) (none_true (shape-none s))
+  pub rules-after : {v : Verdict} → Shaped m t → v ≡ judged (shape_causes m t ++ rule_causes m t) → v ≡ judged (rule_causes m t)
+  rules-after s e = e ∙ goes_on (shape_causes m t) (rule_causes m t) (shape-none s)
 
   serves : (k : Method) → Shaped m t → Fine (rules_by k m t) → Serves k m t
   serves Plain s p = s
@@ -77,12 +74,12 @@ module _ {m : ℕ} (w : IsWidth m) (t : List ℕ) where
       record { least = w.0; greatest = w.1; width = refl; operand = record { size = h.0; byte = h.1; clear = clear_at m x (is-clear m x p) } }
 
   -- factors that have passed, and an operand that has
-  pub factors-fine : (k : Method) (x y : List ℕ) → Bytes t → HasCarriedBytes x → HasCarriedBytes y → is_ok (judged (factor_causes k m t x y)) ≡ true → Serves k m t × Sound m (operand_of m x) × Sound m (operand_of m y)
+  pub factors-fine : (k : Method) (x y : List ℕ) → Bytes t → HasCarriedBytes x → HasCarriedBytes y → judged (factor_causes k m t x y) ≡ Ok tt → Serves k m t × Sound m (operand_of m x) × Sound m (operand_of m y)
   factors-fine k x y small hx hy e =
       let p = fine (factor_causes k m t x y) e in
       (serves k (table-shaped small (p.0, (p.1.0, tt))) p.1.1.1.1, sound hx p.1.1.0, sound hy p.1.1.1.0)
 
-  pub unit-fine : (x : List ℕ) → Bytes t → HasCarriedBytes x → is_ok (judged (unit_causes m t x)) ≡ true → Shaped m t × Sound m (operand_of m x)
+  pub unit-fine : (x : List ℕ) → Bytes t → HasCarriedBytes x → judged (unit_causes m t x) ≡ Ok tt → Shaped m t × Sound m (operand_of m x)
   unit-fine x small h e =
       let p = fine (unit_causes m t x) e in
       (table-shaped small (p.0, (p.1.0, tt)), sound h p.1.1.0)
@@ -142,89 +139,41 @@ clear_zero w x size small = bool-ext _ _
     (λ e. (same-decides x _).1 (from-eq carried_bytes w (λ i. 0) (record { size = size; byte = small; clear = λ i l. clear_at 0 x e i (omega arith) }) (λ i l. clear_at 0 x e i (omega arith))))
     (λ e. clear_of 0 x (λ i l. ap (λ z. coord z i) ((same-decides x _).0 e ∙ sym (zero-bytes w)) ∙ coord-none carried_bytes i))
 
--- the answers of a product and of an inverse without a fault, and of an inverse with one
-pub answered : (cs : List Cause) {m : ℕ} {x : List ℕ} {r : Operand} → is_ok (judged cs) ≡ true → r ≡ operand_of m x → ◌≡◌ {A = OperandAnswer} (record { fault = None; value = r }) (answer (judged cs) m x)
-unfolding answer
-answered cs n e = rw (n, none_is cs n, e)
-
-pub inverse-answered : (cs : List Cause) {m n : ℕ} {x : List ℕ} {r : InverseAnswer} → is_ok (judged cs) ≡ true → r ≡ (record { fault = None; value = operand_of m x; count = n }) →
-    r ≡ counted (answer (judged cs) m x) n
-unfolding answer
-inverse-answered cs n e = rw (n, none_is cs n) e
-
-pub inverse-refused : (g : Fault) {f : Fault} (m n : ℕ) (x : List ℕ) {r : InverseAnswer} → f ≡ g → is_ok g ≡ false → r ≡ (record { fault = f; value = no_operand; count = 0 }) →
-    r ≡ counted (answer g m x) n
-unfolding answer
-inverse-refused g m n x q w e = rw w (e ∙ ap (λ z. record { fault = z; value = no_operand; count = 0 }) q)
-
--- no count beside a fault
-pub count-refused : (m : ℕ) (t a old : List ℕ) {f : Fault} → f ≡ judged (inverse_bytes_causes m t a old) → is_ok (judged (inverse_bytes_causes m t a old)) ≡ false → ◌≡◌ {A = CountAnswer} (record { fault = f; count = 0 }) (inverse_count m t a old)
-unfolding inverse_count
-count-refused m t a old e n = rw (n, e)
-
--- the bytes of an answer without a fault
-answer-bytes : (f : Fault) (m : ℕ) {x : List ℕ} {r : OperandAnswer} → r ≡ answer f m x → is_ok f ≡ true → r.value.bytes ≡ x
-unfolding answer
-answer-bytes f m e n = rw n at (ap (λ (r : OperandAnswer). r.value.bytes) e)
-
--- what is written of an answer: its length, and by the fault of all causes
-module _ (f : Fault) (y old : List ℕ) {new : List ℕ} (q : new ≡ choose (is_ok f) y old) where
-  put-by : (b : Bool) → is_ok f ≡ b → new ≡ choose b y old
-  put-by b e = q ∙ ap (λ b. choose b y old) e
-
-  pub put-length : length y ≡ length old → length new ≡ length old
-  put-length l = go (is_ok f) refl
-    where
-      go : (b : Bool) → is_ok f ≡ b → length new ≡ length old
-      go true e = ap length (put-by true e) ∙ l
-      go false e = ap length (put-by false e)
-
-  pub put-out : {g : Fault} (z : List ℕ) → f ≡ g → (is_ok f ≡ true → y ≡ z) → new ≡ choose (is_ok g) z old
-  put-out {g} z same h = go (is_ok f) refl
-    where
-      go : (b : Bool) → is_ok f ≡ b → new ≡ choose (is_ok g) z old
-      go true e = filled g z old (sym (ap is_ok same) ∙ e) (put-by true e ∙ h e)
-      go false e = put-by false e ∙ kept g z old (sym (ap is_ok same) ∙ e)
-
 -- what is answered for the carried bytes is the answer for the W bytes: a product
-module _ {m : ℕ} {a b old : List ℕ} (z : SizedPair m a b old) (t : List ℕ) (k : Method) {r : OperandAnswer} (e : r ≡ product_answer k m t (carried_by a) (carried_by b)) where
-  pub product-fault : r.fault ≡ judged (factor_causes k m t a b)
-  unfolding answer
-  product-fault = ap (λ (r : OperandAnswer). r.fault) e ∙ factors-same (passed z.width) t k z.left z.right
+module _ {m : ℕ} {a b old : List ℕ} (z : SizedPair m a b old) (t : List ℕ) (k : Method) {r : Result Operand Fault} (e : r ≡ product_answer k m t (carried_by a) (carried_by b)) where
+  pub product-failed : {f : Fault} → r ≡ Err f → judged (factor_causes k m t a b) ≡ Err f
+  product-failed q = sym (factors-same (passed z.width) t k z.left z.right) ∙ answer-failed (judged (factor_causes k m t (carried_by a) (carried_by b))) _ (sym e ∙ q)
 
-  pub product-written : {new : List ℕ} → is_ok r.fault ≡ true → new ≡ pack (length old) (coord r.value.bytes) → new ≡ multiplied k m t a b
-  unfolding answer
-  product-written n q =
-      let is = multiplied-is z.left z.right t k in
-      q ∙ ap (λ y. pack (length old) (coord y)) (answer-bytes _ m e (sym (ap (λ (r : OperandAnswer). is_ok r.fault) e) ∙ n) ∙ multiplied-carried z.left z.right t k)
-      ∙ written-carried (has-bytes z.width.greatest is) is z.room
+  module _ {v : Operand} (q : r ≡ Ok v) where
+    gave : (judged (factor_causes k m t (carried_by a) (carried_by b)) ≡ Ok tt) × (operand_of m (multiplied k m t (carried_by a) (carried_by b)) ≡ v)
+    gave = answer-passed (judged (factor_causes k m t (carried_by a) (carried_by b))) (sym e ∙ q)
+
+    pub product-passed : judged (factor_causes k m t a b) ≡ Ok tt
+    product-passed = sym (factors-same (passed z.width) t k z.left z.right) ∙ gave.0
+
+    pub product-written : {new : List ℕ} → new ≡ pack (length old) (coord v.bytes) → new ≡ multiplied k m t a b
+    product-written n =
+        let is = multiplied-is z.left z.right t k in
+        n ∙ ap (λ y. pack (length old) (coord y)) (ap (λ (o : Operand). o.bytes) (sym gave.1) ∙ multiplied-carried z.left z.right t k)
+        ∙ written-carried (has-bytes z.width.greatest is) is z.room
 
 -- an inverse, and its count
-pub record InverseOf (m : ℕ) (t a old : List ℕ) (r : InverseAnswer) : Type 0 where
-  pub sizes : Sized m a old
-  pub byte : Bytes a
-  pub made : r ≡ inverse_answer m t (carried_by a)
+module _ {m : ℕ} {a old : List ℕ} (z : Sized m a old) (byte : Bytes a) (t : List ℕ) {r : Result Inverted Fault} (e : r ≡ inverse_answer m t (carried_by a)) where
+  pub inverse-failed : {f : Fault} → r ≡ Err f → judged (unit_bytes m t a) ≡ Err f
+  inverse-failed q = sym (unit-same (passed z.width) t byte z.operand) ∙ answer-failed (judged (unit_causes m t (carried_by a))) _ (sym e ∙ q)
 
-module _ {m : ℕ} {t a old : List ℕ} {r : InverseAnswer} (i : InverseOf m t a old r) where
-  abbrev z : Sized m a old
-  z = i.sizes
+  module _ {v : Inverted} (q : r ≡ Ok v) where
+    found : (judged (unit_causes m t (carried_by a)) ≡ Ok tt) × (counted m (inverse m t (carried_by a)) (products_made m t (carried_by a)) ≡ v)
+    found = answer-passed (judged (unit_causes m t (carried_by a))) (sym e ∙ q)
 
-  abbrev e : r ≡ inverse_answer m t (carried_by a)
-  e = i.made
+    pub inverse-passed : judged (unit_bytes m t a) ≡ Ok tt
+    inverse-passed = sym (unit-same (passed z.width) t byte z.operand) ∙ found.0
 
-  pub inverse-fault : r.fault ≡ judged (unit_bytes m t a)
-  unfolding answer
-  inverse-fault = ap (λ (r : InverseAnswer). r.fault) e ∙ unit-same (passed z.width) t i.byte z.operand
+    pub inverse-counted : v.count ≡ products_made m t a
+    inverse-counted = ap (λ (i : Inverted). i.count) (sym found.1) ∙ count-carried t z.operand
 
-  pub inverse-written : {new : List ℕ} → is_ok r.fault ≡ true → new ≡ pack (length old) (coord r.value.bytes) → new ≡ inverse m t a
-  unfolding answer
-  inverse-written n q =
-      let is = inverse-is t z.operand in
-      let none = sym (ap (λ (r : InverseAnswer). is_ok r.fault) e) ∙ n in
-      q ∙ ap (λ y. pack (length old) (coord y)) (ap (λ (r : InverseAnswer). r.value.bytes) e ∙ answer-bytes _ m refl none ∙ inverse-carried t z.operand)
-      ∙ written-carried (has-bytes z.width.greatest is) is z.room
-
-  pub inverse-counted : r.fault ≡ judged (inverse_bytes_causes m t a old) → ◌≡◌ {A = CountAnswer} (record { fault = r.fault; count = r.count }) (inverse_count m t a old)
-  unfolding inverse_count answer
-  inverse-counted w = ap₂ (λ f n. record { fault = f; count = n }) w
-      (ap (λ (r : InverseAnswer). r.count) e ∙ ap₂ (λ f n. choose (is_ok f) n 0) (sym (ap (λ (r : InverseAnswer). r.fault) e) ∙ w) (count-carried t z.operand))
+    pub inverse-written : {new : List ℕ} → new ≡ pack (length old) (coord v.value.bytes) → new ≡ inverse m t a
+    inverse-written n =
+        let is = inverse-is t z.operand in
+        n ∙ ap (λ y. pack (length old) (coord y)) (ap (λ (i : Inverted). i.value.bytes) (sym found.1) ∙ inverse-carried t z.operand)
+        ∙ written-carried (has-bytes z.width.greatest is) is z.room

@@ -4,7 +4,6 @@ use mathlib.Core.Bool.{Bool, true, false, ◌&&◌}
 use mathlib.Core.List.{List}
 use Prim.Native.Nat.{ℕ, zero, suc, ◌+◌, ◌-◌, ◌*◌, ◌/◌, ◌%◌, ◌<◌, ◌≤◌}
 use native.Mathlib.Nat.{zero-mul, mod-eq_of_lt, add-mod_left}
-use native.Mathlib.Numerals.{add-one}
 use native.Mathlib.Decide.{dec_lt}
 use native.Mathlib.Omega.{arith}
 use lib.ListN.{length, replicate}
@@ -64,6 +63,13 @@ module _ (how : Method) (m : ℕ) (t x y : List ℕ) (from : ℕ) where
   pub rows_none : (g : List ℕ) → Added (rows_to how m t x y from 0) g g
   rows_none g = added_none (rows_to how m t x y from 0) g (λ r i. unfold sum in refl)
 
+  rows_next : (d : ℕ) → from ≤ d → (s i : ℕ) → rows_to how m t x y from (d - from) s i + slot_sum (reach m) (row m t d) (met_limbs how m d x y) s i ≡ rows_to how m t x y from (d + 1 - from) s i
+  unfolding sum
+  rows_next d past s i =
+      let next : d + 1 - from ≡ suc (d - from) = omega arith in
+      let there : from + (d - from) ≡ d = omega arith in
+      rw (next, there)
+
   module _ (shaped : Shaped m t) (cx : Clear m x) (cy : Clear m y) where
     pub met-clear : (d i : ℕ) → m ≤ i → met_limbs how m d x y i ≡ 0
     unfolding met_limbs
@@ -89,20 +95,20 @@ module _ (how : Method) (m : ℕ) (t x y : List ℕ) (from : ℕ) where
       | no l ↦ below_out (64 * reach m) (limb_coord e) i (omega arith) ∙ sym (ap (λ z. z % 2) (met-clear d i (omega (arith, reach-room m (omega (arith, shaped.greatest))))))
     ]
 
-    pub rows_more : (k : ℕ) {once : Bool} {xx yy e u v w : List ℕ} → from + k < m → Twice m x xx → Twice m y yy → once ≡ is_one_way how m (from + k) → e ≡ pack_limbs carried_limbs (met_at once m (from + k) x y xx yy)
-        → Added (rows_to how m t x y from k) u v → Added (limbs_add m e (row m t (from + k)) (reach m)) v w → Added (rows_to how m t x y from (k + 1)) u w
-    rows_more k {e = e} h ex ey o q p r = added_more (rows_to how m t x y from k) _ _ p r (λ s i b l. parts (rows_to how m t x y from k s i) (limbs_add m e line (reach m) s i) (slot_sum (reach m) line f s i) (same s i) ∙ ap (λ z. z % 2) (more s i))
+    pub rows_more : (d : ℕ) {once : Bool} {xx yy e u v w : List ℕ} → from ≤ d → d < m → Twice m x xx → Twice m y yy → once ≡ is_one_way how m d → e ≡ pack_limbs carried_limbs (met_at once m d x y xx yy)
+        → Added (rows_to how m t x y from (d - from)) u v → Added (limbs_add m e (row m t d) (reach m)) v w → Added (rows_to how m t x y from (d + 1 - from)) u w
+    rows_more d {e = e} past h ex ey o q p r = added_more (rows_to how m t x y from (d - from)) _ _ p r (λ s i b l. parts (rows_to how m t x y from (d - from) s i) (limbs_add m e line (reach m) s i) (slot_sum (reach m) line f s i) (same s i) ∙ ap (λ z. z % 2) (rows_next d past s i))
       where
         f : ℕ → ℕ
-        f = met_limbs how m (from + k) x y
+        f = met_limbs how m d x y
 
         line : List ℕ
-        line = row m t (from + k)
+        line = row m t d
 
         moved : (n i : ℕ) → raised n (below (64 * reach m) (limb_coord e)) i ≡ raised n f i % 2
         moved n i = elim (dec_lt i n) [
           | yes c ↦ raised-out n (below (64 * reach m) (limb_coord e)) i c ∙ sym (ap (λ z. z % 2) (raised-out n f i c))
-          | no c ↦ raised-in n (below (64 * reach m) (limb_coord e)) i (omega arith) ∙ met-kept (from + k) (i - n) h ex ey o q ∙ sym (ap (λ z. z % 2) (raised-in n f i (omega arith)))
+          | no c ↦ raised-in n (below (64 * reach m) (limb_coord e)) i (omega arith) ∙ met-kept d (i - n) h ex ey o q ∙ sym (ap (λ z. z % 2) (raised-in n f i (omega arith)))
         ]
 
         same : (s i : ℕ) → limbs_add m e line (reach m) s i % 2 ≡ slot_sum (reach m) line f s i % 2
@@ -111,9 +117,6 @@ module _ (how : Method) (m : ℕ) (t x y : List ℕ) (from : ℕ) where
 
         parts : (a b c : ℕ) → b % 2 ≡ c % 2 → (a + b) % 2 ≡ (a + c) % 2
         parts a b c z = omega arith
-
-        more : (s i : ℕ) → rows_to how m t x y from k s i + slot_sum (reach m) line f s i ≡ rows_to how m t x y from (k + 1) s i
-        more s i = unfold sum in rw add-one
 
   -- from empty slots on
   rows-cell : (n c : ℕ) {g : List ℕ} → Added (rows_to how m t x y from n) (replicate c 0) g

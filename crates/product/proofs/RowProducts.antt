@@ -12,7 +12,8 @@ use Rattle.gf2.specs.Sums.{sum}
 use Rattle.gf2.specs.Coordinates.{coord}
 use Rattle.gf2.specs.Operands.{carried_bytes, minus, choose, from_coords}
 use Rattle.gf2.specs.Tables.{row}
-use Rattle.product.specs.Inner.{Serves, multiplied, is_one_way}
+use Rattle.product.specs.Calls.{multiplied}
+use Rattle.product.specs.Inner.{Serves, is_one_way}
 use Rattle.scatter.specs.Methods.{first_row, row_count}
 use Rattle.scatter.specs.declared.methods.Method.{Method}
 use Rattle.scatter.specs.declared.methods.Method.TheVariants.{Plain, Reduced}

@@ -1,4 +1,5 @@
 -- The product by a method: what its rows give, gathered, with what the method adds to them.
+use Rattle.std.specs.Prelude.{Ok}
 use mathlib.Core.Path.{◌≡◌, refl, sym, ap, ap₂, ◌∙◌}
 use mathlib.Core.List.{List}
 use Prim.Native.Nat.{ℕ, ◌+◌, ◌*◌, ◌%◌, ◌<◌, ◌≤◌}
@@ -9,7 +10,6 @@ use Rattle.gf2.specs.Coordinates.{coord}
 use Rattle.gf2.specs.Operands.{carried_bytes, minus}
 use Rattle.gf2.proofs.Operands.{minus-lt, from-ext, coord-from}
 use Rattle.operand.specs.declared.Operand.{Operand}
-use Rattle.operand.specs.declared.OperandAnswer.{OperandAnswer}
 use Rattle.operand.specs.Calls.{square_call, sum_call}
 use Rattle.limbs.specs.Limbs.{carried_limbs, limb_coord, pack_limbs}
 use Rattle.limbs.proofs.LimbCoords.{limb-pack}
@@ -17,7 +17,8 @@ use Rattle.table.specs.Rows.{Shaped}
 use Rattle.scatter.specs.Cells.{Added}
 use Rattle.scatter.specs.declared.methods.Method.{Method}
 use Rattle.scatter.specs.declared.methods.Method.TheVariants.{Plain, Reduced}
-use Rattle.product.specs.Inner.{Sound, Serves, operand_of, made, multiplied, rows_to, gathered_at, diagonal_at}
+use Rattle.product.specs.Calls.{multiplied}
+use Rattle.product.specs.Inner.{Sound, Serves, operand_of, made, rows_to, gathered_at, diagonal_at}
 use Rattle.scatter.specs.Methods.{first_row, row_count}
 use Rattle.product.proofs.SoundOperands.{fits, is_made, sum-made, square-made}
 use Rattle.product.proofs.KernelLaws.{limbs-coord, rows_made}
@@ -42,12 +43,15 @@ module _ {m : ℕ} {rows : Operand} (s : Sound m rows) (x y : List ℕ) where
   pub plus_none : rows ≡ made m (λ i. coord rows.bytes i + diagonal_at Plain m x y i)
   plus_none = is_made s ∙ ap (operand_of m) (from-ext carried_bytes m _ _ (λ i l. ap (λ z. z % 2) (sym (add-zero _))))
 
-  pub plus-products : {e : List ℕ} {products : Operand} {square sum : OperandAnswer} → e ≡ pack_limbs carried_limbs (λ i. limb_coord x i * limb_coord y i)
-      → products ≡ made m (limb_coord e) → square ≡ square_call products → sum ≡ sum_call rows square.value
-      → sum.value ≡ made m (λ i. coord rows.bytes i + diagonal_at Reduced m x y i)
-  plus-products {e} p q r t =
-      sum-made s.least s.greatest (coord rows.bytes) (λ i. limb_coord e (minus m i 1)) (is_made s) (square-made s.least s.greatest (limb_coord e) q r) t
-      ∙ ap (operand_of m) (from-ext carried_bytes m _ _ (λ i l. ap (λ z. (coord rows.bytes i + z) % 2) (at (minus m i 1) (minus-lt m i 1 (omega (arith, s.least)))) ∙ inner _ _))
+  -- the square of the coordinates' products, and its sum with what the rows give
+  pub diagonal-made : (e : List ℕ) {products : Operand} → products ≡ made m (limb_coord e) → square_call products ≡ Ok (made m (λ i. limb_coord e (minus m i 1)))
+  diagonal-made e q = square-made s.least s.greatest (limb_coord e) q
+
+  pub plus-products : {e : List ℕ} {diagonal : Operand} → e ≡ pack_limbs carried_limbs (λ i. limb_coord x i * limb_coord y i)
+      → diagonal ≡ made m (λ i. limb_coord e (minus m i 1)) → sum_call rows diagonal ≡ Ok (made m (λ i. coord rows.bytes i + diagonal_at Reduced m x y i))
+  plus-products {e} p q =
+      sum-made s.least s.greatest (coord rows.bytes) (λ i. limb_coord e (minus m i 1)) (is_made s) q
+      ∙ ap (λ b. Ok (operand_of m b)) (from-ext carried_bytes m _ _ (λ i l. ap (λ z. (coord rows.bytes i + z) % 2) (at (minus m i 1) (minus-lt m i 1 (omega (arith, s.least)))) ∙ inner _ _))
     where
       at : (j : ℕ) → j < m → limb_coord e j ≡ limb_coord x j * limb_coord y j % 2
       at j l = let big = s.greatest in ap (λ z. limb_coord z j) p ∙ limb-pack carried_limbs _ j (omega arith)

@@ -8,7 +8,9 @@ use Rattle.judging.specs.Causes.{judged, answered}
 use Rattle.operand.specs.declared.Operand.{Operand}
 use Rattle.operand.specs.Calls.{answer, written}
 use Rattle.product.specs.declared.Inverted.{Inverted}
-use Rattle.product.specs.Causes.{product_causes, reduced_causes, inverse_causes, product_bytes_causes, reduced_bytes_causes, inverse_bytes_causes}
+use Rattle.scatter.specs.declared.methods.Method.{Method}
+use Rattle.scatter.specs.declared.methods.Method.TheVariants.{Plain, Reduced}
+use Rattle.product.specs.Causes.{product_causes, reduced_causes, method_causes, inverse_causes, product_bytes_causes, reduced_bytes_causes, method_bytes_causes, inverse_bytes_causes}
 
 -- "coordinate r is the sum modulo 2 of ai·bj over all i, j for which βi·βj has coordinate r"; "it needs no accepted table"
 abbrev pub product_call : ℕ → List ℕ → Operand → Operand → Result Operand Fault
@@ -17,6 +19,14 @@ product_call m table a b = answer (judged (product_causes m table a b)) m (produ
 -- "coordinate r is a(r-1)·b(r-1) plus the sum of ai·bj + aj·bi over i < j for which βi·βj has coordinate r"
 abbrev pub reduced_call : ℕ → List ℕ → Operand → Operand → Result Operand Fault
 reduced_call m table a b = answer (judged (reduced_causes m table a b)) m (reduced m table a.bytes b.bytes)
+
+-- the product by a method, and the call that is either of those two
+abbrev pub multiplied : Method → ℕ → List ℕ → List ℕ → List ℕ → List ℕ
+multiplied Plain m table a b = product m table a b
+multiplied Reduced m table a b = reduced m table a b
+
+abbrev pub multiply_call : Method → ℕ → List ℕ → Operand → Operand → Result Operand Fault
+multiply_call k m table a b = answer (judged (method_causes k m table a b)) m (multiplied k m table a.bytes b.bytes)
 
 -- "the result carries the last count as the number of products made": the operand of width m with these bytes, and a count
 abbrev pub counted : ℕ → List ℕ → ℕ → Inverted
@@ -32,6 +42,9 @@ product_into m table a b old = written (judged (product_bytes_causes m table a b
 
 abbrev pub reduced_into : ℕ → List ℕ → List ℕ → List ℕ → List ℕ → List ℕ
 reduced_into m table a b old = written (judged (reduced_bytes_causes m table a b old)) (reduced m table a b) old
+
+abbrev pub multiply_into : Method → ℕ → List ℕ → List ℕ → List ℕ → List ℕ → List ℕ
+multiply_into k m table a b old = written (judged (method_bytes_causes k m table a b old)) (multiplied k m table a b) old
 
 -- the inverse of W bytes, and the number of products made
 abbrev pub inverse_into : ℕ → List ℕ → List ℕ → List ℕ → List ℕ

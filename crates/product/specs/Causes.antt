@@ -5,6 +5,8 @@ use Rattle.gf2.specs.Operands.{bytes_for, carried_bytes}
 use Rattle.judging.specs.Causes.{Cause}
 use Rattle.judging.specs.FaultTable.{bad_width, bad_length, not_w, not_table, high_bit, high_bit_in_row, is_zero, rule_causes}
 use Rattle.operand.specs.declared.Operand.{Operand}
+use Rattle.scatter.specs.declared.methods.Method.{Method}
+use Rattle.scatter.specs.declared.methods.Method.TheVariants.{Plain, Reduced}
 
 -- a table and two operands: "An operand whose carried width isn't that of the table, or of the other operand, gets 2"
 abbrev pub product_causes : ℕ → List ℕ → Operand → Operand → List Cause
@@ -23,6 +25,14 @@ product_causes m table a b =
 -- "4 and 5 also for the reduced product and gate lists"
 abbrev pub reduced_causes : ℕ → List ℕ → Operand → Operand → List Cause
 reduced_causes m table a b = product_causes m table a b ++ rule_causes m table
+
+-- the same by a method: the rules that it asks for, and all
+abbrev pub rules_by : Method → ℕ → List ℕ → List Cause
+rules_by Plain m table = []
+rules_by Reduced m table = rule_causes m table
+
+abbrev pub method_causes : Method → ℕ → List ℕ → Operand → Operand → List Cause
+method_causes k m table a b = product_causes m table a b ++ rules_by k m table
 
 -- a table and an operand, then 9: "inverse of zero"
 abbrev pub inverse_causes : ℕ → List ℕ → Operand → List Cause
@@ -52,6 +62,10 @@ product_bytes_causes m table a b result =
 -- "4 and 5 also for the reduced product and gate lists"
 abbrev pub reduced_bytes_causes : ℕ → List ℕ → List ℕ → List ℕ → List ℕ → List Cause
 reduced_bytes_causes m table a b result = product_bytes_causes m table a b result ++ rule_causes m table
+
+-- the same by a method
+abbrev pub method_bytes_causes : Method → ℕ → List ℕ → List ℕ → List ℕ → List ℕ → List Cause
+method_bytes_causes k m table a b result = product_bytes_causes m table a b result ++ rules_by k m table
 
 -- an operand, a result and a table, then 9
 abbrev pub inverse_bytes_causes : ℕ → List ℕ → List ℕ → List ℕ → List Cause

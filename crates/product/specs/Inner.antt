@@ -1,26 +1,26 @@
 -- Inner definitions, of which only inner functions speak: operands without fault, the rows that a method looks at and what they
 -- add, and the states of the inverse's chain. No demand cites them.
-use Rattle.std.specs.Prelude.{◌≡◌, Bool, true, List, [], ◌∷◌, ◌++◌, ℕ, ◌+◌, ◌-◌, ◌*◌, ◌/◌, ◌%◌, ◌^◌, ◌<◌, ◌≤◌, eqb, Ok}
+use Rattle.std.specs.Prelude.{◌≡◌, Bool, true, List, [], ◌∷◌, ◌++◌, ℕ, ◌+◌, ◌-◌, ◌*◌, ◌/◌, ◌%◌, ◌^◌, ◌<◌, ◌≤◌, eqb, Result}
 use Rattle.gf2.specs.Sums.{sum}
 use Rattle.gf2.specs.Operands.{max_width, carried_bytes, IsOperand, minus, choose, from_coords, turned}
 use Rattle.gf2.specs.Tables.{row}
-use Rattle.gf2.specs.Products.{product, reduced}
+use Rattle.gf2.specs.Products.{product}
 use Rattle.gf2.specs.Check.{Symmetric}
 use Rattle.gf2.specs.Inverse.{Chain, adding, digits, inverse, products_made}
 use Rattle.limbs.specs.Limbs.{reach, limb_coord}
 use Rattle.operand.specs.declared.Operand.{Operand}
 use Rattle.judging.specs.declared.fault.Fault.{Fault}
-use Rattle.judging.specs.Causes.{Cause, judged}
-use Rattle.judging.specs.FaultTable.{not_table, high_bit, high_bit_in_row, is_zero, rule_causes}
-use Rattle.operand.specs.Calls.{answer, written}
+use Rattle.judging.specs.Causes.{Cause, judged, answered}
+use Rattle.judging.specs.FaultTable.{not_table, high_bit, high_bit_in_row, is_zero}
+use Rattle.operand.specs.Calls.{answer}
 use Rattle.table.specs.Rows.{Shaped}
 use Rattle.scatter.specs.Cells.{HasSlots, slot_sum, total_at}
 use Rattle.product.specs.declared.Inverted.{Inverted}
 use Rattle.scatter.specs.declared.methods.Method.{Method}
 use Rattle.scatter.specs.declared.methods.Method.TheVariants.{Plain, Reduced}
 use Rattle.product.specs.declared.chain.State.{State}
-use Rattle.product.specs.Causes.{product_causes, product_bytes_causes}
-use Rattle.product.specs.Calls.{counted}
+use Rattle.product.specs.Causes.{rules_by}
+use Rattle.product.specs.Calls.{counted, multiplied}
 
 -- the operand of width m with these bytes
 abbrev pub operand_of : ℕ → List ℕ → Operand
@@ -46,18 +46,9 @@ abbrev pub Serves : Method → ℕ → List ℕ → Type 0
 Serves Plain m table = Shaped m table
 Serves Reduced m table = Shaped m table × Symmetric m table
 
--- the product by a method
-abbrev pub multiplied : Method → ℕ → List ℕ → List ℕ → List ℕ → List ℕ
-multiplied Plain m table a b = product m table a b
-multiplied Reduced m table a b = reduced m table a b
-
 -- what follows the widths and the lengths: the table; two factors, and the rules that a method asks for; an operand that isn't zero
 abbrev pub row_causes : ℕ → List ℕ → List Cause
 row_causes m table = not_table m table ∷ high_bit_in_row m table ∷ []
-
-abbrev pub rules_by : Method → ℕ → List ℕ → List Cause
-rules_by Plain m table = []
-rules_by Reduced m table = rule_causes m table
 
 abbrev pub factor_causes : Method → ℕ → List ℕ → List ℕ → List ℕ → List Cause
 factor_causes k m table x y = row_causes m table ++ (high_bit m x ∷ high_bit m y ∷ rules_by k m table)
@@ -65,25 +56,12 @@ factor_causes k m table x y = row_causes m table ++ (high_bit m x ∷ high_bit m
 abbrev pub unit_causes : ℕ → List ℕ → List ℕ → List Cause
 unit_causes m table x = row_causes m table ++ (high_bit m x ∷ is_zero carried_bytes m x ∷ [])
 
--- what a product by a method is refused for, and what it answers and leaves
-abbrev pub method_causes : Method → ℕ → List ℕ → Operand → Operand → List Cause
-method_causes k m table a b = product_causes m table a b ++ rules_by k m table
-
-abbrev pub multiply_call : Method → ℕ → List ℕ → Operand → Operand → Result Operand Fault
-multiply_call k m table a b = answer (judged (method_causes k m table a b)) m (multiplied k m table a.bytes b.bytes)
-
 -- what is answered where the widths or the lengths have passed
 abbrev pub product_answer : Method → ℕ → List ℕ → List ℕ → List ℕ → Result Operand Fault
 product_answer k m table x y = answer (judged (factor_causes k m table x y)) m (multiplied k m table x y)
 
 abbrev pub inverse_answer : ℕ → List ℕ → List ℕ → Result Inverted Fault
 inverse_answer m table x = answered (judged (unit_causes m table x)) (counted m (inverse m table x) (products_made m table x))
-
-abbrev pub method_bytes_causes : Method → ℕ → List ℕ → List ℕ → List ℕ → List ℕ → List Cause
-method_bytes_causes k m table a b result = product_bytes_causes m table a b result ++ rules_by k m table
-
-abbrev pub multiply_into : Method → ℕ → List ℕ → List ℕ → List ℕ → List ℕ → List ℕ
-multiply_into k m table a b old = written (judged (method_bytes_causes k m table a b old)) (multiplied k m table a b) old
 
 -- whether row d meets its pairs one way round: always in the plain product, and in the reduced at distance m/2, where the other way gives the same pairs
 abbrev pub is_one_way : Method → ℕ → ℕ → Bool

@@ -1,6 +1,7 @@
 // The calls where the widths or the lengths have passed: what is left is judged, and the answer made where it has no fault.
 ghost use Rattle.std.specs.Prelude.{◌≡◌};
-ghost use Rattle.product.specs.Inner.{operand_of, IsWidth, Sound, Serves, multiplied, product_answer, inverse_answer};
+ghost use Rattle.product.specs.Calls.{multiplied};
+ghost use Rattle.product.specs.Inner.{operand_of, IsWidth, Sound, Serves, product_answer, inverse_answer};
 
 use crate::{Inverted, chain, judge, times};
 use judging::Fault;
@@ -46,7 +47,11 @@ pub(crate) fn product(
 }
 
 // The inverse by the chain.
-pub(crate) fn inverse(width: usize, table: &[u8], x: [u8; Operand::BYTES]) -> Result<Inverted, Fault>
+pub(crate) fn inverse(
+    width: usize,
+    table: &[u8],
+    x: [u8; Operand::BYTES],
+) -> Result<Inverted, Fault>
     requires { IsWidth width }
     ensures { result ≡ inverse_answer width table.now x }
 {

@@ -1,8 +1,8 @@
 // The calls on W bytes: lengths are judged, then the table and the bits of the carried bytes; the result is written where there is no fault.
 ghost use Rattle.std.specs.Prelude.{◌≡◌};
 ghost use Rattle.judging.specs.Causes.{judged};
-ghost use Rattle.product.specs.Calls.{inverse_into, inverse_count};
-ghost use Rattle.product.specs.Inner.{method_bytes_causes, multiply_into};
+ghost use Rattle.product.specs.Calls.{inverse_into, inverse_count, multiply_into};
+ghost use Rattle.product.specs.Causes.{method_bytes_causes};
 
 use crate::answers;
 use judging::Fault;

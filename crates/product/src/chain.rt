@@ -46,6 +46,7 @@ fn adding_step(width: usize, table: &[u8], a: Operand, doubled: State, g: &mut [
     }
 }
 
+// Document 01 names this form, two functions that call each other with fewer unread digits, so it stays.
 // The doubling of the next digit, if one is left; it hands over to the adding.
 #[cycle(add_double)]
 fn double(width: usize, table: &[u8], a: Operand, s: State, unread: usize, g: &mut [u64]) -> State

@@ -3,7 +3,8 @@
 ghost use Rattle.std.specs.Prelude.{◌≡◌};
 ghost use Rattle.judging.specs.Causes.{judged};
 ghost use Rattle.table.specs.Rows.{Shaped};
-ghost use Rattle.product.specs.Inner.{IsWidth, rules_by, factor_causes, unit_causes};
+ghost use Rattle.product.specs.Causes.{rules_by};
+ghost use Rattle.product.specs.Inner.{IsWidth, factor_causes, unit_causes};
 
 use judging::{CallFault, Fault};
 use operand::Operand;

@@ -35,12 +35,9 @@ pub(crate) fn add_rows(
 {
     let xx = scatter::twice(&x, width);
     let yy = scatter::twice(&y, width);
-    let mut k = 0;
-    while k < count {
-        let d = from + k;
+    for d in from..from + count {
         let once = is_one_way(method, width, d);
         let e = scatter::met(once, width, d, x, y, &xx, &yy);
         slots::add_line(width, table, d, e, g);
-        k += 1;
     }
 }

@@ -3,8 +3,7 @@
 #![tactic(auto)]
 
 ghost use Rattle.std.specs.Prelude.{◌≡◌};
-ghost use Rattle.product.specs.Calls.{inverse_call};
-ghost use Rattle.product.specs.Inner.{multiply_call};
+ghost use Rattle.product.specs.Calls.{inverse_call, multiply_call};
 
 use judging::Fault;
 use operand::Operand;

@@ -3,7 +3,8 @@
 ghost use Rattle.std.specs.Prelude.{◌≡◌, ◌+◌, ◌*◌, replicate};
 ghost use Rattle.gf2.specs.Coordinates.{coord};
 ghost use Rattle.scatter.specs.Cells.{slots, twice_limbs};
-ghost use Rattle.product.specs.Inner.{Sound, Serves, operand_of, made, multiplied, diagonal_at};
+ghost use Rattle.product.specs.Calls.{multiplied};
+ghost use Rattle.product.specs.Inner.{Sound, Serves, operand_of, made, diagonal_at};
 
 use crate::{kernel, slots};
 use operand::Operand;

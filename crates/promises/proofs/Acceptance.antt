@@ -44,10 +44,10 @@ module _ (m : ℕ) (table list : List ℕ) (none : symmetry_verdict m table ≡ 
 
   -- what nb_run and nb_product leave, where neither gives a fault
   ran : (a b old lent : List ℕ) → judged (run_bytes_causes m list a b old lent) ≡ Ok tt → ran_result m list a b old lent ≡ result (bytes_for m) m (read_list list m) a b
-  ran a b old lent n = rw (none_true n)
+  ran a b old lent n = rw n
 
   made : (a b old : List ℕ) → Op m a → Op m b → length old ≡ bytes_for m → product_into m table a b old ≡ product m table a b
-  made a b old x y room = rw (none_true (product-none passed a b old x y room))
+  made a b old x y room = rw (product-none passed a b old x y room)
 
   gives : GivesProduct m table list → RunsToAllProducts m table list
   gives h a b old lent x y room size =

@@ -1,45 +1,61 @@
--- Laws of answers and of lent buffers, by whether there is a fault.
-use Rattle.std.specs.Prelude.{Ok, is_ok}
-use mathlib.Core.Path.{◌≡◌, refl, subst}
-use mathlib.Core.Bool.{Bool, true, false}
+-- Laws of answers and of lent buffers, by their verdict.
+-- value-refuses, value-answers: what comes out of a packed number. bare, valued, counted: a call's answer, by its verdict and its values.
+use Rattle.std.specs.Prelude.{Result, Ok, Err, is_ok}
+use mathlib.Core.Path.{◌≡◌, refl, sym, ap, subst}
 use mathlib.Core.List.{List}
 use Prim.Native.Nat.{ℕ}
+use native.Mathlib.Omega.{arith}
 use Rattle.gf2.specs.Operands.{choose}
 use Rattle.judging.specs.declared.fault.Fault.{Fault}
-use Rattle.judging.specs.Causes.{Cause, judged}
-use Rattle.judging.proofs.CauseLaws.{exact}
-use Rattle.nb.specs.Packing.{packed_answer, Packs, Unpacks}
-use Rattle.nb.proofs.PackLaws.{unpack-refused, unpack-answered}
-use Rattle.promises.specs.Answers.{Numbered, Lent, Asks, Fills}
+use Rattle.judging.specs.Causes.{Cause, Verdict, judged, answered}
+use Rattle.judging.proofs.CauseLaws.{exact, ok_or_err}
+use Rattle.netlist.specs.declared.GateCounts.{GateCounts}
+use Rattle.netlist.specs.Gates.{Netlist, and_gates, xor_gates}
+use Rattle.netlist.specs.Calls.{counts_of}
+use Rattle.nb.specs.Packing.{packed_verdict, packed_value, packed_counts, PacksVerdict, PacksValue, PacksCounts, Unpacks}
+use Rattle.nb.proofs.PackLaws.{unpack, unpack-refused}
+use Rattle.promises.specs.Answers.{Refuses, Numbered, Lent, Asks, Fills}
 
-pub some-false : (cs : List Cause) → ¬ (judged cs ≡ Ok tt) → is_ok (judged cs) ≡ false
-some-false cs n = go (is_ok (judged cs)) refl
-  where
-    go : (b : Bool) → is_ok (judged cs) ≡ b → b ≡ false
-    go true e = absurd (n (none_is cs e))
-    go false e = refl
+-- a packed number, and what comes out of it
+module _ {r : Result ℕ Fault} (p : PacksValue r) where
+  pub value-refuses : {f : Fault} → r ≡ Err f → Refuses (packed_value r) f
+  value-refuses {f} e = subst (λ r. Refuses (packed_value r) f) (sym e) (unpack-refused f (subst PacksValue e p))
 
--- a value that is 0 beside a fault
-pub chosen : (f : Fault) (x : ℕ) → f ≡ Ok tt → choose (is_ok f) x 0 ≡ x
-chosen f x e = rw (none_true e)
+  pub value-answers : {x : ℕ} → r ≡ Ok x → Unpacks (packed_value r) 0 x 0
+  value-answers {x} e = subst (λ r. Unpacks (packed_value r) 0 x 0) (sym e) (unpack 0 x 0 (omega arith) (subst PacksValue e p))
 
-module _ (cs : List Cause) where
-  -- a packed answer, whose values count only where there is no fault
-  pub numbered : {x y : ℕ} → Packs (judged cs) x y → {first second : ℕ} → (judged cs ≡ Ok tt → x ≡ first) → (judged cs ≡ Ok tt → y ≡ second) →
-      Numbered (judged cs) (packed_answer (judged cs) x y) first second
-  numbered {x} {y} room {first} {second} p q = record {
-    refused = λ n. unpack-refused (judged cs) room (some-false cs n);
-    answered = λ e. subst (λ u. Unpacks (packed_answer (judged cs) x y) 0 u second) (p e)
-        (subst (λ v. Unpacks (packed_answer (judged cs) x y) 0 x v) (q e) (unpack-answered (judged cs) room (none_true e)));
+module _ (v : Verdict) where
+  -- an answer with no value, with a number, and with the gates of a list
+  pub bare : PacksVerdict v → Numbered v (packed_verdict v) 0 0
+  bare p = record {
+    refused = λ f e. subst (λ v. Refuses (packed_verdict v) f) (sym e) (unpack-refused f (subst PacksVerdict e p));
+    answered = λ e. subst (λ v. Unpacks (packed_verdict v) 0 0 0) (sym e) (unpack 0 0 0 (omega arith) (omega arith));
   }
 
-  pub lent : (old result : List ℕ) → Lent (judged cs) (choose (is_ok (judged cs)) result old) old result
-  lent old result = record { kept = λ n. rw (some-false cs n); written = λ e. rw (none_true e) }
+  pub valued : (x : ℕ) → PacksValue (answered v x) → Numbered v (packed_value (answered v x)) x 0
+  unfolding answered
+  valued x p = record { refused = λ f e. value-refuses p (ap (λ v. answered v x) e); answered = λ e. value-answers p (ap (λ v. answered v x) e) }
 
-  -- a call whose answer has values that are worked out for every input
-  pub asks : {first second : ℕ} → Packs (judged cs) first second → Asks cs (packed_answer (judged cs) first second) first second
-  asks room = record { exact = exact cs; number = numbered room (λ e. refl) (λ e. refl) }
+  pub counted : (list : Netlist) → PacksCounts (answered v (counts_of list)) →
+      Numbered v (packed_counts (answered v (counts_of list))) (and_gates list.gates) (xor_gates list.gates)
+  unfolding answered
+  counted list p = record {
+    refused = λ f e.
+        let q = ap (λ v. answered v (counts_of list)) e in
+        subst (λ r. Refuses (packed_counts r) f) (sym q) (unpack-refused f (subst PacksCounts q p));
+    answered = λ e.
+        let q = ap (λ v. answered v (counts_of list)) e in
+        subst (λ r. Unpacks (packed_counts r) 0 (and_gates list.gates) (xor_gates list.gates)) (sym q)
+        (unpack 0 (and_gates list.gates) (xor_gates list.gates) (omega arith) (subst PacksCounts q p).0);
+  }
 
-  pub fills : {first second : ℕ} → Packs (judged cs) first second → (old result : List ℕ) →
-      Fills cs (packed_answer (judged cs) first second) first second (choose (is_ok (judged cs)) result old) old result
-  fills room old result = record { exact = exact cs; number = numbered room (λ e. refl) (λ e. refl); buffer = lent old result }
+pub lent : (v : Verdict) (old result : List ℕ) → Lent v (choose (is_ok v) result old) old result
+lent (Ok _) old result = record { kept = λ f e. ok_or_err (sym e); written = λ e. refl }
+lent (Err g) old result = record { kept = λ f e. refl; written = λ e. ok_or_err e }
+
+module _ (cs : List Cause) {answer first second : ℕ} (number : Numbered (judged cs) answer first second) where
+  pub asks : Asks cs answer first second
+  asks = record { exact = exact cs; number = number }
+
+  pub fills : (old result : List ℕ) → Fills cs answer first second (choose (is_ok (judged cs)) result old) old result
+  fills old result = record { exact = exact cs; number = number; buffer = lent (judged cs) old result }

@@ -1,9 +1,9 @@
 -- Reading a card decides the causes of its faults, part by part: a number, a place, a row, rows, the head, the card.
 -- Each part both ways: what is refused has its cause, and what has the cause is refused.
-use Rattle.std.specs.Prelude.{Ok, is_ok}
+use Rattle.std.specs.Prelude.{Ok, Err}
 use mathlib.Core.Path.{◌≡◌, refl, sym, ap, ◌∙◌}
 use mathlib.Core.Logic.{◌⊎◌, inl, inr, ⊎_elim}
-use mathlib.Core.Bool.{Bool, true, false, true≢false}
+use mathlib.Core.Bool.{Bool, true, false}
 use mathlib.Core.List.{List, [], ◌∷◌, ◌++◌, append_assoc}
 use Prim.Native.Nat.{ℕ, zero, suc, ◌+◌, ◌-◌, ◌*◌, ◌<◌, ◌≤◌}
 use native.Mathlib.Omega.{arith}
@@ -18,24 +18,20 @@ use Rattle.gf2.proofs.Operands.{from-operand}
 use Rattle.judging.specs.Faults.{card_number, card_form, card_place, card_tail}
 use Rattle.card.specs.Numbers.{Read, refused, got, and_then, second_group, read_number}
 use Rattle.card.specs.Rows.{steps, ones_of, after, read_places, read_row, is_place, row_of, read_rows}
-use Rattle.card.specs.Cards.{lent_causes, lent_verdict, read_width, read_head, Table, ended, read_card}
+use Rattle.card.specs.Cards.{lent_causes, lent_verdict, passed, read_width, read_head, Table, ended, read_card}
 use Rattle.card.specs.Statements.{Bytes}
 use Rattle.card.proofs.Numbers.{no_value, parts, read-written, written_read_lem}
 use Rattle.card.proofs.Places.{after-got, row_read, row_written}
 use Rattle.card.proofs.Trips.{lent_none, head-parts, card-read, card-written}
 use Rattle.card.specs.Calls.{read_answer}
+use Rattle.judging.specs.Causes.{Verdict, verdict_of}
+use Rattle.judging.proofs.CauseLaws.{same_fault, ok_or_err}
 use Rattle.judging.specs.FaultTable.{bad_width as wrong_width, too_short, BadWidth}
 use Rattle.promises.proofs.CauseLaws.{Decides, decides, wide}
 use Rattle.promises.specs.CardCauses.{Stands, BadNumber, no_group, no_second, bad_second, Ordered, free_after, BadPlace, no_place, place_above, BadRow, no_count, count_above, at_place, RowsStand, HeadStands, BadCard, no_form, other_form, no_width, bad_width, no_room, at_row, bytes_after, GoodCard, ExactCard}
 
--- the fault that a reading is refused with
-fault_in : {A : Type 0} → Read A → Fault
-fault_in (refused f) = f
-fault_in (got a rest) = None
-
 refused-is : {A : Type 0} {f g : Fault} → ◌≡◌ {A = Read A} (refused f) (refused g) → g ≡ f
-unfolding fault_in
-refused-is e = sym (ap fault_in e)
+refused-is e = cc
 
 no-fault : {A B : Type 0} {f : Fault} {a : A} {rest : List ℕ} → got a rest ≡ refused f → B
 no-fault e = no_value (sym e)
@@ -85,6 +81,10 @@ unpassed : {A : Type 0} (t : Bool) (x : Read A) (g : Fault) {f : Fault} → choo
     ((t ≡ true) × (x ≡ refused f)) ⊎ ((t ≡ false) × (f ≡ g))
 unpassed true x g e = inl (refl, e)
 unpassed false x g e = inr (refl, refused-is e)
+
+not_passed : {A : Type 0} (v : Verdict) (a : A) (rest : List ℕ) {f : Fault} → passed v a rest ≡ refused f → v ≡ Err f
+not_passed (Ok _) a rest e = no-fault e
+not_passed (Err g) a rest e = ap Err (sym (refused-is e))
 
 after-refused : (x : List ℕ) (y : Read (List ℕ)) {f : Fault} → after x y ≡ refused f → y ≡ refused f
 after-refused x (refused g) e = ap refused (sym (refused-is e))
@@ -221,27 +221,26 @@ rows-stand m (suc count) s t rest small e =
     (row_of m ps, r, from-operand (bytes_for m) m (is_place ps), one.is_row, rows-stand m count r w rest one.bytes e3)
 
 -- the head
-lent-causes : (room m : ℕ) (f : Fault) → is_ok (lent_verdict room m) ≡ false → f ≡ lent_verdict room m →
+lent-causes : (room m : ℕ) (f : Fault) → lent_verdict room m ≡ Err f →
     (BadWidth m × (f ≡ Width)) ⊎ ((2 ≤ m) × (m ≤ max_width) × (room < m * bytes_for m) × (f ≡ (Call OutputShort)))
-unfolding is_ok
-lent-causes room m f some e = go (decides (lent_causes room m) (lent_verdict room m) refl)
+lent-causes room m f e = go (decides (lent_causes room m) (lent_verdict room m) refl)
   where
     go : Decides (wrong_width m ∷ too_short room (m * bytes_for m) ∷ []) (lent_verdict room m) → (BadWidth m × (f ≡ Width)) ⊎ ((2 ≤ m) × (m ≤ max_width) × (room < m * bytes_for m) × (f ≡ (Call OutputShort)))
-    go (inl h) = inl (h.0, e ∙ h.1)
-    go (inr (n, inl h)) = let r = wide n in inr (r.0, r.1, h.0, e ∙ h.1)
-    go (inr (n, inr h)) = absurd (true≢false (sym (ap is_ok h.1) ∙ some))
+    go (inl h) = inl (h.0, same_fault (lent_verdict room m) e h.1)
+    go (inr (n, inl h)) = let r = wide n in inr (r.0, r.1, h.0, same_fault (lent_verdict room m) e h.1)
+    go (inr (n, inr h)) = ok_or_err (sym e ∙ h.1)
 
-lent-bad : (room m : ℕ) → BadWidth m → lent_verdict room m ≡ Width
+lent-bad : (room m : ℕ) → BadWidth m → lent_verdict room m ≡ Err Width
 lent-bad room m b = go (decides (lent_causes room m) (lent_verdict room m) refl)
   where
-    go : Decides (wrong_width m ∷ too_short room (m * bytes_for m) ∷ []) (lent_verdict room m) → lent_verdict room m ≡ Width
+    go : Decides (wrong_width m ∷ too_short room (m * bytes_for m) ∷ []) (lent_verdict room m) → lent_verdict room m ≡ Err Width
     go (inl h) = h.1
     go (inr h) = absurd (h.0 b)
 
-lent-short : (room m : ℕ) → 2 ≤ m → m ≤ max_width → room < m * bytes_for m → lent_verdict room m ≡ (Call OutputShort)
+lent-short : (room m : ℕ) → 2 ≤ m → m ≤ max_width → room < m * bytes_for m → lent_verdict room m ≡ Err (Call OutputShort)
 lent-short room m least greatest short = go (decides (lent_causes room m) (lent_verdict room m) refl)
   where
-    go : Decides (wrong_width m ∷ too_short room (m * bytes_for m) ∷ []) (lent_verdict room m) → lent_verdict room m ≡ (Call OutputShort)
+    go : Decides (wrong_width m ∷ too_short room (m * bytes_for m) ∷ []) (lent_verdict room m) → lent_verdict room m ≡ Err (Call OutputShort)
     go (inl h) = absurd (h.0 (least, greatest))
     go (inr (n, inl h)) = h.1
     go (inr (n, inr h)) = absurd (h.0 short)
@@ -258,19 +257,16 @@ head-refused room s f small e =
           elim (unpassed (eqb form 1) (read_width room middle) card_form w.3) [
             | inl t ↦
                 let one : Stands 1 s middle = rw (eqb-true form 1 t.0) at n.0 in
-                elim (fails (read_number middle) (λ m r. choose (is_ok (lent_verdict room m)) (got m r) (refused (lent_verdict room m))) t.1) [
+                elim (fails (read_number middle) (λ m r. passed (lent_verdict room m) m r) t.1) [
                   | inl q ↦ no_width middle one (number-refused middle f q)
                   | inr v ↦
                       let m = v.0 in
                       let rest = v.1 in
                       let k = number-got m middle rest n.1 v.2 in
-                      elim (unpassed (is_ok (lent_verdict room m)) (got m rest) (lent_verdict room m) v.3) [
-                        | inl u ↦ no-fault u.1
-                        | inr u ↦ ⊎_elim
-                            (λ h. bad_width m middle rest one k.0 h.0 h.1)
-                            (λ h. no_room m middle rest one k.0 (h.0, h.1) h.2 h.3)
-                            (lent-causes room m f u.0 u.1)
-                      ]
+                      ⊎_elim
+                      (λ h. bad_width m middle rest one k.0 h.0 h.1)
+                      (λ h. no_room m middle rest one k.0 (h.0, h.1) h.2 h.3)
+                      (lent-causes room m f (not_passed (lent_verdict room m) m rest v.3))
                 ]
             | inr t ↦ other_form form middle n.0 (eqb-false form 1 t.0) t.1
           ]
@@ -316,7 +312,7 @@ card-refused room s f small e =
     ]
 
 card-bad : (room : ℕ) (s : List ℕ) (f : Fault) → BadCard room s f → read_card room s ≡ refused f
-unfolding read_card read_head read_width is_ok
+unfolding read_card read_head read_width
 card-bad room s f (no_form b) = rw (number-bad s f b)
 card-bad room s f (other_form form rest h n q) = rw (number-stands form s rest h, ne_eqb form 1 n, q)
 card-bad room s f (no_width rest h b) = rw (number-stands 1 s rest h, number-bad rest f b)
@@ -332,47 +328,22 @@ card-bad room s f (bytes_after m b middle rest h stand q) =
     let r = rows-got m m middle (b ∷ rest) h.greatest stand in
     ap (λ x. and_then x (λ m rest. ended m (read_rows m m rest))) e ∙ ap (ended m) r.1 ∙ ap refused (sym q)
 
--- a cause gives some fault
-number-some : {s : List ℕ} {f : Fault} → BadNumber s f → is_ok f ≡ false
-unfolding is_ok
-number-some (no_group e q) = rw q
-number-some (no_second low l e q) = rw q
-number-some (bad_second low high rest l e h q) = rw q
-
-row-some : {m : ℕ} {s : List ℕ} {f : Fault} → BadRow m s f → is_ok f ≡ false
-unfolding is_ok
-row-some (no_count b) = number-some b
-row-some (count_above n rest h l q) = rw q
-row-some (at_place n middle ps rest h l few o e (no_place b)) = number-some b
-row-some (at_place n middle ps rest h l few o e (place_above gap more k u q)) = rw q
-
-card-some : {room : ℕ} {s : List ℕ} {f : Fault} → BadCard room s f → is_ok f ≡ false
-unfolding is_ok
-card-some (no_form b) = number-some b
-card-some (other_form form rest h n q) = rw q
-card-some (no_width rest h b) = number-some b
-card-some (bad_width m middle rest h k b q) = rw q
-card-some (no_room m middle rest h k r short q) = rw q
-card-some (at_row m d middle rest h l stand b) = row-some b
-card-some (bytes_after m b middle rest h stand q) = rw q
-
 pub good-read : {room m : ℕ} {s table : List ℕ} → GoodCard room s m table → read_card room s ≡ got (record { width = m; bytes = table }) []
 good-read {room} {m} {s} {table} g =
     rw g.is_card (card-read room m table (record { least = g.least; greatest = g.greatest; fits = g.fits }) g.is_table)
 
-pub card-exact : (room : ℕ) (s : List ℕ) → Bytes s → ExactCard room s (read_answer (read_card room s)).fault
-unfolding is_ok
+pub card-exact : (room : ℕ) (s : List ℕ) → Bytes s → ExactCard room s (verdict_of (read_answer (read_card room s)))
 card-exact room s small = go (read_card room s) refl
   where
-    go : (x : Read Table) → read_card room s ≡ x → ExactCard room s (read_answer x).fault
+    go : (x : Read Table) → read_card room s ≡ x → ExactCard room s (verdict_of (read_answer x))
     go (refused g) q = record {
-      given = λ f n. (λ e. card-refused room s f small (q ∙ ap refused e), λ b. refused-is (sym (sym q ∙ card-bad room s f b)));
-      none = (
-        λ e. absurd (true≢false (sym (ap is_ok e) ∙ card-some (card-refused room s g small q))),
-        λ h. no_value (sym q ∙ good-read h.2),
+      given = λ f. (
+        λ e. card-refused room s f small (q ∙ ap refused (same_fault (Err g) refl e)),
+        λ b. ap Err (sym (refused-is (sym q ∙ card-bad room s f b))),
       );
+      none = (λ e. ok_or_err e, λ h. no_value (sym q ∙ good-read h.2));
     }
     go (got t rest) q = record {
-      given = λ f n. (λ e. absurd (n (sym e)), λ b. no-fault (sym q ∙ card-bad room s f b));
+      given = λ f. (λ e. ok_or_err (sym e), λ b. no-fault (sym q ∙ card-bad room s f b));
       none = (λ e. let r = card-written room s t rest small q in (t.width, t.bytes, record { least = r.lent.least; greatest = r.lent.greatest; fits = r.lent.fits; is_table = r.is_table; is_card = r.is_card }), λ h. refl);
     }

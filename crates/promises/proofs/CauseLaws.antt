@@ -1,5 +1,5 @@
--- The cases of a fault that is that of a list of causes, when the last cause gives it, and a width that is no cause.
-use Rattle.std.specs.Prelude.{Ok}
+-- The cases of the verdict of a list of causes, when the last cause gives it, and a width that is no cause.
+use Rattle.std.specs.Prelude.{Ok, Err}
 use mathlib.Core.Path.{◌≡◌, refl, sym, ap, ◌∙◌}
 use mathlib.Core.Logic.{◌↔◌, ◌⊎◌, inl, inr}
 use mathlib.Core.Bool.{Bool, true, false, true≢false}
@@ -10,21 +10,21 @@ use native.Mathlib.Decide.{dec_lt}
 use Rattle.gf2.specs.Operands.{max_width}
 use Rattle.judging.specs.declared.fault.Fault.{Fault}
 use Rattle.judging.specs.Faults.{number_of}
-use Rattle.judging.specs.Causes.{Cause, judged, First, NoCause}
+use Rattle.judging.specs.Causes.{Cause, Verdict, judged, First, NoCause}
 use Rattle.judging.specs.FaultTable.{BadWidth}
 use Rattle.judging.proofs.CauseLaws.{head-holds, head-fails}
 
--- the first cause that holds gives f, and where none holds f is none
-abbrev pub Decides : List Cause → Fault → Type 0
-Decides [] f = f ≡ Ok tt
-Decides (c ∷ cs) f = (c.Holds × (f ≡ c.fault)) ⊎ ((¬ c.Holds) × Decides cs f)
+-- the first cause that holds gives the fault of v, and where none holds v has none
+abbrev pub Decides : List Cause → Verdict → Type 0
+Decides [] v = v ≡ Ok tt
+Decides (c ∷ cs) v = (c.Holds × (v ≡ Err c.fault)) ⊎ ((¬ c.Holds) × Decides cs v)
 
-pub decides : (cs : List Cause) (f : Fault) → f ≡ judged cs → Decides cs f
+pub decides : (cs : List Cause) (v : Verdict) → v ≡ judged cs → Decides cs v
 unfolding judged
-decides [] f e = e
-decides (c ∷ cs) f e = go c.test refl (λ q. decides cs f (e ∙ head-fails c cs q))
+decides [] v e = e
+decides (c ∷ cs) v e = go c.test refl (λ q. decides cs v (e ∙ head-fails c cs q))
   where
-    go : (b : Bool) → c.test ≡ b → (c.test ≡ false → Decides cs f) → Decides (c ∷ cs) f
+    go : (b : Bool) → c.test ≡ b → (c.test ≡ false → Decides cs v) → Decides (c ∷ cs) v
     go true q h = inl (c.exact.0 q, e ∙ head-holds c cs q)
     go false q h = inr (λ k. true≢false (sym (c.exact.1 k) ∙ q), h q)
 

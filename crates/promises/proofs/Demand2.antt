@@ -10,7 +10,7 @@ use Rattle.gf2.specs.Products.{product, reduced}
 use Rattle.gf2.proofs.Operands.{coord-from, from-operand}
 use Rattle.gaussian.specs.Types.{type_of}
 use Rattle.gaussian.specs.Table.{drawn}
-use Rattle.gaussian.specs.Calls.{draw_fault, drawn_into}
+use Rattle.gaussian.specs.Calls.{draw_verdict, drawn_into}
 use Rattle.gaussian.proofs.Theorems.{type-list, drawn-table}
 use Rattle.card.proofs.Theorems.{card-laws}
 use Rattle.card_writer.proofs.Theorems.{card-trips}
@@ -38,7 +38,7 @@ reduced_products m table a b old e =
     let call = demand1.reduced m table a b old in
     rw (call.buffer.written e) (given m a _ (equal-unless _ _ (call.exact.none.0 e).1.0))
 
-drawn-by : (m : ℕ) (old : List ℕ) → draw_fault m (length old) ≡ Ok tt → DrawnBy m (type_of m) (drawn_into m old)
+drawn-by : (m : ℕ) (old : List ℕ) → draw_verdict m (length old) ≡ Ok tt → DrawnBy m (type_of m) (drawn_into m old)
 drawn-by m old e =
     let call = demand1.draw m old in
     let no = call.exact.none.0 e in

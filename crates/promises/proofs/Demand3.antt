@@ -1,5 +1,5 @@
 -- Demand 3: each field by a law of the crate that proves it.
-use Rattle.std.specs.Prelude.{Ok, is_ok}
+use Rattle.std.specs.Prelude.{Ok}
 use mathlib.Core.Path.{◌≡◌, refl, sym, ap, ap₂, ◌∙◌}
 use mathlib.Core.List.{List}
 use Prim.Native.Nat.{ℕ, zero, suc, ◌+◌, ◌-◌, ◌*◌, ◌/◌, ◌≤◌}
@@ -22,10 +22,10 @@ use Rattle.table.proofs.Theorems.{acceptance, fields, symmetry}
 use Rattle.netlist.specs.Gates.{Netlist, words}
 use Rattle.netlist.specs.Lists.{plain, reduced, common}
 use Rattle.netlist.specs.Running.{wires, result}
-use Rattle.netlist.specs.Calls.{answer, counted_as, counts_call}
+use Rattle.netlist.specs.Calls.{counted_as, counts_call}
 use Rattle.netlist.specs.Statements.{ListsHold, ListHolds, Counted, CommonCounts}
 use Rattle.netlist.proofs.Theorems.{theorem_lists, theorem_common}
-use Rattle.judging.specs.Causes.{judged}
+use Rattle.judging.specs.Causes.{judged, answered}
 use Rattle.product.specs.Calls.{inverse_into}
 use Rattle.runner.specs.Causes.{run_bytes_causes}
 use Rattle.runner.specs.Statements.{ListsRun, Runs as ListRuns}
@@ -71,17 +71,17 @@ module _ (m : ℕ) (table : List ℕ) (e : check_verdict m table ≡ Ok tt) wher
   ran = theorem_runs m table shaped.least shaped.is_table accepted.symmetric
 
   multiplies : (a b old : List ℕ) → Op m a → Op m b → length old ≡ bytes_for m → Multiplies m table a b old
-  multiplies a b old x y room = let n = product-none passed a b old x y room in record { no_fault = n; value = rw (none_true n) }
+  multiplies a b old x y room = let n = product-none passed a b old x y room in record { no_fault = n; value = rw n }
 
   reduces : (a b old : List ℕ) → Op m a → Op m b → length old ≡ bytes_for m → Reduces m table a b old
   reduces a b old x y room = let n = reduced-none passed a b old x y room in record {
     no_fault = n;
-    value = rw (none_true n) ((theorem_d m table shaped.least shaped.is_table accepted.symmetric a b).pairs ∙ sym (multiplies a b old x y room).value);
+    value = rw n ((theorem_d m table shaped.least shaped.is_table accepted.symmetric a b).pairs ∙ sym (multiplies a b old x y room).value);
   }
 
   module _ (a old : List ℕ) (x : Op m a) (n : ¬ (a ≡ zeroes (bytes_for m) m)) (room : length old ≡ bytes_for m) where
     is_inverse_lem : inverse_into m table a old ≡ inverse m table a
-    is_inverse_lem = rw (none_true (inverse-none passed a old x room n))
+    is_inverse_lem = rw (inverse-none passed a old x room n)
 
     operand : Op m (inverse m table a)
     operand = inverse-is table (record { greatest = shaped.greatest; size = x.size })
@@ -102,7 +102,7 @@ module _ (m : ℕ) (table : List ℕ) (e : check_verdict m table ≡ Ok tt) wher
   -- a list, as it is written and as it is run
   module _ (list : Netlist) {xors : ℕ} (h : ListHolds m table list xors) (k : ListRuns m list) where
     written : (out : List ℕ) → length (words m list) ≤ length out → words_written m table list out ≡ words m list
-    written out room = rw (none_true (list-none passed list out room)) (take_at (words m list) _ _ refl)
+    written out room = rw (list-none passed list out room) (take_at (words m list) _ _ refl)
 
     runs : (out a b old lent : List ℕ) → length (words m list) ≤ length out → Op m a → Op m b → length old ≡ bytes_for m →
         length lent ≡ 2 * m + length list.gates → Runs m table list out a b old lent
@@ -117,10 +117,10 @@ module _ (m : ℕ) (table : List ℕ) (e : check_verdict m table ≡ Ok tt) wher
         }
       where
         found : judged (run_bytes_causes m (words m list) a b old lent) ≡ Ok tt → ran_result m (words m list) a b old lent ≡ result (bytes_for m) m list a b
-        found n = rw (none_true n, k.read_back)
+        found n = rw (n, k.read_back)
 
         wired : judged (run_bytes_causes m (words m list) a b old lent) ≡ Ok tt → ran_wires m (words m list) a b old lent ≡ wires m list a b
-        wired n = rw (none_true n, k.read_back)
+        wired n = rw (n, k.read_back)
 
     runs_to : RunsToProduct m table list
     runs_to = record { is_written = λ out room. (list-none passed list out room, written out room); runs = runs }
@@ -130,7 +130,7 @@ module _ (m : ℕ) (table : List ℕ) (e : check_verdict m table ≡ Ok tt) wher
 
   -- the counts are reported without a fault
   gates : (list : Netlist) {ands xors : ℕ} → Counted list ands xors → HasGates list (counts_call m table list) ands xors
-  unfolding answer is_ok
+  unfolding answered
   gates list h = record {
     holds_ands = h.and_count;
     holds_xors = h.xor_count;

@@ -1,6 +1,5 @@
--- Which numbers faults have: 0 to 6 and 9 to 21.
+-- Which numbers faults have: 1 to 6 and 9 to 21.
 -- never7, never8: document 02 took these two out.
-use Rattle.std.specs.Prelude.{Ok}
 use mathlib.Core.Path.{◌≡◌, refl, sym, ap, ◌∙◌}
 use mathlib.Core.Bool.{Bool, true, false, ◌&&◌, ◌||◌, true≢false}
 use Prim.Native.Nat.{ℕ}
@@ -13,11 +12,10 @@ use Rattle.judging.specs.declared.fault.ListFault.TheVariants.{Size, Form as Lis
 use Rattle.judging.specs.Faults.{number_of}
 
 unfoldable is_given : ℕ → Bool
-is_given n = leb n 6 || (leb 9 n && leb n 21)
+is_given n = (leb 1 n && leb n 6) || (leb 9 n && leb n 21)
 
 given : (f : Fault) → is_given (number_of f).0 ≡ true
 unfolding is_given
-given None = refl
 given Width = refl
 given Length = refl
 given HighBit = refl

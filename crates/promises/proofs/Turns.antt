@@ -33,7 +33,7 @@ module _ {m : ℕ} (w : IsWidth m) where
   laws = operand-laws.turns (bytes_for m) m w.least (omega arith)
 
   made : (a : List ℕ) → Op m a → (k : ℕ) (old : List ℕ) → length old ≡ bytes_for m → turn_into m a k old ≡ turned m k a
-  made a o k old room = rw (none_true (turn-none w a old o room))
+  made a o k old room = rw (turn-none w a old o room)
 
   twice : (a : List ℕ) → Op m a → (j k : ℕ) (old result : List ℕ) → length old ≡ bytes_for m → length result ≡ bytes_for m →
       turn_into m (turn_into m a j old) k result ≡ turn_into m a (j + k) result

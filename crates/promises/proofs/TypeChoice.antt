@@ -1,5 +1,5 @@
 -- ANSI X9.62's choice of type: the laws of crate gaussian, told of the calls.
-use Rattle.std.specs.Prelude.{Ok}
+use Rattle.std.specs.Prelude.{Ok, Err}
 use mathlib.Core.Path.{◌≡◌, refl, sym, ap, ◌∙◌}
 use mathlib.Core.Logic.{◌↔◌, inl, inr}
 use mathlib.Core.List.{List, [], ◌∷◌}
@@ -11,21 +11,17 @@ use Rattle.gf2.specs.Operands.{max_width, bytes_for}
 use Rattle.gf2.proofs.Decisions.{equal-unless}
 use Rattle.judging.specs.declared.fault.Fault.TheVariants.{Call}
 use Rattle.judging.specs.declared.fault.CallFault.TheVariants.{NoType}
-use Rattle.judging.specs.Faults.{number_of}
 use Rattle.judging.specs.Causes.{judged}
 use Rattle.judging.specs.FaultTable.{bad_width, bad_length}
 use Rattle.gaussian.specs.Types.{LeastType, AnsiType, type_of}
 use Rattle.gaussian.specs.Table.{drawn}
 use Rattle.gaussian.specs.Causes.{type_zero, type_causes}
-use Rattle.gaussian.specs.Calls.{draw_fault, drawn_into}
+use Rattle.gaussian.specs.Calls.{draw_verdict, drawn_into}
 use Rattle.gaussian.specs.Statements.{Among, both_types}
 use Rattle.gaussian.proofs.Theorems.{type-list, type-orders}
 use Rattle.promises.specs.TypeChoice.{TypeChoice}
 use Rattle.promises.proofs.CauseLaws.{last-first, wide}
 use Rattle.promises.proofs.Demand1.{demand1}
-
-no-type : ¬ (Call NoType ≡ Ok tt)
-no-type e = omega (arith, ap (λ f. (number_of f).0) e)
 
 -- the four widths are widths of the list
 among-width : (m : ℕ) → Among m both_types → (2 ≤ m) × (m ≤ max_width)
@@ -58,17 +54,17 @@ module _ (m : ℕ) where
   eight l h = (type-list m l h).none
 
   -- 17 is the last cause of both calls
-  seventeen : (judged (type_causes m) ≡ Call NoType) ↔ ((2 ≤ m) × (m ≤ max_width) × (8 ∣ m))
+  seventeen : (judged (type_causes m) ≡ Err (Call NoType)) ↔ ((2 ≤ m) × (m ≤ max_width) × (8 ∣ m))
   seventeen =
-      let given = (demand1.typed m).exact.given (Call NoType) no-type in
+      let given = (demand1.typed m).exact.given (Call NoType) in
       let last = last-first (bad_width m ∷ []) (type_zero m) (λ e. omega arith, tt) in (
         λ e. let q = last.0 (given.0 e) in let w = wide q.0.0 in (w.0, w.1, (eight w.0 w.1).0 q.1),
         λ h. given.1 (last.1 ((λ b. b (h.0, h.1), tt), (eight h.0 h.1).1 h.2)),
       )
 
-  draw_seventeen : (old : List ℕ) → (draw_fault m (length old) ≡ Call NoType) ↔ ((2 ≤ m) × (m ≤ max_width) × (length old ≡ m * bytes_for m) × (8 ∣ m))
+  draw_seventeen : (old : List ℕ) → (draw_verdict m (length old) ≡ Err (Call NoType)) ↔ ((2 ≤ m) × (m ≤ max_width) × (length old ≡ m * bytes_for m) × (8 ∣ m))
   draw_seventeen old =
-      let given = (demand1.draw m old).exact.given (Call NoType) no-type in
+      let given = (demand1.draw m old).exact.given (Call NoType) in
       let last = last-first (bad_width m ∷ bad_length (length old) (m * bytes_for m) ∷ []) (type_zero m) (λ e. omega arith, (λ e. omega arith, tt)) in (
         λ e.
             let q = last.0 (given.0 e) in
@@ -79,7 +75,7 @@ module _ (m : ℕ) where
 
 -- a width and a type T that is the list's
 draws : (m t : ℕ) → 2 ≤ m → m ≤ max_width → type_of m ≡ t → ¬ (t ≡ 0) → (old : List ℕ) → length old ≡ m * bytes_for m →
-    (draw_fault m (length old) ≡ Ok tt) × (drawn_into m old ≡ drawn m t)
+    (draw_verdict m (length old) ≡ Ok tt) × (drawn_into m old ≡ drawn m t)
 draws m t l h e n old size =
     let call = demand1.draw m old in
     let none = call.exact.none.1 (λ b. b (l, h), (λ u. u size, (λ z. n (sym e ∙ z), tt))) in

@@ -1,5 +1,6 @@
 -- Document 02, (f), over the check: number 7 and its test, the row sum, are taken out.
-use Rattle.std.specs.Prelude.{◌≡◌, ◌↔◌, List, ℕ, ◌<◌, ◌≤◌, Ok, Err, result_and}
+use Rattle.std.specs.Prelude.{◌≡◌, ◌↔◌, List, ℕ, ◌<◌, ◌≤◌, Ok, Err}
+use Rattle.std.specs.Result.{result_and}
 use Rattle.gf2.specs.Operands.{choose, same}
 use Rattle.gf2.specs.Tables.{IsTable, basis}
 use Rattle.gf2.specs.Check.{Rule6, Symmetric, Accepted}

@@ -3,7 +3,7 @@
 -- The trace: the limbs folded into one.
 -- The solution: the loop's invariant, its start, a turn, its end.
 use mathlib.Core.Path.{◌≡◌, refl, sym, ap, ap₂, subst, ◌∙◌}
-use mathlib.Core.List.{List}
+use mathlib.Core.List.{List, [], ◌∷◌}
 use Prim.Native.Nat.{ℕ, zero, suc, ◌+◌, ◌-◌, ◌*◌, ◌/◌, ◌%◌, ◌^◌, ◌<◌, ◌≤◌}
 use native.Mathlib.Nat.{mod-lt, mod-mod, mul_comm}
 use native.Mathlib.Numerals.{add-one}
@@ -11,7 +11,7 @@ use native.Mathlib.Decide.{dec_lt}
 use native.Mathlib.Omega.{arith}
 use lib.ListN.{length, get_or, set, replicate}
 use lib.Bits.{bit_xor, xor_lt}
-use lib.Pow.{pow_pos}
+use lib.Pow.{pow_pos, pow_mono, pow-add}
 use Rattle.gf2.specs.Sums.{sum}
 use Rattle.gf2.specs.Coordinates.{coord, value, tabulate}
 use Rattle.gf2.specs.Operands.{below, from_coords}
@@ -57,6 +57,28 @@ window-twice {x} {k} {s} w = record {
   where
     cancel : {p q : ℕ} (a b c : ℕ) → p ≡ (a + b) % 2 → q ≡ (b + c) % 2 → (p + q) % 2 ≡ (a + c) % 2
     cancel a b c e f = omega arith
+
+-- the shifts that double a window
+shift-at : (i : ℕ) → i < 6 → get_or (1 ∷ 2 ∷ 4 ∷ 8 ∷ 16 ∷ 32 ∷ []) i 0 ≡ 2 ^ i
+shift-at zero h = refl
+shift-at (suc zero) h = refl
+shift-at (suc (suc zero)) h = refl
+shift-at (suc (suc (suc zero))) h = refl
+shift-at (suc (suc (suc (suc zero)))) h = refl
+shift-at (suc (suc (suc (suc (suc zero))))) h = refl
+shift-at (suc (suc (suc (suc (suc (suc i)))))) h = absurd (omega arith)
+
+pub shift-fits : (i : ℕ) → i < 6 → get_or (1 ∷ 2 ∷ 4 ∷ 8 ∷ 16 ∷ 32 ∷ []) i 0 < 64
+shift-fits i h = rw (shift-at i h) (omega (arith, pow_mono {i = i} {j = 5} (omega arith)))
+
+pub window-next : {x s : ℕ} (i : ℕ) → i < 6 → Window x (2 ^ i) s → Window x (2 ^ (i + 1)) (bit_xor s (s * 2 ^ get_or (1 ∷ 2 ∷ 4 ∷ 8 ∷ 16 ∷ 32 ∷ []) i 0 % 2 ^ 64))
+window-next {x} {s} i h w = rw (shift-at i h) (subst (λ k. Window x k (bit_xor s (s * 2 ^ (2 ^ i) % 2 ^ 64))) twice (window-twice w))
+  where
+    twice : 2 ^ i + 2 ^ i ≡ 2 ^ (i + 1)
+    twice = omega (arith, pow-add 2 i 1)
+
+pub window-all : {x s : ℕ} (i : ℕ) → i ≡ 6 → Window x (2 ^ i) s → Window x 64 s
+window-all {x} {s} i e w = subst (λ k. Window x (2 ^ k) s) e w
 
 -- a carry of 1 turns every bit
 carried-bits : (carry : ℕ) → carry < 2 → carry * (2 ^ 64 - 1) ≡ value 64 (λ j. carry)

@@ -12,20 +12,19 @@ ghost use Rattle.limbs.specs.Limbs.{carried_limbs, limb_coord, pack_limbs};
 fn parity(x: u64) -> u8
     ensures { result ≡ sum 64 (λ j. x / 2 ^ j % 2) % 2 }
 {
-    (u64::count_ones(x) % 2) as u8
+    (x.count_ones() % 2) as u8
 }
 
-// The sum of the coordinates of a slice, modulo 2.
+// The sum of the coordinates of a slice, modulo 2: of its whole limbs, and of the one that it ends in.
 pub fn trace(s: &[u8]) -> u8
     ensures { result ≡ sum (8 * length s.now) (coord s.now) % 2 }
 {
+    let whole = s.len() / 8;
     let mut total: u64 = 0;
-    let mut w = 0;
-    while w * 8 < s.len() {
-        total = total ^ limbs::limb_of(s, w);
-        w += 1;
+    for w in 0..whole {
+        total ^= limbs::limb_of(s, w);
     }
-    parity(total)
+    parity(total ^ limbs::limb_of(s, whole))
 }
 
 // Bit j of the result is the sum of `carry` and the bits 0 to j of x, modulo 2.
@@ -33,13 +32,11 @@ fn prefix_sums(x: u64, carry: u64) -> u64
     requires { carry < 2 }
     ensures { result ≡ value 64 (λ j. carry + sum (suc j) (λ t. x / 2 ^ t % 2)) }
 {
-    let a = x ^ (x << 1);
-    let b = a ^ (a << 2);
-    let c = b ^ (b << 4);
-    let d = c ^ (c << 8);
-    let e = d ^ (d << 16);
-    let f = e ^ (e << 32);
-    f ^ (carry * limbs::FULL)
+    let mut sums = x;
+    for shift in [1u32, 2, 4, 8, 16, 32] {
+        sums ^= sums << shift;
+    }
+    sums ^ (carry * u64::MAX)
 }
 
 // The solution's coordinates below m. It starts from coordinate 0 as the carry, so that its own coordinate 0 is 0.
@@ -48,8 +45,7 @@ pub fn root_limbs(c: [u64; limbs::LIMBS], m: usize) -> [u64; limbs::LIMBS]
 {
     let mut out = [0u64; limbs::LIMBS];
     let mut carry = c[0] % 2;
-    let mut w = 0;
-    while w < limbs::LIMBS {
+    for w in 0..limbs::LIMBS {
         if limbs::ends_at(w, m) {
             return out;
         }
@@ -57,7 +53,6 @@ pub fn root_limbs(c: [u64; limbs::LIMBS], m: usize) -> [u64; limbs::LIMBS]
         let sums = prefix_sums(limb, carry);
         out[w] = limbs::low_limb(sums, w, m);
         carry = sums >> 63;
-        w += 1;
     }
     out
 }

@@ -1,6 +1,6 @@
 -- The length of a report: each of its numbers has nine digits at most, so that 128 bytes are enough.
-use Rattle.std.specs.Prelude.{Ok, is_ok}
-use mathlib.Core.Path.{◌≡◌, refl, ap, ◌∙◌}
+use Rattle.std.specs.Prelude.{Ok, Err}
+use mathlib.Core.Path.{◌≡◌, refl, ap, ◌∙◌, subst}
 use mathlib.Core.Bool.{Bool, true, false, not}
 use mathlib.Core.List.{List, [], ◌∷◌}
 use Prim.Native.Nat.{ℕ, ◌+◌, ◌-◌, ◌^◌, ◌<◌, ◌≤◌}
@@ -13,13 +13,13 @@ use Rattle.gf2.specs.Tables.{ones_in}
 use Rattle.judging.specs.declared.fault.Fault.{Fault}
 use Rattle.judging.specs.declared.fault.Fault.TheVariants.{Length}
 use Rattle.judging.specs.Faults.{number_of}
-use Rattle.judging.specs.Causes.{Cause, judged}
+use Rattle.judging.specs.Causes.{Cause, Verdict, judged}
 use Rattle.judging.specs.FaultTable.{check_causes}
 use Rattle.judging.proofs.CauseLaws.{Each, number_small, keeps}
 use Rattle.io.specs.Counts.{IsPrefixLen}
 use Rattle.io.proofs.Counting.{prefix_len_of_le}
 use Rattle.table.specs.Rows.{Shaped}
-use Rattle.table.specs.Judgements.{symmetry_verdict, check_verdict}
+use Rattle.table.specs.Judgements.{check_verdict}
 use Rattle.table.proofs.Theorems.{acceptance as accepted-table}
 use Rattle.card.specs.Numbers.{Read, refused, got}
 use Rattle.card.specs.Cards.{lent_causes, Table, read_card}
@@ -27,7 +27,7 @@ use Rattle.card.specs.Statements.{Bytes}
 use Rattle.card.proofs.Refusals.{card-refusals}
 use Rattle.netlist.specs.Gates.{Netlist, and_gates, xor_gates}
 use Rattle.netlist.specs.Lists.{plain, reduced, common}
-use Rattle.netlist.specs.Calls.{answer, counts_call}
+use Rattle.netlist.specs.Calls.{counts_of}
 use Rattle.netlist.specs.Statements.{Sized}
 use Rattle.netlist.proofs.TableLaws.{width-square}
 use Rattle.netlist.proofs.SizeLaws.{ones-most, counts-most}
@@ -35,7 +35,7 @@ use Rattle.netlist.proofs.Theorems.{theorem_lists}
 use Rattle.reporting.specs.declared.text.Text.{Text}
 use Rattle.reporting.specs.Text.{ascii, spaced, line, room, text_of}
 use Rattle.reporting.specs.Steps.{appended}
-use Rattle.reporting.specs.Report.{input_limit, lent, refusal, counts_line, acceptance, table_report, read_report, report}
+use Rattle.reporting.specs.Report.{input_limit, lent, refusal, counts_line, acceptance, closing, table_report, read_report, report}
 use Rattle.reporting.proofs.Reports.{card-shaped}
 use Rattle.reporting.proofs.Texts.{appended-text}
 use Rattle.reporting.proofs.Decimals.{decimal-length}
@@ -53,17 +53,15 @@ unfolding line spaced
 line-two word a x h k = simp length-append (omega (arith, decimal-length a 8 h, decimal-length x 8 k))
 
 -- a number of document 01's table has room in a byte
-abbrev Numbered : Fault → Type 0
-Numbered f = (number_of f).0 < 256
-
-none-numbered : Numbered None
-none-numbered = omega arith
+abbrev Numbered : Verdict → Type 0
+Numbered (Ok _) = Unit {0}
+Numbered (Err f) = (number_of f).0 < 256
 
 -- that of any list of causes
 causes-numbered : (cs : List Cause) → Numbered (judged cs)
-causes-numbered cs = keeps Numbered none-numbered cs (each cs)
+causes-numbered cs = keeps Numbered tt cs (each cs)
   where
-    each : (ds : List Cause) → Each Numbered none-numbered ds
+    each : (ds : List Cause) → Each Numbered tt ds
     each [] = tt
     each (d ∷ ds) = (number_small d, λ e. each ds)
 
@@ -71,33 +69,23 @@ causes-numbered cs = keeps Numbered none-numbered cs (each cs)
 unnumbered : Fault → Bool
 unnumbered f = not (ltb (number_of f).0 256)
 
-card-numbered : (s : List ℕ) (f : Fault) → read_card lent s ≡ refused f → Numbered f
+card-numbered : (s : List ℕ) (f : Fault) → read_card lent s ≡ refused f → Numbered (Err f)
 unfolding unnumbered
 card-numbered s f e = ltb-true _ 256 (not-false _ (card-refusals unnumbered lent
-    (record { ends = refl; number = refl; form = refl; place = refl; tail = refl; lent = λ m h. ap not (lt-ltb _ 256 (causes-numbered (lent_causes lent m))) }) s f e))
+    (record { ends = refl; number = refl; form = refl; place = refl; tail = refl; lent = λ m f e. ap not (lt-ltb _ 256 (subst Numbered e (causes-numbered (lent_causes lent m)))) }) s f e))
 
-refusal-length : (f : Fault) → Numbered f → length (refusal f) ≤ 18
+refusal-length : (f : Fault) → Numbered (Err f) → length (refusal f) ≤ 18
 unfolding refusal
 refusal-length f h = line-one (ascii "refused") _ (omega (arith, h))
-
-choose-small : (b : Bool) (x : ℕ) → x < great → choose b x 0 < great
-choose-small true x h = h
-choose-small false x h = omega arith
-
-counts-length : (word : List ℕ) (f : Fault) (a x : ℕ) → a < great → x < great → length (counts_line word (answer f a x)) ≤ length word + 21
-unfolding counts_line answer
-counts-length word f a x h k = line-two word _ _ (choose-small (is_ok f) a h) (choose-small (is_ok f) x k)
 
 -- the numbers of a table that is accepted
 module _ (m : ℕ) (table : List ℕ) (shaped : Shaped m table) where
   few_ones : ones_in m table < great
   few_ones = omega (arith, ones-most m table, width-square m m shaped.greatest shaped.greatest)
 
-  counts-short : (word : List ℕ) (list : Netlist) → Sized m list → length (counts_line word (counts_call m table list)) ≤ length word + 21
-  counts-short word list s = counts-length word (symmetry_verdict m table) _ _ (omega (arith, both)) (omega (arith, both))
-    where
-      both : and_gates list.gates + xor_gates list.gates < great
-      both = omega (arith, counts-most m list shaped.greatest s)
+  counts-short : (word : List ℕ) (list : Netlist) → Sized m list → length (counts_line word (counts_of list)) ≤ length word + 21
+  unfolding counts_line
+  counts-short word list s = let both = counts-most m list shaped.greatest s in line-two word _ _ (omega (arith, both)) (omega (arith, both))
 
   acceptance-length : check_verdict m table ≡ Ok tt → length (acceptance m table) ≤ 90
   unfolding acceptance line spaced
@@ -110,19 +98,16 @@ module _ (m : ℕ) (table : List ℕ) (shaped : Shaped m table) where
         counts-short (ascii "common") (common m table) lists.of_common.sized,
       ))
 
-  verdict-length : length (choose (is_ok (check_verdict m table)) (acceptance m table) (refusal (check_verdict m table))) ≤ 90
-  verdict-length = go (is_ok (check_verdict m table)) refl
-    where
-      go : (b : Bool) → is_ok (check_verdict m table) ≡ b → length (choose b (acceptance m table) (refusal (check_verdict m table))) ≤ 90
-      go true e = acceptance-length (none_is (check_causes m table) e)
-      go false e = omega (arith, refusal-length (check_verdict m table) (causes-numbered (check_causes m table)))
+  closing-length : (v : Verdict) → check_verdict m table ≡ v → length (closing m table v) ≤ 90
+  closing-length (Ok _) e = acceptance-length e
+  closing-length (Err f) e = omega (arith, refusal-length f (subst Numbered e (causes-numbered (check_causes m table))))
 
   table-length : length (table_report m table) ≤ room
   unfolding table_report
   table-length =
       simp length-append (omega (
         arith,
-        verdict-length,
+        closing-length (check_verdict m table) refl,
         line-one (ascii "width") m (omega (arith, shaped.greatest)),
         line-one (ascii "ones") (ones_in m table) few_ones,
       ))

@@ -43,11 +43,8 @@ impl Text {
         ensures { result ≡ appended self word.now }
     {
         let mut text = self;
-        let mut i = 0;
-        while i < word.len() {
-            let next = text.push(word[i]);
-            text = next;
-            i += 1;
+        for byte in word {
+            text = text.push(*byte);
         }
         text
     }

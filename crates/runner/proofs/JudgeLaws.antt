@@ -1,5 +1,5 @@
 -- Laws of what running judges: the fault of gates, what holds where no fault is given, and operands of W bytes judged as carried.
-use Rattle.std.specs.Prelude.{Ok, is_ok}
+use Rattle.std.specs.Prelude.{Ok, Err}
 use mathlib.Core.Path.{◌≡◌, refl, sym, ap₂, ◌∙◌}
 use mathlib.Core.Bool.{true, false, and-false}
 use mathlib.Core.List.{List, [], ◌∷◌, ◌++◌}
@@ -21,16 +21,16 @@ use Rattle.runner.specs.Causes.{bad_gates}
 use Rattle.runner.specs.Inner.{word_causes, bit_causes, list_causes}
 
 module _ (m : ℕ) (list : List ℕ) where
-  pub gates-bad : every (gate_count list) (is_gate m list) ≡ false → (Call BadGate) ≡ judged (bad_gates m list ∷ [])
+  pub gates-bad : every (gate_count list) (is_gate m list) ≡ false → Err (Call BadGate) ≡ judged (bad_gates m list ∷ [])
   gates-bad e = sym (head-holds (bad_gates m list) [] (rw e))
 
-  pub outputs-bad : every m (is_output m list) ≡ false → (Call BadGate) ≡ judged (bad_gates m list ∷ [])
+  pub outputs-bad : every m (is_output m list) ≡ false → Err (Call BadGate) ≡ judged (bad_gates m list ∷ [])
   outputs-bad e = sym (head-holds (bad_gates m list) [] (rw (e, and-false)))
 
   pub gates-pass : every (gate_count list) (is_gate m list) ≡ true → every m (is_output m list) ≡ true → (bad_gates m list).test ≡ false
   gates-pass e h = rw (e, h)
 
-  pub gates-good : every (gate_count list) (is_gate m list) ≡ true → every m (is_output m list) ≡ true → None ≡ judged (bad_gates m list ∷ [])
+  pub gates-good : every (gate_count list) (is_gate m list) ≡ true → every m (is_output m list) ≡ true → Ok tt ≡ judged (bad_gates m list ∷ [])
   gates-good e h = sym (none-given (bad_gates m list ∷ []) (gates-pass e h, tt))
 
 -- what a list is that is given no fault
@@ -39,7 +39,7 @@ pub record FineList (m : ℕ) (list : List ℕ) (wires : ℕ) : Type 0 where
   pub gates : every (gate_count list) (is_gate m list) ≡ true
   pub outputs : every m (is_output m list) ≡ true
 
-pub list-fine : (m : ℕ) (list a b : List ℕ) (wires : ℕ) → is_ok (judged (list_causes m list a b wires)) ≡ true → FineList m list wires
+pub list-fine : (m : ℕ) (list a b : List ℕ) (wires : ℕ) → judged (list_causes m list a b wires) ≡ Ok tt → FineList m list wires
 list-fine m list a b wires e =
     let p = (fine (list_causes m list a b wires) e).1.1.1 in
     let g = and_both (every (gate_count list) (is_gate m list)) (every m (is_output m list)) (not-not _ p.1.1.1.0) in

@@ -1,6 +1,6 @@
 -- Laws of the runner: tests of every gate and output, the value of a gate on bits, the loop that fills the wires of the gates, and the
 -- buffers after a call.
-use Rattle.std.specs.Prelude.{is_ok}
+use Rattle.std.specs.Prelude.{Ok, Err, is_ok}
 use mathlib.Core.Path.{◌≡◌, refl, sym, ap, ap₂, ◌∙◌}
 use mathlib.Core.Bool.{true, false}
 use mathlib.Core.List.{List, [], ◌∷◌, ◌++◌, append_assoc}
@@ -22,6 +22,7 @@ use Rattle.gf2.proofs.Coordinates.{length-tabulate, get_d_tabulate}
 use Rattle.gf2.proofs.Operands.{from-ext}
 use Rattle.gf2.proofs.Carrying.{HasBytes, same-coord}
 use Rattle.judging.specs.declared.fault.Fault.{Fault}
+use Rattle.judging.specs.Causes.{Verdict}
 use Rattle.netlist.specs.Gates.{Gate}
 use Rattle.netlist.specs.Lists.{each}
 use Rattle.netlist.specs.Running.{applied, gate_value, value_on, run, inputs, wires, result, gate_of, kind_at, left_at, right_at, gate_count, output_at, gates_to, read_list}
@@ -173,30 +174,26 @@ unfolding result
 result-read n m list a b = from-ext n m _ _ (λ r l. ap (λ w. value_on (wires m (read_list list m) a b) w % 2) (sym (unfold read_list in get_d_tabulate m (output_at list) r l)))
 
 -- the buffers after a call: with a fault, and without
-module _ (f : Fault) (m : ℕ) (list a b old : List ℕ) where
-  module _ (some : is_ok f ≡ false) where
-    pub kept_result : old ≡ run_bytes_result f m list a b old
+module _ (m : ℕ) (list a b old : List ℕ) where
+  module _ {v : Verdict} {f : Fault} (some : v ≡ Err f) where
+    pub kept_result : old ≡ run_bytes_result v m list a b old
     kept_result = rw some
 
-    pub kept-wires : old ≡ run_bytes_wires f m list a b old
+    pub kept-wires : old ≡ run_bytes_wires v m list a b old
     kept-wires = rw some
 
-  module _ {w : List ℕ} (none : is_ok f ≡ true) (e : w ≡ wires m (read_list list m) a b) where
-    pub ran-wires : w ≡ run_bytes_wires f m list a b old
-    ran-wires = rw none e
-
-    pub ran-result : {z : List ℕ} → z ≡ from_coords (bytes_for m) m (on_output w list) → z ≡ run_bytes_result f m list a b old
-    ran-result h = rw none (h ∙ ap (λ v. from_coords (bytes_for m) m (on_output v list)) e ∙ result-read (bytes_for m) m list a b)
+  pub ran-result : {w z : List ℕ} → w ≡ wires m (read_list list m) a b → z ≡ from_coords (bytes_for m) m (on_output w list) → z ≡ run_bytes_result (Ok tt) m list a b old
+  ran-result e h = h ∙ ap (λ v. from_coords (bytes_for m) m (on_output v list)) e ∙ result-read (bytes_for m) m list a b
 
 -- running looks at coordinates alone: operands of W bytes may be carried
-module _ {m : ℕ} {a b x y : List ℕ} (h : HasBytes m a) (k : HasBytes m b) (ex : x ≡ carried_by a) (ey : y ≡ carried_by b) (f : Fault) (list old : List ℕ) where
+module _ {m : ℕ} {a b x y : List ℕ} (h : HasBytes m a) (k : HasBytes m b) (ex : x ≡ carried_by a) (ey : y ≡ carried_by b) (v : Verdict) (list old : List ℕ) where
   wires-carried : wires m (read_list list m) x y ≡ wires m (read_list list m) a b
   unfolding wires inputs
   wires-carried = ap₂ (λ f g. run (read_list list m).gates (tabulate m f ++ tabulate m g)) (ap coord ex ∙ same-coord h) (ap coord ey ∙ same-coord k)
 
-  pub bytes-wires : {z : List ℕ} → z ≡ run_bytes_wires f m list x y old → z ≡ run_bytes_wires f m list a b old
-  bytes-wires e = e ∙ ap (λ w. choose (is_ok f) w old) wires-carried
+  pub bytes-wires : {z : List ℕ} → z ≡ run_bytes_wires v m list x y old → z ≡ run_bytes_wires v m list a b old
+  bytes-wires e = e ∙ ap (λ w. choose (is_ok v) w old) wires-carried
 
-  pub bytes-result : {z : List ℕ} → z ≡ run_bytes_result f m list x y old → z ≡ run_bytes_result f m list a b old
+  pub bytes-result : {z : List ℕ} → z ≡ run_bytes_result v m list x y old → z ≡ run_bytes_result v m list a b old
   unfolding result
-  bytes-result e = e ∙ ap (λ w. choose (is_ok f) (from_coords (bytes_for m) m (λ r. value_on w (get_or (read_list list m).outputs r 0))) old) wires-carried
+  bytes-result e = e ∙ ap (λ w. choose (is_ok v) (from_coords (bytes_for m) m (λ r. value_on w (get_or (read_list list m).outputs r 0))) old) wires-carried

@@ -10,37 +10,22 @@ ghost use Rattle.netlist.specs.Running.{gate_count};
 ghost use Rattle.netlist.specs.Judgements.{is_gate, is_output};
 ghost use Rattle.judging.specs.FaultTable.{bad_width};
 ghost use Rattle.runner.specs.Causes.{list_word_causes, bad_gates};
-ghost use Rattle.runner.specs.Inner.{width_causes, length_causes, carried_causes, word_causes, list_causes};
+ghost use Rattle.runner.specs.Inner.{carried_causes, word_causes, list_causes};
 
 use crate::words;
-use judging::{CallFault, Fault, judge_length, judge_width};
+use judging::{CallFault, Fault, judge_length, judge_lengths, judge_width};
 use operand::Operand;
-
-// The width given, and those carried.
-fn judge_widths(width: usize, a: usize, b: usize) -> Result<(), Fault>
-    ensures { result ≡ judged (width_causes width a b) }
-{
-    judge_width(width)?;
-    judge_width(a)?;
-    judge_width(b)
-}
-
-// Three lengths, each as laid down.
-fn judge_lengths(a: usize, m: usize, b: usize, n: usize, c: usize, k: usize) -> Result<(), Fault>
-    ensures { result ≡ judged (length_causes a m b n c k) }
-{
-    judge_length(a, m)?;
-    judge_length(b, n)?;
-    judge_length(c, k)
-}
 
 pub(crate) fn judge_carried(width: usize, a: Operand, b: Operand, res: usize) -> Result<(), Fault>
     ensures { result ≡ judged (carried_causes width a b res) }
 {
     let m = a.width as usize;
     let n = b.width as usize;
-    judge_widths(width, m, n)?;
-    judge_lengths(m, width, n, width, res, limbs::bytes_for(width))
+    judge_width(width)?;
+    judge_width(m)?;
+    judge_width(n)?;
+    judge_lengths(&[m, n], width)?;
+    judge_length(res, limbs::bytes_for(width))
 }
 
 // The words of a list. Its length is worked out where the first word is the width: that is a word, and no sum too great.
@@ -82,28 +67,14 @@ fn are_gates(width: usize, list: &[u32], g: usize) -> bool
     requires { (width ≤ max_width) × (g < word_limit) }
     ensures { result ≡ every g (is_gate width list.now) }
 {
-    let mut k = 0;
-    while k < g {
-        if !is_gate(width, list, k) {
-            return false;
-        }
-        k += 1;
-    }
-    true
+    (0..g).all(|k| is_gate(width, list, k))
 }
 
 fn are_outputs(width: usize, list: &[u32], g: usize) -> bool
     requires { (width ≤ max_width) × (g < word_limit) × (g ≡ gate_count list.now) }
     ensures { result ≡ every width (is_output width list.now) }
 {
-    let mut r = 0;
-    while r < width {
-        if 2 * width + g <= words::word(list, 2 + 3 * g + r) {
-            return false;
-        }
-        r += 1;
-    }
-    true
+    (0..width).all(|r| words::word(list, 2 + 3 * g + r) < 2 * width + g)
 }
 
 // Every gate and every output wire, where the width is one.

@@ -25,10 +25,8 @@ fn output_byte(width: usize, list: &[u32], wires: &[u8], b: usize) -> u8
     ensures { result ≡ value 8 (λ j. below width (on_output wires.now list.now) (b * 8 + j)) }
 {
     let mut byte: u8 = 0;
-    let mut j = 0;
-    while j < 8 {
+    for j in 0..8 {
         byte += output_bit(width, list, wires, b * 8 + j) << j;
-        j += 1;
     }
     byte
 }
@@ -37,9 +35,7 @@ pub(crate) fn fill_result(width: usize, list: &[u32], wires: &[u8], res: &mut [u
     requires { HasOutputs width list.now wires.now × (length res.old ≡ bytes_for width) }
     ensures { res.new ≡ from_coords (bytes_for width) width (on_output wires.now list.now) }
 {
-    let mut b = 0;
-    while b < res.len() {
+    for b in 0..res.len() {
         res[b] = output_byte(width, list, wires, b);
-        b += 1;
     }
 }

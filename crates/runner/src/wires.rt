@@ -14,10 +14,8 @@ fn fill_operand(width: usize, bytes: &[u8], at: usize, wires: &mut [u8])
     requires { (width ≤ max_width) × (at + width ≤ length wires.old) }
     ensures { wires.new ≡ sets wires.old at (tabulate width (coord bytes.now)) }
 {
-    let mut i = 0;
-    while i < width {
+    for i in 0..width {
         wires[at + i] = netlist::coordinate(bytes, i);
-        i += 1;
     }
 }
 
@@ -54,12 +52,10 @@ fn fill_gates(width: usize, list: &[u32], g: usize, wires: &mut [u8])
     ensures { wires.new ≡ run_gates (gates_to list.now g) (take (2 * width) wires.old) }
 {
     let mut last = wires[2 * width - 1];
-    let mut k = 0;
-    while k < g {
+    for k in 0..g {
         let next = gate_at(width, list, k, wires, last);
         wires[2 * width + k] = next;
         last = next;
-        k += 1;
     }
 }
 

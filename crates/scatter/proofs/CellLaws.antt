@@ -8,25 +8,20 @@ use Prim.Native.Nat.{ℕ, zero, suc, ◌+◌, ◌-◌, ◌*◌, ◌/◌, ◌%◌
 use native.Mathlib.Nat.{add-zero, mul-add}
 use native.Mathlib.Decide.{dec_lt, ℕ_discrete}
 use native.Mathlib.Omega.{arith}
-use lib.ListN.{length, get_or, set, length-set, replicate, length-replicate, get_or-replicate}
-use lib.Seq.{get_or-set_same, get_or-set_other, ext_get_or}
+use lib.ListN.{length, get_or, set, length-set, replicate}
+use lib.Seq.{get_or-set_same, get_or-set_other}
 use lib.Dec.{eqb}
 use lib.Bits.{bit_and, and_lt, bit_xor}
 use borrow.Author.Tests.{eq-eqb, ne_eqb, lt-ltb, le-ltb}
 use Rattle.gf2.specs.Coordinates.{value, tabulate}
 use Rattle.gf2.specs.Operands.{choose, below}
-use Rattle.gf2.proofs.Coordinates.{and-bit, xor-bit, value-ext, value-eq, value-bit, value-lt, value-xor, length-tabulate, get_d_tabulate, tabulate-ext}
+use Rattle.gf2.proofs.Coordinates.{and-bit, xor-bit, value-ext, value-eq, value-bit, value-lt, value-xor, tabulate-ext}
 use Rattle.gf2.proofs.Operands.{below_in, below_out}
 use Rattle.limbs.specs.Limbs.{carried_limbs, reach, limb_coord, pack_limbs, raised}
 use Rattle.limbs.proofs.LimbCoords.{limb-lt, limb-digit, limbs-zero}
 use Rattle.limbs.proofs.LimbLoops.{limb_for, limb-for, limb-value, Limbs, pair-coord}
 use Rattle.limbs.proofs.RaisedLimbs.{limb_of, pair_from, raised-in, raised-out}
 use Rattle.scatter.specs.Cells.{slots, twice_limbs, HasSlots, has_slots, cell, Added, kept_from, is_long, seen_from, met_at}
-
-pub zeroes-list : (n : ℕ) → tabulate n (λ i. 0) ≡ replicate n 0
-zeroes-list n = ext_get_or 0 _ _ (length-tabulate n _ ∙ sym (length-replicate n 0)) (λ i h.
-    let l : i < n = omega (arith, length-tabulate n (λ i. 0)) in
-    get_d_tabulate n (λ i. 0) i l ∙ sym (get_or-replicate n i 0 0 l))
 
 -- a limb masked by one that is given by its bits
 masked-value : (x : ℕ) (f : ℕ → ℕ) → x < 2 ^ 64 → bit_and x (value 64 f) ≡ value 64 (λ j. x / 2 ^ j % 2 * f j)

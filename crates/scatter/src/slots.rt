@@ -1,8 +1,8 @@
 // Slots of limbs, one for each bit of a limb: what the ones of a row ask for is added up there, and all is summed in the end.
 // A one at coordinate s of a row asks for limbs at slot s % 64, from limb s / 64 on.
-ghost use Rattle.std.specs.Prelude.{◌≡◌, ◌+◌, ◌*◌, ◌/◌, ◌%◌, ◌^◌, ◌<◌, eqb, length, replicate};
+ghost use Rattle.std.specs.Prelude.{◌≡◌, ◌+◌, ◌*◌, ◌/◌, ◌%◌, ◌^◌, ◌<◌, ◌≤◌, eqb, length, replicate};
 ghost use Rattle.gf2.specs.Operands.{choose, below};
-ghost use Rattle.limbs.specs.Limbs.{carried_limbs, few, limb_coord, pack_limbs, raised};
+ghost use Rattle.limbs.specs.Limbs.{carried_limbs, limb_coord, pack_limbs, raised};
 ghost use Rattle.scatter.specs.Cells.{slots, twice_limbs, twice_reach, twice_ends_at, HasSlots, cell, Added, AddedAfter, kept_from, limbs_add, plus_row, spread_sum};
 
 use crate::{ROOM, SLOTS, TWICE};
@@ -11,11 +11,7 @@ use crate::{ROOM, SLOTS, TWICE};
 pub fn clear(g: &mut [u64])
     ensures { g.new ≡ replicate (length g.old) 0 }
 {
-    let mut k = 0;
-    while k < g.len() {
-        g[k] = 0;
-        k += 1;
-    }
+    g.fill(0);
 }
 
 // e is added at slot r, from limb q on.
@@ -24,13 +20,11 @@ fn add_at(g: &mut [u64], m: usize, r: usize, q: usize, e: [u64; limbs::LIMBS])
     ensures { Added (λ t i. choose (eqb t r) 1 0 * kept_from m q e i) g.old g.new }
 {
     let from = r * TWICE + q;
-    let mut w = 0;
-    while w < limbs::LIMBS {
+    for w in 0..limbs::LIMBS {
         if limbs::ends_at(w, m) {
             return;
         }
-        g[from + w] = g[from + w] ^ e[w];
-        w += 1;
+        g[from + w] ^= e[w];
     }
 }
 
@@ -42,36 +36,27 @@ fn add_limb(g: &mut [u64], m: usize, e: [u64; limbs::LIMBS], limb: u64, q: usize
 {
     let mut rest = limb;
     while rest != 0 {
-        let zeros = u64::trailing_zeros(rest) as usize;
+        let zeros = rest.trailing_zeros() as usize;
         add_at(g, m, zeros, q, e);
-        rest = rest & (rest - 1);
+        rest &= rest - 1;
     }
 }
 
-// e is added at the slot of each one of the first few limbs of a row of bytes.
-// A loop for the few and one for the others: each is short enough to be unrolled when it is compiled, which one loop for all is not.
-fn add_few(g: &mut [u64], m: usize, e: [u64; limbs::LIMBS], row: &[u8])
-    requires { HasSlots g.old }
-    ensures { Added (limbs_add m e row.now few) g.old g.new }
+// e is added at the slot of each one of limbs FIRST to LAST - 1 of a row of bytes, where the ones below FIRST are added already.
+// The few and the others have a loop each, by these parameters: it is short enough to be unrolled when it is compiled, which one loop for
+// all is not.
+fn add_limbs<const FIRST: usize, const LAST: usize>(
+    g: &mut [u64],
+    m: usize,
+    e: [u64; limbs::LIMBS],
+    row: &[u8],
+)
+    requires { HasSlots g.old × (FIRST ≤ LAST) × (LAST ≤ carried_limbs) }
+    ensures { AddedAfter (limbs_add m e row.now FIRST) (limbs_add m e row.now LAST) g.old g.new }
 {
-    let mut q = 0;
-    while q < limbs::FEW {
+    for q in FIRST..LAST {
         let limb = limbs::carried_limb(row, q);
         add_limb(g, m, e, limb, q);
-        q += 1;
-    }
-}
-
-// The same of the other limbs: with the first few, where these are added already, all.
-fn add_others(g: &mut [u64], m: usize, e: [u64; limbs::LIMBS], row: &[u8])
-    requires { HasSlots g.old }
-    ensures { AddedAfter (limbs_add m e row.now few) (limbs_add m e row.now carried_limbs) g.old g.new }
-{
-    let mut q = limbs::FEW;
-    while q < limbs::LIMBS {
-        let limb = limbs::carried_limb(row, q);
-        add_limb(g, m, e, limb, q);
-        q += 1;
     }
 }
 
@@ -82,21 +67,18 @@ pub fn add_row(g: &mut [u64], m: usize, e: [u64; limbs::LIMBS], row: &[u8])
     if g.len() != ROOM {
         return;
     }
-    add_few(g, m, e, row);
+    add_limbs::<0, { limbs::FEW }>(g, m, e, row);
     if m < 64 * limbs::FEW {
         return;
     }
-    add_others(g, m, e, row);
+    add_limbs::<{ limbs::FEW }, { limbs::LIMBS }>(g, m, e, row);
 }
 
 // Whether a loop over the limbs of a product ends before limb w: where w is twice the number of the few, and the width needs no more.
 fn ends_twice(w: usize, m: usize) -> bool
     ensures { result ≡ twice_ends_at w m }
 {
-    if w != 2 * limbs::FEW {
-        return false;
-    }
-    m < 64 * limbs::FEW
+    w == 2 * limbs::FEW && m < 64 * limbs::FEW
 }
 
 // The coordinates moved up by one place, and those of slot r added.
@@ -107,15 +89,13 @@ fn next_sum(x: [u64; TWICE], m: usize, g: &[u64], r: usize) -> [u64; TWICE]
     let from = r * TWICE;
     let mut out = [0u64; TWICE];
     let mut previous: u64 = 0;
-    let mut w = 0;
-    while w < TWICE {
+    for w in 0..TWICE {
         if ends_twice(w, m) {
             return out;
         }
         let limb = x[w];
         out[w] = limbs::raise_pair(previous, limb, 1) ^ g[from + w];
         previous = limb;
-        w += 1;
     }
     out
 }
@@ -128,9 +108,7 @@ pub fn spread(g: &[u64], m: usize) -> [u64; TWICE]
     if g.len() != ROOM {
         return acc;
     }
-    let mut r = SLOTS;
-    while 0 < r {
-        r -= 1;
+    for r in (0..SLOTS).rev() {
         let next = next_sum(acc, m, g, r);
         acc = next;
     }

@@ -12,10 +12,8 @@ pub fn masked(x: [u64; limbs::LIMBS], y: [u64; limbs::LIMBS]) -> [u64; limbs::LI
     ensures { result ≡ pack_limbs carried_limbs (λ i. limb_coord x i * limb_coord y i) }
 {
     let mut out = [0u64; limbs::LIMBS];
-    let mut w = 0;
-    while w < limbs::LIMBS {
+    for w in 0..limbs::LIMBS {
         out[w] = x[w] & y[w];
-        w += 1;
     }
     out
 }
@@ -25,12 +23,10 @@ pub fn twice(x: &[u64], m: usize) -> [u64; TWICE]
     ensures { result ≡ pack_limbs twice_limbs (λ i. limb_coord x.now i + raised m (limb_coord x.now) i) }
 {
     let mut out = [0u64; TWICE];
-    let mut w = 0;
-    while w < TWICE {
+    for w in 0..TWICE {
         let low = limbs::limb_below(x, w, m / 64 + 1);
         let high = limbs::limb_below(x, w, m / 64);
         out[w] = limbs::limb_at(x, w) ^ limbs::raise_pair(low, high, m);
-        w += 1;
     }
     out
 }
@@ -54,13 +50,11 @@ pub fn window(x: &[u64], at: usize, m: usize) -> [u64; limbs::LIMBS]
     if x.len() <= first + limbs::LIMBS {
         return out;
     }
-    let mut w = 0;
-    while w < limbs::LIMBS {
+    for w in 0..limbs::LIMBS {
         if limbs::ends_at(w, m) {
             return out;
         }
         out[w] = seen_limb(x, first + w, at);
-        w += 1;
     }
     out
 }
@@ -99,15 +93,13 @@ pub fn met(
     if yy.len() <= first + limbs::LIMBS {
         return out;
     }
-    let mut w = 0;
-    while w < limbs::LIMBS {
+    for w in 0..limbs::LIMBS {
         if limbs::ends_at(w, m) {
             return out;
         }
         let left = x[w];
         let right = y[w];
         out[w] = met_limb(once, d, left, right, xx, yy, first + w);
-        w += 1;
     }
     out
 }

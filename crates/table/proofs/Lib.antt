@@ -1,4 +1,3 @@
--- Parts: causes judged part after part.
 -- Comparing: operands compared by their limbs and by their coordinates.
 -- Squares: the square of an operand, limb by limb.
 -- Shapes: tables without fault of shape: their rows, as they lie in the table and carried.
@@ -9,7 +8,6 @@
 -- RowsAtOnes: the sum of the rows at the ones of an operand, below the width.
 -- TableOnes: the ones of a table's bytes are those of its rows.
 -- Theorems: the proofs of the statements in specs/Statements.antt.
-pub mod Parts
 pub mod Comparing
 pub mod Squares
 pub mod Shapes

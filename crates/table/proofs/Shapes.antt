@@ -1,18 +1,19 @@
 -- Tables without fault of shape: their rows, as they lie in the table and carried.
 -- shape-none, shape-rows, shaped, shape-fine: no fault of shape is given exactly where a table whose rows are bytes is shaped.
 -- row-bytes: the rows of a list of bytes are bytes.
-use Rattle.std.specs.Prelude.{Ok, is_ok}
+use Rattle.std.specs.Prelude.{Ok, Err}
 use mathlib.Core.Path.{◌≡◌, refl, sym, ap, ◌∙◌}
 use mathlib.Core.Logic.{◌↔◌}
 use mathlib.Core.Bool.{Bool, true, false, not, true≢false}
 use mathlib.Core.List.{List, [], ◌∷◌}
-use Prim.Native.Nat.{ℕ, ◌+◌, ◌-◌, ◌*◌, ◌/◌, ◌%◌, ◌^◌, ◌<◌, ◌≤◌}
+use Prim.Native.Nat.{ℕ, zero, suc, ◌+◌, ◌-◌, ◌*◌, ◌/◌, ◌%◌, ◌^◌, ◌<◌, ◌≤◌}
 use native.Mathlib.Nat.{suc-mul, mul-le-mul_right, min-le_left, le_trans, lt_of_le_of_lt, lt_of_lt_of_le, div-eq_of_lt, zero-div}
 use native.Mathlib.Decide.{dec_lt}
 use native.Mathlib.Omega.{arith}
 use lib.ListN.{length, get_or, take, drop, length-drop, length-take, get_or-eq_default}
 use lib.Pow.{shr-shr, shr_le, pow_mono}
 use lib.Seq.{length-take-le, get_or-take, get_or-drop}
+use Rattle.std.proofs.lemmas.List.{drop_all}
 use Rattle.gf2.specs.Sums.{sum, every}
 use Rattle.gf2.specs.Coordinates.{coord, value}
 use Rattle.gf2.specs.Operands.{max_width, bytes_for, carried_bytes, IsOperand, is_clear}
@@ -43,7 +44,7 @@ pub record Sized (m size : ℕ) : Type 0 where
   pub greatest : m ≤ max_width
   pub exact : size ≡ m * bytes_for m
 
-pub size-fine : (m : ℕ) (t : List ℕ) → is_ok (judged (size_causes m t)) ≡ true → Sized m (length t)
+pub size-fine : (m : ℕ) (t : List ℕ) → judged (size_causes m t) ≡ Ok tt → Sized m (length t)
 size-fine m t e =
     let p = fine (size_causes m t) e in
     let w = is-width m p.0 in
@@ -74,6 +75,15 @@ row_fits {m} {t} s d l e = rw e (row_within m d t s.is_table.size l)
 pub row-part : (m : ℕ) (t : List ℕ) (d : ℕ) {n : ℕ} → n ≡ bytes_for m → take (d * n + n - d * n) (drop (d * n) t) ≡ row m t d
 unfolding row
 row-part m t d {n} e = let k : d * n + n - d * n ≡ n = omega arith in rw (k, e)
+
+take-none : (n : ℕ) → [] ≡ take {A = ℕ} n []
+take-none zero = refl
+take-none (suc n) = refl
+
+-- there is none past the last
+pub row-none : {m : ℕ} {t : List ℕ} → Shaped m t → (d : ℕ) → m ≤ d → [] ≡ row m t d
+unfolding row
+row-none {m} {t} s d h = let l : length t ≤ d * bytes_for m = rw s.is_table.size (mul-le-mul_right (bytes_for m) h) in rw (drop_all (d * bytes_for m) t l) (take-none (bytes_for m))
 
 past_end : (l : List ℕ) (b : ℕ) → length l ≤ b → get_or l b 0 < 256
 past_end l b h = rw (get_or-eq_default l 0 {n = b} h) (omega arith)
@@ -145,7 +155,7 @@ module _ (m : ℕ) (t : List ℕ) (size : length t ≡ m * bytes_for m) (part : 
   ends-clear e = rows-done m t (every_of m (clear_row m t) (λ d l.
       clear-end m (row m t d) (row-length m d t size l) (last_row d l ∙ ored-at m _ (sym (ored-shr m (last_byte m t) (m % 8)) ∙ e) d l)))
 
-  pub ends-broken : Bytes t → (ored m (last_byte m t) / 2 ^ (m % 8) ≡ 0 → ⊥) → judged (high_bit_in_row m t ∷ []) ≡ HighBit
+  pub ends-broken : Bytes t → (ored m (last_byte m t) / 2 ^ (m % 8) ≡ 0 → ⊥) → judged (high_bit_in_row m t ∷ []) ≡ Err HighBit
   ends-broken small n = head-holds (high_bit_in_row m t) [] (ap not (bool-ext (every m (clear_row m t)) false (λ e. absurd (n (each e))) (λ e. absurd (true≢false (sym e)))))
     where
       each : every m (clear_row m t) ≡ true → ored m (last_byte m t) / 2 ^ (m % 8) ≡ 0
@@ -177,8 +187,8 @@ module _ {m : ℕ} {t : List ℕ} where
       }
 
   -- what judging the shape has shown
-  pub shaped : Bytes t → is_ok (shape_verdict m t) ≡ true → Shaped m t
+  pub shaped : Bytes t → shape_verdict m t ≡ Ok tt → Shaped m t
   shaped small e = shape-rows (λ d l. row-bytes m d t small) (fine (shape_causes m t) e)
 
 pub shape-fine : (m : ℕ) (t : List ℕ) → Bytes t → (shape_verdict m t ≡ Ok tt) ↔ Shaped m t
-shape-fine m t small = (λ e. shaped small (none_true e), shape-none)
+shape-fine m t small = (shaped small, shape-none)

@@ -1,9 +1,9 @@
 -- The proofs of Statements.
 -- shape, symmetry, acceptance, fields, same_set_lem, first-triples, carried-pass. first_passes: rule 6 for i = 0 is enough.
-use Rattle.std.specs.Prelude.{Ok, is_ok}
+use Rattle.std.specs.Prelude.{Ok, Err}
 use mathlib.Core.Path.{◌≡◌, refl, sym, ap, ◌∙◌}
 use mathlib.Core.Logic.{◌↔◌}
-use mathlib.Core.Bool.{Bool, true, false}
+use mathlib.Core.Bool.{true}
 use mathlib.Core.List.{List}
 use Prim.Native.Nat.{ℕ, ◌-◌, ◌<◌, ◌≤◌}
 use native.Mathlib.Omega.{arith}
@@ -19,9 +19,9 @@ use Rattle.gf2.proofs.CarriedTables.{carried-tables}
 use Rattle.judging.specs.declared.fault.Fault.{Fault}
 use Rattle.judging.specs.declared.fault.Fault.TheVariants.{Width, Length, HighBit, RowZero, RowPair, Triple}
 use Rattle.judging.specs.Faults.{number_of}
-use Rattle.judging.specs.Causes.{judged}
+use Rattle.judging.specs.Causes.{Verdict, judged}
 use Rattle.judging.specs.FaultTable.{shape_causes, row_pair_causes, rule_causes, symmetry_causes, triple_causes, check_causes}
-use Rattle.judging.proofs.CauseLaws.{Fine, fine, none-given, none-fine, keeps, keeps-both}
+use Rattle.judging.proofs.CauseLaws.{Fine, same_fault, ok_or_err, fine, none-given, none-fine, keeps, keeps-both}
 use Rattle.judging.proofs.Searches.{fine-append, fine-parts, fine-from, fine-at, up_start, found_here, each_from}
 use Rattle.judging.proofs.Passed.{are-same, same-passes}
 use Rattle.table.specs.Carried.{carried2, carried3, carried4, carried5}
@@ -103,31 +103,33 @@ module _ (m : ℕ) (t : List ℕ) (s : Shaped m t) (y : Symmetric m t) where
   unfolding associates left_product right_product
   first_passes e = first-enough (λ j l. (same-decides _ _).0 (every-at m (associates m t 0) e j l))
 
--- a triple with i = 0, or another fault
-abbrev First : Fault → Type 0
-First f = (i j : ℕ) → f ≡ Triple i j → i ≡ 0
+-- no fault, a triple with i = 0, or another fault
+abbrev First : Verdict → Type 0
+First v = (i j : ℕ) → v ≡ Err (Triple i j) → i ≡ 0
 
-other : (f : Fault) → ((number_of f).0 ≡ 6 → ⊥) → First f
-other f n i j e = absurd (n (ap (λ g. (number_of g).0) e))
+other : (f : Fault) → ((number_of f).0 ≡ 6 → ⊥) → First (Err f)
+other f n i j e = absurd (n (ap (λ g. (number_of g).0) (same_fault (Err f) refl e)))
 
-no-fault : First None
-no-fault = other None (λ e. omega arith)
+no-fault : First (Ok tt)
+no-fault i j e = ok_or_err (sym e)
 
 module _ (m : ℕ) (t : List ℕ) where
   symmetry-first : First (symmetry_verdict m t)
   symmetry-first = of-symmetry First no-fault m t (other Width (λ e. omega arith)) (other Length (λ e. omega arith)) (other HighBit (λ e. omega arith))
       (other RowZero (λ e. omega arith)) (λ d l. other (RowPair d) (λ e. omega arith))
 
+  first-row : First (judged (row_causes m t 0))
+  first-row = keeps First no-fault (row_causes m t 0) (each_from First no-fault (pair_causes m t 0) 0 m (λ j l h. ((λ i k q. cc), λ e. tt)))
+
   -- the first round of the search finds a pair, or there is none
   triple-first : Shaped m t → Symmetric m t → First (triple_verdict m t)
-  triple-first s y = go (is_ok (judged (row_causes m t 0))) refl
+  triple-first s y = go (judged (row_causes m t 0)) refl
     where
-      go : (b : Bool) → is_ok (judged (row_causes m t 0)) ≡ b → First (triple_verdict m t)
-      go true e = rw (first-enough m t s y (λ j l. are-same _ _ (fine-at (pair_causes m t 0) 0 m (fine (row_causes m t 0) e) j (omega arith) (omega arith)).0)) no-fault
-      go false e =
+      go : (v : Verdict) → judged (row_causes m t 0) ≡ v → First (triple_verdict m t)
+      go (Ok _) e = rw (first-enough m t s y (λ j l. are-same _ _ (fine-at (pair_causes m t 0) 0 m (fine (row_causes m t 0) e) j (omega arith) (omega arith)).0)) no-fault
+      go (Err f) e =
           let l = s.least in
-          rw (sym (ap judged (up_start (row_causes m t) m)) ∙ found_here (row_causes m t) m 0 (omega arith) e)
-          (keeps First no-fault (row_causes m t 0) (each_from First no-fault (pair_causes m t 0) 0 m (λ j l h. ((λ i k q. cc), λ e. tt))))
+          rw (sym (ap judged (up_start (row_causes m t) m)) ∙ found_here (row_causes m t) m 0 (omega arith) e) (rw e at first-row)
 
 pub first-triples : FirstTriples
 first-triples m t = keeps-both First no-fault (symmetry_causes m t) (triple_causes m t) (symmetry-first m t) (λ p.

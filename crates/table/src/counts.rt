@@ -2,12 +2,12 @@
 ghost use Rattle.std.specs.Prelude.{◌≡◌};
 ghost use Rattle.table.specs.Calls.{ones_call};
 
-use crate::rows;
+use crate::shaped::Table;
 use judging::Fault;
 
 pub fn ones(width: usize, table: &[u8]) -> Result<usize, Fault>
     ensures { result ≡ ones_call width table.now }
 {
-    rows::judge_shape(width, table)?;
-    Ok(ones::ones_of(table))
+    let table = Table::new(width, table)?;
+    Ok(ones::ones_of(table.bytes))
 }

@@ -3,12 +3,11 @@ ghost use Rattle.std.specs.Prelude.{◌≡◌, ◌-◌, ◌*◌, ◌^◌, ◌<�
 ghost use Rattle.gf2.specs.Sums.{every};
 ghost use Rattle.gf2.specs.Coordinates.{coord};
 ghost use Rattle.gf2.specs.Operands.{max_width, bytes_for, minus, IsOperand};
-ghost use Rattle.gf2.specs.Check.{Symmetric};
 ghost use Rattle.limbs.specs.Limbs.{limb_coord};
-ghost use Rattle.table.specs.Rows.{Shaped};
 ghost use Rattle.table.specs.Inner.{associates};
 
 use crate::sums;
+use crate::symmetry::SymmetricTable;
 
 // Coordinate m-1 of an operand of W bytes, as the highest bit of a limb.
 fn last_high(s: &[u8], m: usize) -> u64
@@ -26,8 +25,7 @@ fn is_square(x: &[u64; limbs::LIMBS], s: &[u8], m: usize) -> bool
     ensures { result ≡ every m (λ i. eqb (limb_coord x.now i) (coord s.now (minus m i 1))) }
 {
     let mut previous = last_high(s, m);
-    let mut w = 0;
-    while w < limbs::LIMBS {
+    for w in 0..limbs::LIMBS {
         if limbs::ends_at(w, m) {
             return true;
         }
@@ -36,34 +34,34 @@ fn is_square(x: &[u64; limbs::LIMBS], s: &[u8], m: usize) -> bool
             return false;
         }
         previous = limb;
-        w += 1;
     }
     true
 }
 
-// Whether (β0·β0)·βj is β0·(β0·βj). By rule 4 β0·β0 is β1, and β1·βj is row j-1 turned one place; β0·βj is row j.
-pub(crate) fn acts_twice(width: usize, table: &[u8], j: usize) -> bool
-    requires { (Shaped width table.now) × (Symmetric width table.now) × (j < width) }
-    ensures { result ≡ associates width table.now 0 j }
-{
-    let size = limbs::bytes_for(width);
-    let at = j * size;
-    let from = sums::wrapped(j + (width - 1), width) * size;
-    let right = sums::rows_at(width, table, &table[at..at + size]);
-    is_square(&right, &table[from..from + size], width)
-}
+impl<'a> SymmetricTable<'a> {
+    // Whether (β0·β0)·βj is β0·(β0·βj). By rule 4 β0·β0 is β1, and β1·βj is row j-1 turned one place; β0·βj is row j.
+    pub(crate) fn acts_twice(&self, j: usize) -> bool
+        requires { j < self.now.table.width }
+        ensures { result ≡ associates self.now.table.width self.now.table.bytes.now 0 j }
+    {
+        let width = self.table.width;
+        let right = self.table.rows_at(self.table.row(j));
+        is_square(
+            &right,
+            self.table.row(sums::wrapped(j + (width - 1), width)),
+            width,
+        )
+    }
 
-// Whether that holds for every j.
-pub(crate) fn all_act_twice(width: usize, table: &[u8]) -> bool
-    requires { (Shaped width table.now) × (Symmetric width table.now) }
-    ensures { result ≡ every width (associates width table.now 0) }
-{
-    let mut j = 0;
-    while j < width {
-        if !acts_twice(width, table, j) {
-            return false;
+    // Whether that holds for every j.
+    pub(crate) fn all_act_twice(&self) -> bool
+        ensures { result ≡ every self.now.table.width (associates self.now.table.width self.now.table.bytes.now 0) }
+    {
+        for j in 0..self.table.width {
+            if !self.acts_twice(j) {
+                return false;
+            }
         }
-        j += 1;
+        true
     }
-    true
 }

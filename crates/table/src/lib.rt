@@ -5,12 +5,14 @@ mod carried;
 mod counts;
 mod first;
 mod rows;
+mod shaped;
 mod sums;
 mod symmetry;
 mod triples;
 
-pub use carried::{table2, table3, table4, table5};
+pub use carried::Carried;
 pub use counts::ones;
 pub use rows::judge_shape;
-pub use symmetry::judge_symmetry;
+pub use shaped::Table;
+pub use symmetry::{SymmetricTable, judge_symmetry};
 pub use triples::check;

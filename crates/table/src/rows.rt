@@ -1,4 +1,4 @@
-// The shape of a table, its rows as carried operands, and the turn of an operand without fault.
+// The judgement of a table's shape.
 ghost use Rattle.std.specs.Prelude.{◌≡◌, [], ◌∷◌, ◌*◌, ◌<◌, ◌≤◌, length};
 ghost use Rattle.gf2.specs.Operands.{max_width, bytes_for, carried_bytes, IsOperand, turned};
 ghost use Rattle.judging.specs.Causes.{judged};
@@ -8,16 +8,6 @@ ghost use Rattle.table.specs.Inner.{carried_row};
 ghost use Rattle.table.specs.Judgements.{shape_verdict};
 
 use judging::Fault;
-
-// The bytes of row d, in those of a carried operand.
-pub(crate) fn row_bytes(width: usize, table: &[u8], d: usize) -> [u8; limbs::BYTES]
-    requires { Shaped width table.now × (d < width) }
-    ensures { result ≡ carried_row width table.now d }
-{
-    let size = limbs::bytes_for(width);
-    let from = d * size;
-    limbs::carried(&table[from..from + size])
-}
 
 // Bits at the width and above can stand only in the last byte of a row, and in none where the width is a multiple of 8.
 // The last bytes of all rows are looked at together.
@@ -31,10 +21,8 @@ fn judge_ends(width: usize, table: &[u8]) -> Result<(), Fault>
     }
     let size = limbs::bytes_for(width);
     let mut all: u8 = 0;
-    let mut d = 0;
-    while d < width {
-        all = all | table[d * size + width / 8];
-        d += 1;
+    for d in 0..width {
+        all |= table[d * size + width / 8];
     }
     if all >> used != 0 {
         return Err(Fault::HighBit);
@@ -48,12 +36,4 @@ pub fn judge_shape(width: usize, table: &[u8]) -> Result<(), Fault>
 {
     judging::judge_table_size(width, table.len())?;
     judge_ends(width, table)
-}
-
-// x turned k places, where no judgement can fail.
-pub(crate) fn turned(width: usize, x: [u8; limbs::BYTES], k: usize) -> [u8; limbs::BYTES]
-    requires { (2 ≤ width) × (width ≤ max_width) × (IsOperand carried_bytes width x) }
-    ensures { result ≡ turned width k x }
-{
-    turns::rolled(x, width, k)
 }

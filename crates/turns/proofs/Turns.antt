@@ -1,7 +1,7 @@
 -- A turn made of two moves of limbs: by steps of 1, 2, 4, .. limbs, then by the bits of two limbs in a row; and what the two moves, added, are.
 -- Loops over the limbs that a width is worked on in. Moves of whole limbs, of bits, and their sum. The turn, in bytes and in limbs.
 use mathlib.Core.Path.{◌≡◌, refl, sym, ap, ap₂, fun_ext, ◌∙◌}
-use mathlib.Core.Bool.{Bool, true, false}
+use mathlib.Core.Bool.{Bool, true, false, not}
 use mathlib.Core.List.{List, [], ◌∷◌}
 use Prim.Native.Nat.{ℕ, ◌+◌, ◌-◌, ◌*◌, ◌/◌, ◌%◌, ◌^◌, ◌<◌, ◌≤◌}
 use native.Mathlib.Nat.{add-zero, mod-one, mod-lt, mod-eq_of_lt, mod-mod, mod-le, zero-div, lt_of_le_of_lt}
@@ -22,7 +22,7 @@ use Rattle.limbs.proofs.Reach.{reach-most, reach-least, reach-room, ends-true, e
 use Rattle.limbs.proofs.LimbCoords.{limb-lt, limb-digit, limb-pack, limbs-of, limbs-ext, limbs-eq, limbs-below}
 use Rattle.limbs.proofs.LimbLoops.{Limbs, pair-low, pair-high}
 use Rattle.limbs.proofs.RaisedLimbs.{raised-in, raised-out, raised-same, limb_of, pair_from, raised-coord}
-use Rattle.turns.specs.Moves.{kept, both_moves, rolled}
+use Rattle.turns.specs.Moves.{kept, moved, pair_at, both_moves, rolled}
 
 -- a loop over the limbs that a width is worked on in: one limb more, and the two ends
 module _ (m : ℕ) {f : ℕ → ℕ} {l : List ℕ} {w : ℕ} (done : Filled (reach m) f (replicate carried_limbs 0) l w) where
@@ -65,7 +65,7 @@ cut-pack r f = tabulate-ext carried_limbs _ _ (λ w h. elim (dec_lt w r) [
 ])
 
 -- f moved n down, where it is 0 from r on
-abbrev pub lowered : ℕ → ℕ → (ℕ → ℕ) → ℕ → ℕ
+abbrev lowered : ℕ → ℕ → (ℕ → ℕ) → ℕ → ℕ
 lowered r n f i = below r f (i + n)
 
 -- a way to move limbs by a count, as far as limb r: by 0 nothing moves, and two moves are one by the sum
@@ -73,7 +73,7 @@ pub record Moves (r : ℕ) (by : ℕ → (ℕ → ℕ) → ℕ → ℕ) : Type 0
   pub none : (f : ℕ → ℕ) (w : ℕ) → w < r → by 0 f w ≡ f w
   pub twice : (f g : ℕ → ℕ) (j k : ℕ) → ((w : ℕ) → w < r → g w ≡ by j f w) → (w : ℕ) → w < r → by k g w ≡ by (j + k) f w
 
-pub moves-down : (r : ℕ) → Moves r (lowered r)
+moves-down : (r : ℕ) → Moves r (lowered r)
 moves-down r = record {
   none = λ f w h. ap (below r f) (add-zero w) ∙ below_in r f w h;
   twice = λ f g j k e w h. elim (dec_lt (w + k) r) [
@@ -82,7 +82,7 @@ moves-down r = record {
   ];
 }
 
-pub moves-up : (r : ℕ) → Moves r raised
+moves-up : (r : ℕ) → Moves r raised
 moves-up r = record {
   none = λ f w h. let d : w - 0 ≡ w = omega arith in raised-in 0 f w (omega arith) ∙ ap f d;
   twice = λ f g j k e w h. elim (dec_lt w k) [
@@ -90,6 +90,14 @@ moves-up r = record {
     | no q ↦ raised-in k g w (omega arith) ∙ e (w - k) (omega arith) ∙ raised-same f j (w - k) (j + k) w (omega arith)
   ];
 }
+
+-- the way that a const parameter names
+abbrev pub is_up : ℕ → Bool
+is_up n = not (eqb n 0)
+
+pub moves : (up : Bool) (r : ℕ) → Moves r (moved up r)
+moves true r = moves-up r
+moves false r = moves-down r
 
 -- the loop that moves limbs by steps: those below `step` are made; what was given may have limbs from r on, what a step made has none
 pub record Moved (r : ℕ) (by : ℕ → (ℕ → ℕ) → ℕ → ℕ) (x : List ℕ) (count : ℕ) (l : List ℕ) (step : ℕ) : Type 0 where
@@ -146,7 +154,7 @@ module _ (m k : ℕ) (x : List ℕ) where
         ∙ ap (kept m (limb_coord x)) (omega arith)
   ]
 
-  pub lower-bits : {moved : List ℕ} → moved ≡ tabulate carried_limbs (below (reach m) (lowered (reach m) (k / 64) (limb_of x)))
+  lower-bits : {moved : List ℕ} → moved ≡ tabulate carried_limbs (below (reach m) (lowered (reach m) (k / 64) (limb_of x)))
       → tabulate carried_limbs (below (reach m) (λ w. pair_from (k % 64) (limb_of moved w) (limb_of moved (w + 1))))
       ≡ pack_limbs carried_limbs (below (64 * reach m) (λ i. kept m (limb_coord x) (i + k)))
   lower-bits {moved} e =
@@ -157,7 +165,7 @@ module _ (m k : ℕ) (x : List ℕ) where
       at : (w : ℕ) → limb_of moved w ≡ below (reach m) (lowered (reach m) (k / 64) (limb_of x)) w
       at = cut-limb (reach m) _ e (reach-most m)
 
-  pub raise-bits : {moved : List ℕ} → moved ≡ tabulate carried_limbs (below (reach m) (raised (k / 64) (limb_of x)))
+  raise-bits : {moved : List ℕ} → moved ≡ tabulate carried_limbs (below (reach m) (raised (k / 64) (limb_of x)))
       → tabulate carried_limbs (below (reach m) (λ w. pair_from (64 - k % 64) (raised 1 (limb_of moved) w) (limb_of moved w)))
       ≡ pack_limbs carried_limbs (below (64 * reach m) (raised k (limb_coord x)))
   raise-bits {moved} e =
@@ -167,6 +175,11 @@ module _ (m k : ℕ) (x : List ℕ) where
     where
       at : (w : ℕ) → w < reach m → limb_of moved w ≡ raised (k / 64) (limb_of x) w
       at w h = cut-limb (reach m) _ e (reach-most m) w ∙ below_in (reach m) _ w h
+
+  pub moved-bits : (up : Bool) {whole : List ℕ} → whole ≡ tabulate carried_limbs (below (reach m) (moved up (reach m) (k / 64) (limb_of x)))
+      → tabulate carried_limbs (below (reach m) (pair_at up k (limb_of whole))) ≡ pack_limbs carried_limbs (below (64 * reach m) (moved up (64 * reach m) k (limb_coord x)))
+  moved-bits true e = raise-bits e
+  moved-bits false e = lower-bits e
 
 -- limbs added, each with its coordinates below m
 pub merged-limbs : (n m : ℕ) (x y : List ℕ) → Limbs x → Limbs y
@@ -209,9 +222,9 @@ pub rolled-wide : {m : ℕ} (k : ℕ) (f : ℕ → ℕ) → max_width < m → ro
 unfolding rolled
 rolled-wide {m} k f wide = rw (lt-leb m max_width wide)
 
-pub rolled-none : {m : ℕ} (k : ℕ) (f : ℕ → ℕ) → m ≤ max_width → m ≤ 0 → rolled m k f ≡ f
+pub rolled-none : {m : ℕ} (k : ℕ) (f : ℕ → ℕ) → m ≤ 0 → rolled m k f ≡ f
 unfolding rolled
-rolled-none {m} k f fits none = rw (le-leb m max_width fits, le-ltb 0 m none)
+rolled-none {m} k f none = rw (le-leb m max_width (omega arith), le-ltb 0 m none)
 
 module _ {m : ℕ} (fits : m ≤ max_width) (some : 0 < m) (k : ℕ) where
   pub rolled-both : (f : ℕ → ℕ) → rolled m k f ≡ both_moves m (k % m) f

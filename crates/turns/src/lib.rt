@@ -7,22 +7,25 @@ ghost use Rattle.gf2.specs.Operands.{max_width, carried_bytes, below};
 ghost use Rattle.limbs.specs.Limbs.{carried_limbs, limb_coord, pack_limbs};
 ghost use Rattle.turns.specs.Moves.{both_moves, rolled};
 
-use moves::{lower, raise};
+use moves::moved;
 
 mod moves;
+
+// The ways that coordinates move.
+const UP: bool = true;
+
+const DOWN: bool = false;
 
 // The sum of two moves, as far as the width goes.
 fn merged(x: [u64; limbs::LIMBS], y: [u64; limbs::LIMBS], m: usize) -> [u64; limbs::LIMBS]
     ensures { result ≡ pack_limbs carried_limbs (below m (λ i. limb_coord x i + limb_coord y i)) }
 {
     let mut out = [0u64; limbs::LIMBS];
-    let mut w = 0;
-    while w < limbs::LIMBS {
+    for w in 0..limbs::LIMBS {
         if limbs::ends_at(w, m) {
             return out;
         }
         out[w] = limbs::low_limb(x[w] ^ y[w], w, m);
-        w += 1;
     }
     out
 }
@@ -33,7 +36,7 @@ fn both_moves(x: [u64; limbs::LIMBS], m: usize, k: usize) -> [u64; limbs::LIMBS]
     ensures { result ≡ pack_limbs carried_limbs (both_moves m k (limb_coord x)) }
 {
     let back = m - k;
-    merged(raise(x, k, m), lower(x, back, m), m)
+    merged(moved::<UP>(x, k, m), moved::<DOWN>(x, back, m), m)
 }
 
 // A count modulo the width. The remainder is made only of a count that is the width or more.
@@ -51,10 +54,8 @@ fn within(k: usize, m: usize) -> usize
 pub fn rolled_limbs(x: [u64; limbs::LIMBS], m: usize, k: usize) -> [u64; limbs::LIMBS]
     ensures { result ≡ pack_limbs carried_limbs (rolled m k (limb_coord x)) }
 {
-    if m <= limbs::MAX_WIDTH {
-        if 0 < m {
-            return both_moves(x, m, within(k, m));
-        }
+    if 0 < m && m <= limbs::MAX_WIDTH {
+        return both_moves(x, m, within(k, m));
     }
     x
 }

@@ -1,26 +1,29 @@
 -- `product::multiply` meets its contract.
-use mathlib.Core.Path.{ap}
-use mathlib.Core.Bool.{not}
+use mathlib.Core.Path.{◌≡◌, sym, ap, ◌∙◌}
 use Rattle.operand.specs.Calls.{answer}
-use Rattle.operand.proofs.CallLaws.{refusal}
-use Rattle.table.proofs.Parts.{Part, stopped, stopped-some, passed, further}
-use Rattle.product.specs.Inner.{multiplied, factor_causes}
+use Rattle.judging.specs.Causes.{judged}
+use Rattle.judging.proofs.CauseLaws.{ends, goes_on, handed_on, answer-refused}
+use Rattle.product.specs.Calls.{multiplied}
+use Rattle.product.specs.Inner.{factor_causes}
 use Rattle.product.proofs.Judged.{pair_widths, first-passed}
 use Rattle.product.proofs.multiply.Goals as goal
-use Rattle.product.proofs.multiply.Goals.{After-is_none}
+use Rattle.product.proofs.multiply.Goals.{After-judge_pair_widths}
 
--- the widths, then the table and the factors
-widths : (c : After-is_none) → let a = c.args in
-    Part (pair_widths a.width a.a a.b) (factor_causes a.method a.width a.table.now a.a.bytes a.b.bytes) c.judge_pair_widths-widths.result c.is_none.result
-widths c = record { given = c.judge_pair_widths-widths.ensures; tested = c.is_none.ensures }
+-- the verdict on the widths
+widths : (c : After-judge_pair_widths) → c.judge_pair_widths.result ≡ judged (pair_widths c.args.width c.args.a c.args.b)
+widths c = rw (c.from.ensures, c.from-2.ensures) at c.judge_pair_widths.ensures
 
-pub returns-then-not-is_none : goal.returns-then-not-is_none
-returns-then-not-is_none c = let p = widths (goal.at.returns-then-not-is_none c).After-is_none in refusal _ _ _ (stopped p (ap not c.if-not-is_none.true)) (stopped-some p (ap not c.if-not-is_none.true)) c.refused.ensures
+pub returns-in_err-judge_pair_widths : goal.returns-in_err-judge_pair_widths
+returns-in_err-judge_pair_widths c =
+    let a = c.args in
+    handed_on c.from_residual.result c.from_residual.ensures.1
+    (answer-refused _ (sym (ends (pair_widths a.width a.a a.b) (factor_causes a.method a.width a.table.now a.a.bytes a.b.bytes) (widths (goal.at.returns-in_err-judge_pair_widths c).After-judge_pair_widths) c.in_err-judge_pair_widths.was)))
 
 pub product-requires : goal.product-requires
-product-requires c = first-passed _ _ (passed (widths (goal.at.product-requires c).After-is_none) (ap not c.if-not-is_none.false))
+product-requires c = first-passed _ _ (sym c.judge_pair_widths.ensures ∙ c.in_ok-judge_pair_widths.was)
 
 pub returns : goal.returns
 returns c =
     let a = c.args in
-    further (widths (goal.at.returns c).After-is_none) (ap not c.if-not-is_none.false) (λ f. answer f a.width (multiplied a.method a.width a.table.now a.a.bytes a.b.bytes)) c.product.ensures
+    c.product.ensures ∙ ap (λ v. answer v a.width (multiplied a.method a.width a.table.now a.a.bytes a.b.bytes))
+    (sym (goes_on (pair_widths a.width a.a a.b) (factor_causes _ _ _ _ _) (sym (widths (goal.at.returns c).After-judge_pair_widths) ∙ c.in_ok-judge_pair_widths.was)))

@@ -1,46 +1,47 @@
 -- `runner::run_sized` meets its contract.
-use mathlib.Core.Path.{sym, ◌∙◌}
-use mathlib.Core.List.{[]}
+use mathlib.Core.Path.{refl, sym, ◌∙◌}
 use native.Mathlib.Omega.{arith}
 use lib.ListN.{length}
-use Rattle.runner.specs.Inner.{list_causes}
+use Rattle.judging.proofs.CauseLaws.{handed_on}
 use Rattle.runner.proofs.JudgeLaws.{FineList, list-fine}
-use Rattle.runner.proofs.RunLaws.{kept_result, kept-wires, ran-wires, ran-result}
+use Rattle.runner.proofs.RunLaws.{kept_result, kept-wires, ran-result}
 use Rattle.runner.proofs.run_sized.Goals as goal
-use Rattle.runner.proofs.run_sized.Goals.{Then-is_none}
+use Rattle.runner.proofs.run_sized.Goals.{In_ok-judge_list}
 
 -- the list that was given no fault
-found : (c : Then-is_none) → let a = c.args in FineList a.width a.list.now (length a.wires.now)
+found : (c : In_ok-judge_list) → let a = c.args in FineList a.width a.list.now (length a.wires.now)
 found c =
     let a = c.args in
-    list-fine a.width a.list.now a.x a.y (length a.wires.now) (judged (list_causes a.width a.list.now a.x a.y (length a.wires.now)) [] c.judge_list-fault.ensures c.is_none.ensures c.if-is_none.true)
+    list-fine a.width a.list.now a.x a.y (length a.wires.now) (sym c.judge_list.ensures ∙ c.in_ok-judge_list.was)
 
-pub judge_list-fault-requires : goal.judge_list-fault-requires
-judge_list-fault-requires c = let p = c.requires in (p.0, p.1)
+pub judge_list-requires : goal.judge_list-requires
+judge_list-requires c = let p = c.requires in (p.0, p.1)
+
+pub returns-in_err-judge_list : goal.returns-in_err-judge_list
+returns-in_err-judge_list c =
+    let r = c.from_residual.result in
+    let e = c.from_residual.ensures.1 in (
+      handed_on r e (sym c.in_err-judge_list.was ∙ c.judge_list.ensures),
+      kept_result _ _ _ _ _ (handed_on r e refl),
+      kept-wires _ _ _ _ _ (handed_on r e refl),
+    )
 
 pub fill_wires-requires : goal.fill_wires-requires
 fill_wires-requires c =
-    let f = found (goal.at.fill_wires-requires c).Then-is_none in
+    let f = found (goal.at.fill_wires-requires c).In_ok-judge_list in
     let p = c.requires in
     record { least = omega (arith, p.0); greatest = p.1; byte_per_wire = f.byte_per_wire; good = f.gates }
 
 pub fill_result-requires : goal.fill_result-requires
 fill_result-requires c =
-    let f = found (goal.at.fill_result-requires c).Then-is_none in
+    let f = found (goal.at.fill_result-requires c).In_ok-judge_list in
     let p = c.requires in
     (record { greatest = p.1; byte_per_wire = c.fill_wires.auto.wires ∙ f.byte_per_wire; present = f.outputs }, p.2)
 
-pub returns-then-is_none : goal.returns-then-is_none
-returns-then-is_none c =
-    let a = c.args in
-    let f = c.judge_list-fault.result in
-    let n = sym c.is_none.ensures ∙ c.if-is_none.true in (
-      c.judge_list-fault.ensures,
-      ran-result f a.width a.list.now a.x a.y a.res.now n c.fill_wires.ensures c.fill_result.ensures,
-      ran-wires f a.width a.list.now a.x a.y a.wires.now n c.fill_wires.ensures,
+pub returns : goal.returns
+returns c =
+    let a = c.args in (
+      sym c.in_ok-judge_list.was ∙ c.judge_list.ensures,
+      ran-result a.width a.list.now a.x a.y a.res.now c.fill_wires.ensures c.fill_result.ensures,
+      c.fill_wires.ensures,
     )
-
-pub returns-else-is_none : goal.returns-else-is_none
-returns-else-is_none c =
-    let s = sym c.is_none.ensures ∙ c.if-is_none.false in
-    (c.judge_list-fault.ensures, kept_result _ _ _ _ _ _ s, kept-wires _ _ _ _ _ _ s)

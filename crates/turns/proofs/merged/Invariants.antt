@@ -8,6 +8,3 @@ use Rattle.turns.proofs.merged.Given as goal
 
 abbrev pub invariant-loop-w : goal.invariant-loop-w
 invariant-loop-w l = Filled carried_limbs (λ v. bit_xor (limb_of l.x v) (limb_of l.y v) % 2 ^ (l.m - v * 64)) l.initial.out l.out l.w
-
-abbrev pub decreases-loop-w : goal.decreases-loop-w
-decreases-loop-w l = carried_limbs - l.w

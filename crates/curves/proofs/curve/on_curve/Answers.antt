@@ -1,7 +1,12 @@
 -- `curves::curve::on_curve` meets its contract.
+use mathlib.Core.Path.{sym, ◌∙◌}
 use Rattle.curves.specs.Curve.{on_curve}
 use Rattle.curves.proofs.curve.on_curve.Goals as goal
 
-pub returns : goal.returns
+pub returns-in-Ok : goal.returns-in-Ok
 unfolding on_curve
-returns c = rw (c.is_zero.ensures, c.sum.ensures, c.right_side-right.ensures, c.left_side-left.ensures)
+returns-in-Ok c = rw (sym c.difference.ensures ∙ c.in-Ok.is) c.is_clear.ensures
+
+pub returns-in-Err : goal.returns-in-Err
+unfolding on_curve
+returns-in-Err c = rw (sym c.difference.ensures ∙ c.in-Err.is)

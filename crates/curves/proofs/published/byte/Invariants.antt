@@ -1,7 +1,7 @@
 -- `curves::published::byte` meets its contract. The invariant: the byte has its first j bits.
 use mathlib.Core.Path.{◌≡◌}
 use mathlib.Core.List.{List}
-use Prim.Native.Nat.{ℕ, ◌+◌, ◌-◌, ◌*◌, ◌≤◌}
+use Prim.Native.Nat.{ℕ, ◌+◌, ◌*◌}
 use Rattle.gf2.specs.Coordinates.{value}
 use Rattle.curves.specs.Published.{digit_bit}
 use Rattle.curves.proofs.published.byte.Given as goal
@@ -11,7 +11,4 @@ abbrev pub bits : List ℕ → ℕ → ℕ → ℕ → ℕ
 bits digits start b j = digit_bit digits (start + (b * 8 + j))
 
 abbrev pub invariant-loop-j : goal.invariant-loop-j
-invariant-loop-j l = (l.j ≤ 8) × (l.out ≡ value l.j (bits l.digits l.start l.b))
-
-abbrev pub decreases-loop-j : goal.decreases-loop-j
-decreases-loop-j l = 8 - l.j
+invariant-loop-j l = l.out ≡ value l.j (bits l.digits l.start l.b)

@@ -17,4 +17,4 @@ pub returns : goal.returns
 unfolding published published_coord pack
 returns c =
     let w = c.args.width in
-    ap (λ x. record { bytes = x; width = w }) (filled-all c.loop-b.invariant (omega arith) (omega arith))
+    ap (λ x. record { bytes = x; width = w }) (rw c.from.ensures at (filled-all c.loop-b.invariant (omega arith) (omega arith)))

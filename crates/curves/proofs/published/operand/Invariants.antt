@@ -1,5 +1,5 @@
 -- `curves::published::operand` meets its contract. The invariant: the first b bytes are made.
-use Prim.Native.Nat.{◌+◌, ◌-◌, ◌*◌}
+use Prim.Native.Nat.{◌+◌, ◌*◌}
 use Rattle.gf2.specs.Coordinates.{value}
 use Rattle.gf2.specs.Operands.{carried_bytes}
 use Rattle.gf2.proofs.Loops.{Filled}
@@ -8,6 +8,3 @@ use Rattle.curves.proofs.published.operand.Given as goal
 
 abbrev pub invariant-loop-b : goal.invariant-loop-b
 invariant-loop-b l = Filled carried_bytes (λ b'. value 8 (λ j. digit_bit l.digits (l.start + (b' * 8 + j)))) l.initial.bytes l.bytes l.b
-
-abbrev pub decreases-loop-b : goal.decreases-loop-b
-decreases-loop-b l = carried_bytes - l.b

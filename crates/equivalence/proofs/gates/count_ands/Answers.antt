@@ -1,21 +1,25 @@
--- `equivalence::gates::count_ands` meets its contract. The invariant: the ANDs before k are counted.
-use mathlib.Core.Path.{◌≡◌, sym, ◌∙◌}
+-- `equivalence::gates::count_ands` meets its contract.
+use mathlib.Core.Path.{◌≡◌, ◌∙◌}
+use mathlib.Core.Bool.{Bool}
+use Prim.Native.Nat.{ℕ}
 use native.Mathlib.Omega.{arith}
-use Rattle.equivalence.proofs.GateLaws.{ands-none, and-more, xor-more}
+use lib.Dec.{eqb}
+use Rattle.std.proofs.Common.{rules, tests}
+use Rattle.std.proofs.lemmas.Iterator.{YieldsList-from_range}
+use Rattle.std.proofs.lemmas.Iterator.Consumers.{YieldsList-from_filter, count_from_yields_List}
+use Rattle.std.proofs.lemmas.List.Sums.{length-filter}
+use Rattle.std.specs.List.{range_with_len, count_by}
+use Rattle.netlist.specs.Running.{kind_at}
+use Rattle.netlist.proofs.Ranges.{counted_below, few_below}
+use Rattle.equivalence.proofs.GateLaws.{ands-counted}
 use Rattle.equivalence.proofs.gates.count_ands.Goals as goal
-
-pub loop-k-init : goal.loop-k-init
-loop-k-init c = (omega arith, omega arith, ands-none _)
-
-pub loop-k-preserved : goal.loop-k-preserved
-loop-k-preserved c =
-    let l = c.args.list.now in
-    let w = c.loop-k in
-    let e = c.word.ensures.0 in
-    grind (arith, and-more l w.k w.n, xor-more l w.k w.n, e, w.invariant.2)
 
 pub returns : goal.returns
 returns c =
-    let w = c.loop-k in
-    let e : w.k ≡ c.args.g = omega arith in
-    (rw e at w.invariant.2, omega arith)
+    let a = c.args in
+    let p : ℕ → Bool = λ k. eqb (kind_at a.list.now k) 0 in
+    let e : c.count.result ≡ count_by p (range_with_len 0 a.g) =
+    count_from_yields_List c.filter.result c.count.result c.count.ensures.ran
+    (YieldsList-from_filter _ p (YieldsList-from_range 0 a.g a.g c.filter.ensures.source (omega arith)) c.filter.ensures.closure (λ x b q k. search (rules, tests)))
+    ∙ length-filter p (range_with_len 0 a.g) in
+    (e ∙ counted_below p a.g ∙ ands-counted a.list.now a.g, omega (arith, e, few_below p a.g))

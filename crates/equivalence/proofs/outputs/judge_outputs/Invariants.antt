@@ -9,7 +9,4 @@ use Rattle.equivalence.proofs.outputs.judge_outputs.Given as goal
 
 abbrev pub invariant-loop-r : goal.invariant-loop-r
 invariant-loop-r l =
-    (l.r ≤ l.width) × (judged (output_causes l.width l.table l.list) ≡ judged (up_to (λ r'. wrong_output l.width l.table l.list r' ∷ []) l.width l.r))
-
-abbrev pub decreases-loop-r : goal.decreases-loop-r
-decreases-loop-r l = l.width - l.r
+    judged (output_causes l.width l.table l.list) ≡ judged (up_to (λ r'. wrong_output l.width l.table l.list r' ∷ []) l.width l.r)

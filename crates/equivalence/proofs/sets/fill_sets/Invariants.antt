@@ -4,7 +4,4 @@ use Rattle.equivalence.specs.Inner.{Gathered}
 use Rattle.equivalence.proofs.sets.fill_sets.Given as goal
 
 abbrev pub invariant-loop-k : goal.invariant-loop-k
-invariant-loop-k l = (l.k ≤ l.g) × Gathered l.width l.list l.k l.sets
-
-abbrev pub decreases-loop-k : goal.decreases-loop-k
-decreases-loop-k l = l.g - l.k
+invariant-loop-k l = Gathered l.width l.list l.k l.sets

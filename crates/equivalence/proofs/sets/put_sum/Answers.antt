@@ -6,18 +6,16 @@ use Rattle.equivalence.proofs.SquareLaws.{sum-none, sum_more}
 use Rattle.equivalence.proofs.sets.put_sum.Goals as goal
 
 pub loop-w-init : goal.loop-w-init
-loop-w-init c = (omega arith, sum-none)
+loop-w-init c = sum-none
 
 pub loop-w-preserved : goal.loop-w-preserved
-loop-w-preserved c =
-    let w = c.loop-w in
-    (omega arith, sum_more c.requires.0 c.requires.1 c.requires.2 c.requires.3 (omega arith) w.invariant.1)
+loop-w-preserved c = sum_more c.requires.0 c.requires.1 c.requires.2 c.requires.3 (omega arith) c.loop-w.invariant
 
 pub shape_of-sets : goal.shape_of-sets
-shape_of-sets c = c.loop-w.invariant.1.size
+shape_of-sets c = c.loop-w.invariant.size
 
 pub returns : goal.returns
 returns c =
     let w = c.loop-w in
     let e : w.w ≡ set_limbs = omega arith in
-    rw e at w.invariant.1
+    rw e at w.invariant

@@ -4,7 +4,4 @@ use Rattle.equivalence.specs.Inner.{set_limbs, SumPut}
 use Rattle.equivalence.proofs.sets.put_sum.Given as goal
 
 abbrev pub invariant-loop-w : goal.invariant-loop-w
-invariant-loop-w l = (l.w ≤ set_limbs) × SumPut l.w l.k l.x l.y l.initial.sets l.sets
-
-abbrev pub decreases-loop-w : goal.decreases-loop-w
-decreases-loop-w l = set_limbs - l.w
+invariant-loop-w l = SumPut l.w l.k l.x l.y l.initial.sets l.sets

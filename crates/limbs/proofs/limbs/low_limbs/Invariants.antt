@@ -7,6 +7,3 @@ use Rattle.limbs.proofs.limbs.low_limbs.Given as goal
 
 abbrev pub invariant-loop-w : goal.invariant-loop-w
 invariant-loop-w l = Filled carried_limbs (λ k. get_or l.x k 0 % 2 ^ (l.m - k * 64)) l.initial.out l.out l.w
-
-abbrev pub decreases-loop-w : goal.decreases-loop-w
-decreases-loop-w l = carried_limbs - l.w

@@ -1,5 +1,5 @@
 -- `limbs::limbs::to_limbs` meets its contract.
-use Prim.Native.Nat.{◌+◌, ◌-◌, ◌*◌}
+use Prim.Native.Nat.{◌+◌, ◌*◌}
 use Rattle.gf2.specs.Coordinates.{coord, value}
 use Rattle.gf2.proofs.Loops.{Filled}
 use Rattle.limbs.specs.Limbs.{carried_limbs}
@@ -7,6 +7,3 @@ use Rattle.limbs.proofs.limbs.to_limbs.Given as goal
 
 abbrev pub invariant-loop-w : goal.invariant-loop-w
 invariant-loop-w l = Filled carried_limbs (λ k. value 64 (λ j. coord l.x (k * 64 + j))) l.initial.out l.out l.w
-
-abbrev pub decreases-loop-w : goal.decreases-loop-w
-decreases-loop-w l = carried_limbs - l.w

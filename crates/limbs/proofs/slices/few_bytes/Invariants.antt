@@ -7,6 +7,3 @@ use Rattle.limbs.proofs.slices.few_bytes.Given as goal
 
 abbrev pub invariant-loop-b : goal.invariant-loop-b
 invariant-loop-b l = (l.b ≤ length l.s) × (l.limb ≡ value 64 (λ j. coord l.s (l.b * 8 + j)))
-
-abbrev pub decreases-loop-b : goal.decreases-loop-b
-decreases-loop-b l = l.b

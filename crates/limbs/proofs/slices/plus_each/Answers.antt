@@ -15,7 +15,7 @@ pub returns-then-b-ge-BYTES : goal.returns-then-b-ge-BYTES
 returns-then-b-ge-BYTES c = plus-bytes c.args.s.now _ c.loop-b.invariant (λ i h k. absurd (omega arith))
 
 pub loop-b-preserved : goal.loop-b-preserved
-loop-b-preserved c = plus-byte c.args.s.now _ c.loop-b.invariant (omega arith) (c.shared_slice_known-in-loop-b-1.given _).fits c.wide.ensures
+loop-b-preserved c = plus-byte c.args.s.now _ c.loop-b.invariant (omega arith) (search rules) c.from.ensures
 
 pub returns : goal.returns
 returns c = let s = c.args.s.now in plus-bytes s _ c.loop-b.invariant (λ i h k. coord-past s i (omega arith))

@@ -1,6 +1,5 @@
 -- `limbs::slices::plus_each` meets its contract.
-use Prim.Native.Nat.{◌-◌, ◌*◌}
-use lib.ListN.{length}
+use Prim.Native.Nat.{◌*◌}
 use Rattle.gf2.specs.Coordinates.{coord}
 use Rattle.gf2.specs.Operands.{below}
 use Rattle.limbs.proofs.SliceLaws.{Plus}
@@ -8,6 +7,3 @@ use Rattle.limbs.proofs.slices.plus_each.Given as goal
 
 abbrev pub invariant-loop-b : goal.invariant-loop-b
 invariant-loop-b l = Plus (below (8 * l.b) (coord l.s)) l.initial.out l.out
-
-abbrev pub decreases-loop-b : goal.decreases-loop-b
-decreases-loop-b l = length l.s - l.b

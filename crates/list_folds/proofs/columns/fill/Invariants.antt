@@ -7,6 +7,3 @@ use Rattle.list_folds.proofs.columns.fill.Given as goal
 
 abbrev pub invariant-loop-d : goal.invariant-loop-d
 invariant-loop-d l = (l.d ≤ l.width) × (Columns l.rows l.width l.table l.d l.columns) × (length l.columns ≡ length l.initial.columns)
-
-abbrev pub decreases-loop-d : goal.decreases-loop-d
-decreases-loop-d l = l.width - l.d

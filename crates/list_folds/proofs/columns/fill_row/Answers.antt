@@ -14,12 +14,12 @@ loop-s-init c =
 
 pub loop-s-smaller : goal.loop-s-smaller
 loop-s-smaller c =
-    omega (arith, c.loop-s-test.true, row-after c.requires c.row_limbs-row.ensures c.next_one-after.ensures)
+    omega (arith, c.loop-s-test.true, row-after c.requires c.row_limbs-row.ensures c.next_one-s-in-loop-s.ensures)
 
 pub loop-s-preserved : goal.loop-s-preserved
 loop-s-preserved c =
     let v = c.loop-s.invariant in
-    row_next c.requires c.row_limbs-row.ensures c.next_one-after.ensures (row_more c.requires c.loop-s-test.true (v.1 c.loop-s-test.true) v.0)
+    row_next c.requires c.row_limbs-row.ensures c.next_one-s-in-loop-s.ensures (row_more c.requires c.loop-s-test.true (v.1 c.loop-s-test.true) v.0)
 
 pub returns : goal.returns
 returns c =

@@ -7,6 +7,3 @@ use Rattle.list_folds.proofs.columns.find_firsts.Given as goal
 
 abbrev pub invariant-loop-k : goal.invariant-loop-k
 invariant-loop-k l = (l.k ≤ length l.columns) × (Firsts l.columns l.k l.firsts) × (Successor (is_set l.columns 0) (64 * length l.columns) (64 * l.k) l.n) × (length l.firsts ≡ length l.initial.firsts)
-
-abbrev pub decreases-loop-k : goal.decreases-loop-k
-decreases-loop-k l = l.k

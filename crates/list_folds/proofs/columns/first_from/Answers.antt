@@ -1,4 +1,5 @@
 -- `list_folds::columns::first_from` meets its contract.
+use Prim.Native.Nat.{◌^◌, ◌<◌}
 use native.Mathlib.Omega.{arith}
 use lib.ListN.{get_or}
 use lib.Count.{trailing_le}
@@ -15,4 +16,6 @@ pub overflow_add-result : goal.overflow_add-result
 overflow_add-result c = omega (arith, c.requires.0, c.requires.1, trailing_le 64 (get_or c.args.columns.now c.args.k 0))
 
 pub returns : goal.returns
-returns c = first-here c.args.columns.now c.args.k (c.shared_slice_known-1.given c.args.k).fits c.requires.0 c.if-limb-eq0.false
+returns c =
+    let small : get_or c.args.columns.now c.args.k 0 < 2 ^ 64 = omega arith in
+    first-here c.args.columns.now c.args.k small c.requires.0 c.if-limb-eq0.false

@@ -1,12 +1,9 @@
 -- `list_folds::fold::push_last` meets its contract.
-use mathlib.Core.Path.{refl}
-use Rattle.netlist.specs.Lists.{only}
-use Rattle.list_folds.proofs.WriteLaws.{push-none, push-only}
+use Rattle.list_folds.proofs.WriteLaws.{push-none}
 use Rattle.list_folds.proofs.fold.push_last.Goals as goal
 
-pub returns-then-last : goal.returns-then-last
-returns-then-last c = push-only c.if-last.true refl c.push.ensures
+pub returns-in-Some : goal.returns-in-Some
+returns-in-Some c = rw c.in-Some.is c.push.ensures
 
-pub returns : goal.returns
-unfolding only
-returns c = rw c.if-last.false (push-none _ _ _)
+pub returns-in-None : goal.returns-in-None
+returns-in-None c = rw c.in-None.is (push-none _ _ _)

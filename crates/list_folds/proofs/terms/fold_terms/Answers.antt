@@ -8,7 +8,7 @@ use Rattle.list_folds.proofs.terms.fold_terms.Goals as goal
 pub push_last-requires : goal.push_last-requires
 push_last-requires c =
     let a = c.args in
-    (c.requires.0.room.greatest, omega (arith, c.requires.2, c.first_term-first.ensures.0, push-most c.push_pairs-all.ensures, rows-most a.t.mixed a.width a.columns.now a.r a.width))
+    (a.columns.now.readable.room.greatest, omega (arith, c.requires.1, c.first_term-first.ensures.0, push-most c.push_pairs-all.ensures, rows-most a.t.mixed a.columns.now.width a.columns.now.limbs.now a.r a.columns.now.width))
 
 pub returns : goal.returns
 unfolding fold_terms

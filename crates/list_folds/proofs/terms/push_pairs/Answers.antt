@@ -7,22 +7,22 @@ use Rattle.list_folds.proofs.TermLaws.{rows_none, rows_more, rows-most}
 use Rattle.list_folds.proofs.terms.push_pairs.Goals as goal
 
 pub loop-i-init : goal.loop-i-init
-loop-i-init c = let a = c.args in (omega arith, rw (rows_none a.mixed a.width a.columns.now a.r) (push-none _ _ _), refl)
+loop-i-init c = let a = c.args in (omega arith, rw (rows_none a.mixed a.columns.now.width a.columns.now.limbs.now a.r) (push-none _ _ _), refl)
 
-pub push_row-next-requires : goal.push_row-next-requires
-push_row-next-requires c =
+pub push_row-g-requires : goal.push_row-g-requires
+push_row-g-requires c =
     let a = c.args in
     let w = c.loop-i in
-    (c.requires.0, c.requires.1, c.loop-i-test.true, omega (arith, c.requires.2, push-most w.invariant.1, rows-most a.mixed a.width a.columns.now a.r w.i, mul-le-mul_right {m = w.i} {n = a.width} a.width (omega arith)))
+    (c.requires.0, omega arith, omega (arith, c.requires.1, push-most w.invariant.1, rows-most a.mixed a.columns.now.width a.columns.now.limbs.now a.r w.i, mul-le-mul_right {m = w.i} {n = a.columns.now.width} a.columns.now.width (omega arith)))
 
 pub loop-i-preserved : goal.loop-i-preserved
 loop-i-preserved c =
     let a = c.args in
     let w = c.loop-i in
-    (omega arith, rw (rows_more a.mixed a.width a.columns.now a.r w.i) (push-more w.invariant.1 c.push_row-next.ensures), c.push_row-next.auto.out ∙ w.invariant.2)
+    (omega arith, rw (rows_more a.mixed a.columns.now.width a.columns.now.limbs.now a.r w.i) (push-more w.invariant.1 c.push_row-g.ensures), c.push_row-g.auto.out ∙ w.invariant.2)
 
 pub returns : goal.returns
 returns c =
     let w = c.loop-i in
-    let e : w.i ≡ c.args.width = omega arith in
+    let e : w.i ≡ c.args.columns.now.width = omega arith in
     rw e at w.invariant.1

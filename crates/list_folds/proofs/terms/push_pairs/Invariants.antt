@@ -7,7 +7,4 @@ use Rattle.list_folds.specs.Terms.{rows_to}
 use Rattle.list_folds.proofs.terms.push_pairs.Given as goal
 
 abbrev pub invariant-loop-i : goal.invariant-loop-i
-invariant-loop-i l = (l.i ≤ l.width) × (Pushed l.width l.initial.g l.initial.out (rows_to l.mixed l.width l.columns l.r l.i) l.g l.out) × (length l.out ≡ length l.initial.out)
-
-abbrev pub decreases-loop-i : goal.decreases-loop-i
-decreases-loop-i l = l.width - l.i
+invariant-loop-i l = (l.i ≤ l.columns.width) × (Pushed l.columns.width l.initial.g l.initial.out (rows_to l.mixed l.columns.width l.columns.limbs.now l.r l.i) l.g l.out) × (length l.out ≡ length l.initial.out)

@@ -9,31 +9,31 @@ use Rattle.list_folds.proofs.terms.push_row.Goals as goal
 
 pub overflow_add-start : goal.overflow_add-start
 overflow_add-start c =
-    omega (arith, base-most c.args.mixed c.args.width c.args.i c.requires.2 c.requires.0.room.greatest, c.row_base.ensures)
+    omega (arith, base-most c.args.mixed c.args.columns.now.width c.args.i c.requires.1 c.args.columns.now.readable.room.greatest, c.row_base.ensures)
 
 pub push_run-requires : goal.push_run-requires
 push_run-requires c =
-    row-run c.args.mixed c.requires.0 c.requires.2 c.minus-at.ensures.1 c.row_base.ensures (omega (arith, c.requires.2)) (omega arith) (omega arith) (omega (arith, c.requires.3))
+    row-run c.args.mixed c.args.columns.now.readable c.requires.1 c.minus-at.ensures.1 c.row_base.ensures (omega (arith, c.requires.1)) (omega arith) (omega arith) (omega (arith, c.requires.2))
 
 pub returns-then-mixed : goal.returns-then-mixed
 returns-then-mixed c =
-    push-mixed c.args.columns.now c.args.r c.requires.2 c.minus-at.ensures.0 c.row_base.ensures c.if-mixed.true c.push_run.ensures
+    push-mixed c.args.columns.now.limbs.now c.args.r c.requires.1 c.minus-at.ensures.0 c.row_base.ensures c.if-mixed.true c.push_run.ensures
 
 pub overflow_sub-start : goal.overflow_sub-start
 overflow_sub-start c =
-    omega (arith, base-least c.args.mixed c.args.width c.args.i c.requires.2, c.row_base.ensures)
+    omega (arith, base-least c.args.mixed c.args.columns.now.width c.args.i c.requires.1, c.row_base.ensures)
 
 pub push_run-g-requires : goal.push_run-g-requires
 push_run-g-requires c =
-    row-run c.args.mixed c.requires.0 c.requires.2 c.minus-at.ensures.1 c.row_base.ensures (omega arith) (omega arith) (omega arith) (omega (arith, c.requires.3))
+    row-run c.args.mixed c.args.columns.now.readable c.requires.1 c.minus-at.ensures.1 c.row_base.ensures (omega arith) (omega arith) (omega arith) (omega (arith, c.requires.2))
 
 pub push_run-requires-2 : goal.push_run-requires-2
 push_run-requires-2 c =
     let a = c.args in
-    let t = is_set a.columns.now (c.minus-at.result * carried_limbs) in
-    let few = run-most t (c.row_base.result + a.i - a.width) (a.width - a.i) (a.width - (a.width - a.i)) in
-    row-run a.mixed c.requires.0 c.requires.2 c.minus-at.ensures.1 c.row_base.ensures (omega arith) (omega arith) (omega arith) (omega (arith, c.requires.3, push-most c.push_run-g.ensures, few))
+    let t = is_set a.columns.now.limbs.now (c.minus-at.result * carried_limbs) in
+    let few = run-most t (c.row_base.result + a.i - a.columns.now.width) (a.columns.now.width - a.i) (a.columns.now.width - (a.columns.now.width - a.i)) in
+    row-run a.mixed c.args.columns.now.readable c.requires.1 c.minus-at.ensures.1 c.row_base.ensures (omega arith) (omega arith) (omega arith) (omega (arith, c.requires.2, push-most c.push_run-g.ensures, few))
 
 pub returns : goal.returns
 returns c =
-    push-plain c.args.columns.now c.args.r c.requires.2 c.minus-at.ensures.0 c.row_base.ensures c.if-mixed.false c.push_run-g.ensures c.push_run-2.ensures
+    push-plain c.args.columns.now.limbs.now c.args.r c.requires.1 c.minus-at.ensures.0 c.row_base.ensures c.if-mixed.false c.push_run-g.ensures c.push_run-2.ensures

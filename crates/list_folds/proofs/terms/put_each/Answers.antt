@@ -1,7 +1,8 @@
 -- `list_folds::terms::put_each` meets its contract. The invariant: the folds before r are stored.
-use mathlib.Core.Path.{◌≡◌, refl, ◌∙◌}
+use mathlib.Core.Path.{◌≡◌, refl, ap, ◌∙◌}
 use Prim.Native.Nat.{◌+◌, ◌*◌, ◌≤◌}
 use native.Mathlib.Omega.{arith}
+use lib.ListN.{set}
 use Rattle.netlist.proofs.TableLaws.{width-times, width-square}
 use Rattle.gf2.specs.Operands.{max_width}
 use Rattle.list_folds.proofs.TermLaws.{terms-most}
@@ -15,16 +16,16 @@ pub fold_terms-f-requires : goal.fold_terms-f-requires
 fold_terms-f-requires c =
     let w = c.loop-r in
     let a = c.args in
-    let h = c.requires.0.room.greatest in
-    let l : w.r ≤ max_width = omega (arith, c.requires.1, w.invariant.0) in
-    let few = folds-few (a.width * a.width + 1) w.invariant.1 (terms-most a.t a.width a.columns.now) in
-    let q = width-square a.width a.width h h in
-    (c.requires.0, omega (arith, c.requires.1, c.loop-r-test.true), omega (arith, c.requires.2, few, q, width-times w.r (a.width * a.width + 1) (max_width * max_width + 1) l (omega (arith, q))))
+    let h = a.columns.now.readable.room.greatest in
+    let l : w.r ≤ max_width = omega (arith, c.requires.0) in
+    let few = folds-few (a.columns.now.width * a.columns.now.width + 1) w.invariant.1 (terms-most a.t a.columns.now.width a.columns.now.limbs.now) in
+    let q = width-square a.columns.now.width a.columns.now.width h h in
+    (omega (arith, c.requires.0), omega (arith, c.requires.1, few, q, width-times w.r (a.columns.now.width * a.columns.now.width + 1) (max_width * max_width + 1) l (omega (arith, q))))
 
 pub loop-r-preserved : goal.loop-r-preserved
 loop-r-preserved c =
     let w = c.loop-r in
-    (omega (arith, c.loop-r-test.true), folds-more w.invariant.1 c.fold_terms-f.ensures c.put.ensures, c.fold_terms-f.auto.out ∙ w.invariant.2, c.put.auto.out ∙ w.invariant.3)
+    (omega arith, folds-more w.invariant.1 c.fold_terms-f.ensures (c.put.ensures ∙ ap (set w.ends w.r) c.unwrap_or.ensures), c.fold_terms-f.auto.out ∙ w.invariant.2, c.put.auto.out ∙ w.invariant.3)
 
 pub returns : goal.returns
 returns c =

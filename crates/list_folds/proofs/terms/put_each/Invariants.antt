@@ -7,7 +7,4 @@ use Rattle.list_folds.proofs.FoldedLaws.{Folded}
 use Rattle.list_folds.proofs.terms.put_each.Given as goal
 
 abbrev pub invariant-loop-r : goal.invariant-loop-r
-invariant-loop-r l = (l.r ≤ l.count) × (Folded l.width l.r l.n (fold_terms l.t l.width l.columns) l.initial.out l.initial.ends l.k l.out l.ends) × (length l.out ≡ length l.initial.out) × (length l.ends ≡ length l.initial.ends)
-
-abbrev pub decreases-loop-r : goal.decreases-loop-r
-decreases-loop-r l = l.count - l.r
+invariant-loop-r l = (l.r ≤ l.count) × (Folded l.columns.width l.r l.n (fold_terms l.t l.columns.width l.columns.limbs.now) l.initial.out l.initial.ends l.k l.out l.ends) × (length l.out ≡ length l.initial.out) × (length l.ends ≡ length l.initial.ends)

@@ -1,64 +1,56 @@
 -- `list_writer::lists::list` meets its contract.
-use Rattle.std.specs.Prelude.{is_ok}
-use mathlib.Core.Path.{◌≡◌}
-use mathlib.Core.Bool.{true}
-use mathlib.Core.List.{[]}
+use mathlib.Core.Path.{sym, ap, ◌∙◌}
 use Prim.Native.Nat.{◌+◌, ◌*◌, ◌<◌}
 use native.Mathlib.Omega.{arith}
-use Rattle.judging.specs.FaultTable.{symmetry_causes}
+use Rattle.judging.proofs.CauseLaws.{answer-failed, handed_on}
 use Rattle.table.specs.Judgements.{symmetry_verdict}
+use Rattle.netlist.specs.declared.Tallied.{Tallied}
 use Rattle.netlist.specs.Gates.{word_limit}
-use Rattle.netlist.specs.Methods.{list_by}
-use Rattle.list_writer.proofs.CallLaws.{tally-fault, tally-gates, told, counted, told-few, told-words, list-refused, list-short, list-fits}
+use Rattle.netlist.specs.Methods.{list_by, tallied}
+use Rattle.list_writer.proofs.CallLaws.{Counted, counted, told-few, told-words, list-refused, list-short, list-fits}
 use Rattle.list_writer.proofs.lists.list.Goals as goal
-use Rattle.list_writer.proofs.lists.list.Goals.{Else-not-is_ok}
+use Rattle.list_writer.proofs.lists.list.Goals.{In_ok-tally}
 
--- where the table has passed
-passed : (c : Else-not-is_ok) → let a = c.args in is_ok (symmetry_verdict a.width a.table.now) ≡ true
-passed c =
+pub returns-in_err-tally : goal.returns-in_err-tally
+returns-in_err-tally c =
     let a = c.args in
-    judged (symmetry_causes a.width a.table.now) [] (tally-fault a.method a.width a.table.now c.tally-all.ensures) c.is_ok.ensures c.if-not-is_ok.false
+    let f = answer-failed (symmetry_verdict a.width a.table.now) (tallied a.method a.width a.table.now) (sym c.tally.ensures ∙ c.in_err-tally.was) in
+    let x = list-refused a.width a.table.now (list_by a.method a.width a.table.now) a.out.now f in
+    (handed_on c.from_residual.result c.from_residual.ensures.1 x.0, x.1)
+
+-- the table has passed, and the gates are counted
+all : (c : In_ok-tally) → let a = c.args in Counted a.method a.width a.table.now c.in_ok-tally.tally
+all c =
+    let a = c.args in
+    counted a.method a.width a.table.now c.tally.ensures c.in_ok-tally.was
 
 -- the words of the list are few
-few : (c : Else-not-is_ok) → let a = c.args in 3 * c.tally-all.result.gates + a.width * a.width + 3 * a.width + 2 < word_limit
-few c =
+few : (c : In_ok-tally) → 3 * c.in_ok-tally.tally.gates + c.args.width * c.args.width + 3 * c.args.width + 2 < word_limit
+few c = told-few (all c).told (all c).gates
+
+pub overflow_mul-g : goal.overflow_mul-g
+overflow_mul-g c = omega (arith, few c)
+
+pub overflow_add-g : goal.overflow_add-g
+overflow_add-g c = omega (arith, few c)
+
+pub overflow_add-g-2 : goal.overflow_add-g-2
+overflow_add-g-2 c = omega (arith, few c)
+
+pub returns-then-out-g : goal.returns-then-out-g
+returns-then-out-g c =
     let a = c.args in
-    told-few (told a.method a.width a.table.now c.tally-all.ensures (passed c)) (tally-gates a.method a.width a.table.now c.tally-all.ensures (passed c))
-
-pub returns-then-not-is_ok : goal.returns-then-not-is_ok
-returns-then-not-is_ok c =
-    let a = c.args in
-    let f = tally-fault a.method a.width a.table.now c.tally-all.ensures in
-    list-refused a.width a.table.now (list_by a.method a.width a.table.now) a.out.now c.refused.ensures f
-    (judged (symmetry_causes a.width a.table.now) [] f c.is_ok.ensures c.if-not-is_ok.true)
-
-pub overflow_mul-q : goal.overflow_mul-q
-overflow_mul-q c = omega (arith, few c)
-
-pub overflow_add-q : goal.overflow_add-q
-overflow_add-q c = omega (arith, few c)
-
-pub overflow_add-q-2 : goal.overflow_add-q-2
-overflow_add-q-2 c = omega (arith, few c)
-
-pub returns-then-out-q : goal.returns-then-out-q
-returns-then-out-q c =
-    let n = passed (goal.at.returns-then-out-q c).Else-not-is_ok in
-    let a = c.args in
-    let k = told a.method a.width a.table.now c.tally-all.ensures n in
-    let g = tally-gates a.method a.width a.table.now c.tally-all.ensures n in
-    list-short a.width a.table.now (list_by a.method a.width a.table.now) a.out.now n (omega (arith, told-words k g, c.if-out-q.true)) c.refused-then-out-q.ensures
+    let k = all (goal.at.returns-then-out-g c).In_ok-tally in
+    list-short a.width a.table.now (list_by a.method a.width a.table.now) a.out.now k.passed (omega (arith, told-words k.told k.gates, c.if-out-g.true))
 
 pub put_list-requires : goal.put_list-requires
 put_list-requires c =
-    let n = passed (goal.at.put_list-requires c).Else-not-is_ok in
-    let a = c.args in
-    (told a.method a.width a.table.now c.tally-all.ensures n, tally-gates a.method a.width a.table.now c.tally-all.ensures n, omega (arith, c.if-out-q.false))
+    let k = all (goal.at.put_list-requires c).In_ok-tally in
+    (k.told, k.gates, omega (arith, c.if-out-g.false))
 
 pub returns : goal.returns
 returns c =
-    let n = passed (goal.at.returns c).Else-not-is_ok in
     let a = c.args in
-    let k = told a.method a.width a.table.now c.tally-all.ensures n in
-    let g = tally-gates a.method a.width a.table.now c.tally-all.ensures n in
-    list-fits a.width a.table.now (list_by a.method a.width a.table.now) a.out.now n (omega (arith, told-words k g, c.if-out-q.false)) (counted a.method a.width a.table.now c.tally-all.ensures n) c.put_list.ensures
+    let k = all (goal.at.returns c).In_ok-tally in
+    list-fits a.width a.table.now (list_by a.method a.width a.table.now) a.out.now k.passed (omega (arith, told-words k.told k.gates, c.if-out-g.false))
+    (ap (λ (t : Tallied). t.counts) k.numbers) c.put_list.ensures

@@ -1,11 +1,8 @@
 -- `nb::netlists::nb_accept` meets its contract.
-use mathlib.Core.Path.{ap, ◌∙◌}
-use Rattle.nb.specs.Calls.{counts_answer}
+use mathlib.Core.Path.{sym, subst}
+use Rattle.nb.specs.Packing.{PacksCounts}
 use Rattle.nb.proofs.Bounds.{accept-packs}
 use Rattle.nb.proofs.netlists.nb_accept.Goals as goal
 
-pub both-requires : goal.both-requires
-both-requires c = let a = c.args in accept-packs a.width a.table.now a.list.now c.accept.ensures
-
-pub returns : goal.returns
-returns c = c.both.ensures ∙ ap counts_answer c.accept.ensures
+pub counts-requires : goal.counts-requires
+counts-requires c = let a = c.args in subst PacksCounts (sym c.accept.ensures) (accept-packs a.width a.table.now a.list.now)

@@ -1,11 +1,8 @@
 -- `nb::netlists::nb_counts_common` meets its contract.
-use mathlib.Core.Path.{ap, ◌∙◌}
-use Rattle.nb.specs.Calls.{counts_answer}
+use mathlib.Core.Path.{sym, subst}
+use Rattle.nb.specs.Packing.{PacksCounts}
 use Rattle.nb.proofs.Bounds.{common-packs}
 use Rattle.nb.proofs.netlists.nb_counts_common.Goals as goal
 
-pub both-requires : goal.both-requires
-both-requires c = let a = c.args in common-packs a.width a.table.now c.counts_common.ensures
-
-pub returns : goal.returns
-returns c = c.both.ensures ∙ ap counts_answer c.counts_common.ensures
+pub counts-requires : goal.counts-requires
+counts-requires c = let a = c.args in subst PacksCounts (sym c.gate_counts.ensures) (common-packs a.width a.table.now)

@@ -1,12 +1,8 @@
 -- `nb::tables::nb_ones` meets its contract.
-use mathlib.Core.Path.{ap, ◌∙◌}
-use Rattle.table.specs.declared.OnesAnswer.{OnesAnswer}
-use Rattle.nb.specs.Packing.{packed_answer}
+use mathlib.Core.Path.{sym, subst}
+use Rattle.nb.specs.Packing.{PacksValue}
 use Rattle.nb.proofs.Bounds.{ones-packs}
 use Rattle.nb.proofs.tables.nb_ones.Goals as goal
 
-pub answer-requires : goal.answer-requires
-answer-requires c = ones-packs _ _ c.ones-counted.ensures
-
-pub returns : goal.returns
-returns c = c.answer.ensures ∙ ap (λ (r : OnesAnswer). packed_answer r.fault r.ones 0) c.ones-counted.ensures
+pub value-requires : goal.value-requires
+value-requires c = let a = c.args in subst PacksValue (sym c.ones.ensures) (ones-packs a.width a.table.now)

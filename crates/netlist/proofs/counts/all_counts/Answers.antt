@@ -1,29 +1,23 @@
 -- `netlist::counts::all_counts` meets its contract.
-use mathlib.Core.Path.{sym, ◌∙◌}
-use Rattle.gf2.specs.Check.{Symmetric}
-use Rattle.table.specs.Rows.{Shaped}
-use Rattle.netlist.proofs.CallLaws.{table-passed, all-counted, all-refused}
+use mathlib.Core.Path.{sym, ap, ◌∙◌}
+use Rattle.std.specs.Prelude.{Ok}
+use Rattle.judging.proofs.CauseLaws.{handed_on, answer-given, answer-refused}
+use Rattle.netlist.proofs.CallLaws.{table-fine}
 use Rattle.netlist.proofs.counts.all_counts.Goals as goal
-use Rattle.netlist.proofs.counts.all_counts.Goals.{Then-is_none}
 
-passed : (c : Then-is_none) → let a = c.args in Shaped a.width a.table.now × Symmetric a.width a.table.now
-passed c = table-passed _ _ c.judge_symmetry-fault.ensures c.is_none.ensures c.if-is_none.true
+pub returns-in_err-judge_symmetry : goal.returns-in_err-judge_symmetry
+returns-in_err-judge_symmetry c =
+    handed_on c.from_residual.result c.from_residual.ensures.1 (answer-refused _ (sym c.judge_symmetry.ensures ∙ c.in_err-judge_symmetry.was))
 
-pub counted-plain-requires : goal.counted-plain-requires
-counted-plain-requires c = passed c
+pub numbers-requires : goal.numbers-requires
+numbers-requires c = table-fine _ _ (sym c.judge_symmetry.ensures ∙ c.in_ok-judge_symmetry.was)
 
-pub counted-reduced-requires : goal.counted-reduced-requires
-counted-reduced-requires c = passed (goal.at.counted-reduced-requires c).Then-is_none
+pub numbers-requires-2 : goal.numbers-requires-2
+numbers-requires-2 c = table-fine _ _ (sym c.judge_symmetry.ensures ∙ c.in_ok-judge_symmetry.was)
 
-pub counted-common-requires : goal.counted-common-requires
-counted-common-requires c = passed (goal.at.counted-common-requires c).Then-is_none
+pub numbers-requires-3 : goal.numbers-requires-3
+numbers-requires-3 c = table-fine _ _ (sym c.judge_symmetry.ensures ∙ c.in_ok-judge_symmetry.was)
 
-pub returns-then-is_none : goal.returns-then-is_none
-returns-then-is_none c =
-    let a = c.args in
-    all-counted a.width a.table.now c.counted-plain.ensures c.counted-reduced.ensures c.counted-common.ensures
-
-pub returns-else-is_none : goal.returns-else-is_none
-returns-else-is_none c =
-    let a = c.args in
-    all-refused a.width a.table.now c.judge_symmetry-fault.ensures (sym c.is_none.ensures ∙ c.if-is_none.false)
+pub returns : goal.returns
+returns c =
+    rw (c.numbers.ensures, c.numbers-2.ensures, c.numbers-3.ensures) (answer-given _ (sym c.judge_symmetry.ensures ∙ c.in_ok-judge_symmetry.was))

@@ -1,14 +1,16 @@
 -- `netlist::counts::tally` meets its contract.
-use mathlib.Core.Path.{sym, ◌∙◌}
-use Rattle.netlist.specs.Methods.{list_by, shared_by}
-use Rattle.netlist.proofs.CallLaws.{table-passed, tally-refused}
+use mathlib.Core.Path.{sym, ap, ◌∙◌}
+use Rattle.std.specs.Prelude.{Ok}
+use Rattle.judging.proofs.CauseLaws.{handed_on, answer-given, answer-refused}
+use Rattle.netlist.proofs.CallLaws.{table-fine}
 use Rattle.netlist.proofs.counts.tally.Goals as goal
 
-pub numbers-requires : goal.numbers-requires
-numbers-requires c = table-passed _ _ c.judge_symmetry-fault.ensures c.is_none.ensures c.if-is_none.true
+pub returns-in_err-judge_symmetry : goal.returns-in_err-judge_symmetry
+returns-in_err-judge_symmetry c =
+    handed_on c.from_residual.result c.from_residual.ensures.1 (answer-refused _ (sym c.judge_symmetry.ensures ∙ c.in_err-judge_symmetry.was))
 
-pub returns-else-is_none : goal.returns-else-is_none
-returns-else-is_none c =
-    let a = c.args in
-    tally-refused (list_by a.method a.width a.table.now) (shared_by a.method a.width a.table.now)
-    c.judge_symmetry-fault.ensures (sym c.is_none.ensures ∙ c.if-is_none.false)
+pub numbers-requires : goal.numbers-requires
+numbers-requires c = table-fine _ _ (sym c.judge_symmetry.ensures ∙ c.in_ok-judge_symmetry.was)
+
+pub returns : goal.returns
+returns c = ap Ok c.numbers.ensures ∙ answer-given _ (sym c.judge_symmetry.ensures ∙ c.in_ok-judge_symmetry.was)

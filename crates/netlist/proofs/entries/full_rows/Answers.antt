@@ -1,33 +1,25 @@
--- `netlist::entries::full_rows` meets its contract. The invariant: the all-ones rows before d are counted.
-use mathlib.Core.Path.{◌≡◌, sym, ap, ◌∙◌}
+-- `netlist::entries::full_rows` meets its contract.
+use mathlib.Core.Path.{◌≡◌, ◌∙◌}
+use mathlib.Core.Bool.{Bool}
 use Prim.Native.Nat.{ℕ}
 use native.Mathlib.Omega.{arith}
-use native.Mathlib.Numerals.{add-one}
-use Rattle.gf2.proofs.Sums.{sum-zero, sum-next}
-use Rattle.gf2.specs.Sums.{sum}
+use Rattle.std.proofs.Common.{rules, tests}
+use Rattle.std.proofs.lemmas.Iterator.{YieldsList-from_range}
+use Rattle.std.proofs.lemmas.Iterator.Consumers.{YieldsList-from_filter, count_from_yields_List}
+use Rattle.std.proofs.lemmas.List.Sums.{length-filter}
+use Rattle.std.specs.List.{range_with_len, count_by}
 use Rattle.gf2.specs.Tables.{row}
 use Rattle.netlist.specs.Lists.{all_ones, full_rows}
-use Rattle.gf2.proofs.Counts.{num}
+use Rattle.netlist.proofs.Ranges.{counted_below, few_below}
 use Rattle.netlist.proofs.entries.full_rows.Goals as goal
-use Rattle.netlist.proofs.entries.full_rows.Goals.{then-full_row, else-full_row}
-
-pub loop-d-init : goal.loop-d-init
-loop-d-init c = (omega arith, omega arith, sym (sum-zero _))
-
-pub loop-d-preserved : goal.loop-d-preserved
-loop-d-preserved c =
-    let a = c.args in
-    let w = c.loop-d in
-    let f : ℕ → ℕ = λ d. num (all_ones a.width (row a.width a.table.now d)) in
-    let e = ap (λ k. sum k f) (add-one w.d) ∙ sum-next f w.d in
-    elim c.if-full_row.branch [
-      | then-full_row t ↦ (omega arith, omega arith, omega (arith, e, t.n-is, ap num (sym c.full_row.ensures ∙ t.if-full_row.true), w.invariant.2))
-      | else-full_row t ↦ (omega arith, omega arith, omega (arith, e, t.n-is, ap num (sym c.full_row.ensures ∙ t.if-full_row.false), w.invariant.2))
-    ]
 
 pub returns : goal.returns
 unfolding full_rows
 returns c =
-    let w = c.loop-d in
-    let e : w.d ≡ c.args.width = omega arith in
-    (rw e at w.invariant.2, omega arith)
+    let a = c.args in
+    let p : ℕ → Bool = λ d. all_ones a.width (row a.width a.table.now d) in
+    let e : c.count.result ≡ count_by p (range_with_len 0 a.width) =
+    count_from_yields_List c.filter.result c.count.result c.count.ensures.ran
+    (YieldsList-from_filter _ p (YieldsList-from_range 0 a.width a.width c.filter.ensures.source (omega arith)) c.filter.ensures.closure (λ x b q k. search (rules, tests)))
+    ∙ length-filter p (range_with_len 0 a.width) in
+    (e ∙ counted_below p a.width, omega (arith, e, few_below p a.width))

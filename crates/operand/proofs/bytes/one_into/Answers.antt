@@ -1,13 +1,13 @@
 -- `operand::bytes::one_into` meets its contract.
-use Rattle.operand.proofs.CallLaws.{all-kept, all-filled, has-size, one_out}
+use mathlib.Core.Path.{sym, ◌∙◌}
+use Rattle.operand.proofs.CallLaws.{ends-kept, ends-filled, has-size, one_out}
 use Rattle.operand.proofs.bytes.one_into.Goals as goal
 
-pub returns-then-is_none : goal.returns-then-is_none
-returns-then-is_none c =
-    let old = c.args.res.now in
-    all-filled _ c.judge_size-fault.ensures c.is_none.ensures _ _ c.if-is_none.true (λ n.
-    let z = has-size _ old n in
-    one_out _ z.greatest z.size c.store.ensures c.low_limbs.ensures)
+pub returns-in_err-judge_sizes : goal.returns-in_err-judge_sizes
+returns-in_err-judge_sizes c = ends-kept c.from_residual.result _ _ c.from_residual.ensures.1 (sym c.in_err-judge_sizes.was ∙ c.judge_sizes.ensures)
 
-pub returns-else-is_none : goal.returns-else-is_none
-returns-else-is_none c = all-kept _ c.judge_size-fault.ensures c.is_none.ensures _ _ c.if-is_none.false
+pub returns : goal.returns
+returns c =
+    let e = sym c.judge_sizes.ensures ∙ c.in_ok-judge_sizes.was in
+    let z = has-size _ c.args.res.now e in
+    ends-filled _ _ (sym e) (one_out _ z.greatest z.size c.store.ensures c.low_limbs.ensures)

@@ -1,35 +1,37 @@
 -- `operand::bytes::solve_into` meets its contract.
-use mathlib.Core.Path.{ap}
-use mathlib.Core.Bool.{not}
-use mathlib.Core.Path.{◌≡◌, ◌∙◌}
+use mathlib.Core.Path.{◌≡◌, sym, ◌∙◌}
 use mathlib.Core.List.{[], ◌∷◌}
 use native.Mathlib.Omega.{arith}
 use Rattle.judging.specs.Causes.{judged}
 use Rattle.judging.specs.FaultTable.{high_bit, trace_is_one}
-use Rattle.judging.proofs.CauseLaws.{follows}
+use Rattle.judging.proofs.CauseLaws.{ends, follows}
 use Rattle.operand.specs.Causes.{solve_bytes_causes}
-use Rattle.operand.proofs.CallLaws.{all-kept, all-filled, ends-kept, size_causes, Sized, sized, trace-after, root-out}
+use Rattle.operand.proofs.CallLaws.{ends-kept, ends-filled, size_causes, Sized, sized, trace-after, root-out}
 use Rattle.operand.proofs.bytes.solve_into.Goals as goal
-use Rattle.operand.proofs.bytes.solve_into.Goals.{After-judge_solve-fault, Else-not-is_none}
+use Rattle.operand.proofs.bytes.solve_into.Goals.{After-judge_solve}
 
--- where the lengths have passed: what they are, and the fault of all causes
-sizes : (c : Else-not-is_none) → let a = c.args in Sized a.width a.c.now a.res.now
-sizes c = sized _ _ _ (judged (size_causes _ _ _) [] c.judge_sizes-sizes.ensures c.is_none.ensures c.if-not-is_none.false)
+-- lengths that have passed, and the verdict of all causes
+sizes : (c : After-judge_solve) → let a = c.args in Sized a.width a.c.now a.res.now
+sizes c = sized _ _ _ (sym c.judge_sizes.ensures ∙ c.in_ok-judge_sizes.was)
 
-whole : (c : After-judge_solve-fault) → let a = c.args in
-    c.judge_solve-fault.result ≡ judged (solve_bytes_causes a.width a.c.now a.res.now)
+whole : (c : After-judge_solve) → let a = c.args in c.judge_solve.result ≡ judged (solve_bytes_causes a.width a.c.now a.res.now)
 whole c =
-    follows (size_causes _ _ _) (high_bit _ _ ∷ trace_is_one _ _ ∷ []) c.judge_sizes-sizes.ensures c.is_none.ensures c.if-not-is_none.false
-    (c.judge_solve-fault.ensures ∙ trace-after _ _ _ (omega (arith, (let a = c.args in let t : Sized a.width a.c.now a.res.now = sized _ _ _ (judged (size_causes _ _ _) [] c.judge_sizes-sizes.ensures c.is_none.ensures c.if-not-is_none.false) in t).operand.size)))
+    follows (size_causes _ _ _) (high_bit _ _ ∷ trace_is_one _ _ ∷ []) c.judge_sizes.ensures c.in_ok-judge_sizes.was
+    (c.judge_solve.ensures ∙ trace-after _ _ _ (omega (arith, (sizes c).operand.size)))
 
-pub returns-then-not-is_none : goal.returns-then-not-is_none
-returns-then-not-is_none c = ends-kept (size_causes _ _ _) c.judge_sizes-sizes.ensures c.is_none.ensures (high_bit _ _ ∷ trace_is_one _ _ ∷ []) (ap not c.if-not-is_none.true) _ _
+pub returns-in_err-judge_sizes : goal.returns-in_err-judge_sizes
+returns-in_err-judge_sizes c =
+    ends-kept c.from_residual.result _ _ c.from_residual.ensures.1
+    (ends (size_causes _ _ _) (high_bit _ _ ∷ trace_is_one _ _ ∷ []) c.judge_sizes.ensures c.in_err-judge_sizes.was)
 
-pub returns-then-is_none : goal.returns-then-is_none
-returns-then-is_none c =
-    let z = sizes (goal.at.returns-then-is_none c).Else-not-is_none in
-    all-filled _ (whole (goal.at.returns-then-is_none c).After-judge_solve-fault) c.is_none-2.ensures _ _ c.if-is_none.true (λ n.
-    root-out z.operand z.room c.store.ensures c.slice_limbs.ensures c.root_limbs.ensures)
+pub returns-in_err-judge_solve : goal.returns-in_err-judge_solve
+returns-in_err-judge_solve c =
+    let e = c.from_residual-in_err-judge_solve in
+    ends-kept e.result _ _ e.ensures.1 (sym c.in_err-judge_solve.was ∙ whole (goal.at.returns-in_err-judge_solve c).After-judge_solve)
 
-pub returns-else-is_none : goal.returns-else-is_none
-returns-else-is_none c = all-kept _ (whole (goal.at.returns-else-is_none c).After-judge_solve-fault) c.is_none-2.ensures _ _ c.if-is_none.false
+pub returns : goal.returns
+returns c =
+    let s = (goal.at.returns c).After-judge_solve in
+    let z = sizes s in
+    ends-filled _ _ (sym c.in_ok-judge_solve.was ∙ whole s)
+    (root-out z.operand z.room c.store.ensures c.slice_limbs.ensures c.root_limbs.ensures)

@@ -1,12 +1,12 @@
 -- `operand::judge::judge_operand` meets its contract.
 use mathlib.Core.List.{[], ◌∷◌}
 use Rattle.judging.specs.FaultTable.{bad_width, high_bit}
-use Rattle.judging.proofs.CauseLaws.{ends, follows}
+use Rattle.judging.proofs.CauseLaws.{ends, follows, handed_on}
 use Rattle.operand.proofs.judge.judge_operand.Goals as goal
 
-pub returns-then-not-is_none : goal.returns-then-not-is_none
-returns-then-not-is_none c = ends (bad_width _ ∷ []) (high_bit _ _ ∷ []) c.judge_width-first.ensures c.is_none.ensures c.if-not-is_none.true
+pub returns-in_err-judge_width : goal.returns-in_err-judge_width
+returns-in_err-judge_width c =
+    handed_on c.from_residual.result c.from_residual.ensures.1 (ends (bad_width _ ∷ []) (high_bit _ _ ∷ []) (rw c.from-m.ensures at c.judge_width.ensures) c.in_err-judge_width.was)
 
 pub returns : goal.returns
-returns c =
-    follows (bad_width _ ∷ []) (high_bit _ _ ∷ []) c.judge_width-first.ensures c.is_none.ensures c.if-not-is_none.false c.judge_high.ensures
+returns c = rw c.from-m.ensures at (follows (bad_width _ ∷ []) (high_bit _ _ ∷ []) c.judge_width.ensures c.in_ok-judge_width.was c.judge_high.ensures)

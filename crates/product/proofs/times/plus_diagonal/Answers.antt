@@ -1,6 +1,16 @@
 -- `product::times::plus_diagonal` meets its contract.
-use Rattle.product.proofs.TimesLaws.{plus_none, plus-products}
+use Rattle.product.proofs.SoundOperands.{unwraps, unwrapped}
+use Rattle.product.proofs.TimesLaws.{plus_none, diagonal-made, plus-products}
 use Rattle.product.proofs.times.plus_diagonal.Goals as goal
+
+pub unwrap-diagonal-requires : goal.unwrap-diagonal-requires
+unwrap-diagonal-requires c = unwraps c.square.ensures (diagonal-made c.requires c.args.x c.args.y _ c.below_width-products.ensures)
+
+pub unwrap-requires : goal.unwrap-requires
+unwrap-requires c =
+    let a = c.args in
+    let square = unwrapped c.square.ensures (diagonal-made c.requires a.x a.y _ c.below_width-products.ensures) c.unwrap-diagonal.ensures in
+    unwraps c.sum.ensures (plus-products c.requires a.x a.y c.masked.ensures square)
 
 pub returns-in-Plain : goal.returns-in-Plain
 returns-in-Plain c =
@@ -8,5 +18,6 @@ returns-in-Plain c =
 
 pub returns-in-Reduced : goal.returns-in-Reduced
 returns-in-Reduced c =
-    rw c.in-Reduced.is
-    (plus-products c.requires c.args.x c.args.y c.masked.ensures c.below_width-products.ensures c.square-diagonal.ensures c.sum-sum.ensures)
+    let a = c.args in
+    let square = unwrapped c.square.ensures (diagonal-made c.requires a.x a.y _ c.below_width-products.ensures) c.unwrap-diagonal.ensures in
+    rw c.in-Reduced.is (unwrapped c.sum.ensures (plus-products c.requires a.x a.y c.masked.ensures square) c.unwrap.ensures)

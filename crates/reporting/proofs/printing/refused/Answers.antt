@@ -1,4 +1,5 @@
 use Rattle.std.proofs.Common.{[], ◌∷◌, ap, ◌∙◌}
+use Rattle.judging.specs.declared.fault.FaultNumber.{FaultNumber}
 use Rattle.reporting.specs.Text.{ascii, line}
 use Rattle.reporting.specs.Steps.{appended}
 use Rattle.reporting.specs.Report.{refusal}
@@ -6,4 +7,4 @@ use Rattle.reporting.proofs.printing.refused.Goals as goal
 
 pub returns : goal.returns
 unfolding refusal
-returns c = c.append_line.ensures ∙ ap (λ n. appended c.args.text (line (ascii "refused") (n ∷ []))) c.number-number.ensures.0
+returns c = c.append_line.ensures ∙ ap (λ (n : FaultNumber). appended c.args.text (line (ascii "refused") (n.0 ∷ []))) c.number.ensures

@@ -1,6 +1,5 @@
 use Rattle.std.proofs.Common.{sym, ap, ◌∙◌}
 use Rattle.judging.specs.declared.fault.Fault.TheVariants.{Length}
-use Rattle.card.specs.declared.CardAnswer.{CardAnswer}
 use Rattle.reporting.specs.Report.{refusal}
 use Rattle.reporting.specs.Steps.{appended}
 use Rattle.reporting.proofs.Reports.{long-report, refused-report, table-read}
@@ -16,19 +15,20 @@ returns-then-card-gt-INPUT_LIMIT c =
 
 pub front_report-requires : goal.front_report-requires
 front_report-requires c =
-    (table-read c.args.card.now c.if-card-gt-INPUT_LIMIT.false (λ b. (c.type_inv.card b).fits) c.read-answer.ensures.answer c.read-answer.ensures.table (sym c.is_none.ensures ∙ c.if-is_none.true)).in_front
+    let e = c.read.ensures in
+    (table-read c.args.card.now c.if-card-gt-INPUT_LIMIT.false (λ b. (c.type_inv.card b).fits) (sym c.in-Ok.is ∙ e.answer) e.table).in_front
 
-pub returns-then-is_none : goal.returns-then-is_none
-returns-then-is_none c =
+pub returns-in-Ok : goal.returns-in-Ok
+returns-in-Ok c =
     let s = c.args.card.now in
-    let read = table-read s c.if-card-gt-INPUT_LIMIT.false (λ b. (c.type_inv.card b).fits) c.read-answer.ensures.answer c.read-answer.ensures.table (sym c.is_none.ensures ∙ c.if-is_none.true) in
+    let e = c.read.ensures in
+    let read = table-read s c.if-card-gt-INPUT_LIMIT.false (λ b. (c.type_inv.card b).fits) (sym c.in-Ok.is ∙ e.answer) e.table in
     let w = whole s (λ b. (c.type_inv.card b).fits) c.front_report.ensures read.reported in
     record { text = w.0; fits = w.1 }
 
-pub returns-else-is_none : goal.returns-else-is_none
-returns-else-is_none c =
+pub returns-in-Err : goal.returns-in-Err
+returns-in-Err c =
     let s = c.args.card.now in
-    let text = c.refused-else-is_none.ensures ∙ ap (λ t. appended t (refusal c.read-answer.result.fault)) c.empty-else-is_none.ensures in
-    let fault = ap (λ (a : CardAnswer). a.fault) c.read-answer.ensures.answer in
-    let w = whole s (λ b. (c.type_inv.card b).fits) text (refused-report s c.if-card-gt-INPUT_LIMIT.false fault (sym c.is_none.ensures ∙ c.if-is_none.false)) in
+    let text = c.refused-in-Err.ensures ∙ ap (λ t. appended t (refusal c.in-Err.fault)) c.empty-in-Err.ensures in
+    let w = whole s (λ b. (c.type_inv.card b).fits) text (refused-report s c.if-card-gt-INPUT_LIMIT.false (sym c.in-Err.is ∙ c.read.ensures.answer)) in
     record { text = w.0; fits = w.1 }

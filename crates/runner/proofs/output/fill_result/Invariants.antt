@@ -1,7 +1,5 @@
 -- `runner::output::fill_result` meets its contract. The invariant: the first b bytes are stored.
-use mathlib.Core.Path.{◌≡◌}
-use Prim.Native.Nat.{◌+◌, ◌-◌, ◌*◌}
-use lib.ListN.{length}
+use Prim.Native.Nat.{◌+◌, ◌*◌}
 use Rattle.gf2.specs.Coordinates.{value}
 use Rattle.gf2.specs.Operands.{bytes_for, below}
 use Rattle.gf2.proofs.Loops.{Filled}
@@ -9,7 +7,4 @@ use Rattle.runner.specs.Inner.{on_output}
 use Rattle.runner.proofs.output.fill_result.Given as goal
 
 abbrev pub invariant-loop-b : goal.invariant-loop-b
-invariant-loop-b l = Filled (bytes_for l.width) (λ b'. value 8 (λ j. below l.width (on_output l.wires l.list) (b' * 8 + j))) l.initial.res l.res l.b × (length l.res ≡ length l.initial.res)
-
-abbrev pub decreases-loop-b : goal.decreases-loop-b
-decreases-loop-b l = length l.initial.res - l.b
+invariant-loop-b l = Filled (bytes_for l.width) (λ b'. value 8 (λ j. below l.width (on_output l.wires l.list) (b' * 8 + j))) l.initial.res l.res l.b

@@ -1,13 +1,10 @@
 -- `runner::output::output_byte` meets its contract. The invariant: the byte has its first j bits.
 use mathlib.Core.Path.{◌≡◌}
-use Prim.Native.Nat.{◌+◌, ◌-◌, ◌*◌, ◌≤◌}
+use Prim.Native.Nat.{◌+◌, ◌*◌}
 use Rattle.gf2.specs.Coordinates.{value}
 use Rattle.gf2.specs.Operands.{below}
 use Rattle.runner.specs.Inner.{on_output}
 use Rattle.runner.proofs.output.output_byte.Given as goal
 
 abbrev pub invariant-loop-j : goal.invariant-loop-j
-invariant-loop-j l = (l.j ≤ 8) × (l.byte ≡ value l.j (λ j'. below l.width (on_output l.wires l.list) (l.b * 8 + j')))
-
-abbrev pub decreases-loop-j : goal.decreases-loop-j
-decreases-loop-j l = 8 - l.j
+invariant-loop-j l = l.byte ≡ value l.j (λ j'. below l.width (on_output l.wires l.list) (l.b * 8 + j'))

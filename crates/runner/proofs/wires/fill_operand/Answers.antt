@@ -1,14 +1,13 @@
 -- `runner::wires::fill_operand` meets its contract. The invariant: the first i coordinates are stored.
 use mathlib.Core.Path.{◌≡◌, refl}
 use native.Mathlib.Omega.{arith}
-use lib.ListN.{length-set}
 use Rattle.gf2.specs.Coordinates.{coord, tabulate}
 use Rattle.netlist.proofs.StoreLaws.{stored_more}
 use Rattle.runner.proofs.wires.fill_operand.Goals as goal
 
 pub loop-i-init : goal.loop-i-init
 unfolding tabulate
-loop-i-init c = (omega arith, refl, refl)
+loop-i-init c = refl
 
 pub bounds-wires-at : goal.bounds-wires-at
 bounds-wires-at c = omega arith
@@ -17,13 +16,10 @@ pub loop-i-preserved : goal.loop-i-preserved
 loop-i-preserved c =
     let a = c.args in
     let w = c.loop-i in
-    (omega arith, rw w.invariant.1 (stored_more a.wires.now a.at w.i (coord a.bytes.now) _ c.coordinate.ensures), simp length-set w.invariant.2)
-
-pub shape_of-wires : goal.shape_of-wires
-shape_of-wires c = c.loop-i.invariant.2
+    rw w.invariant (stored_more a.wires.now a.at w.i (coord a.bytes.now) _ c.coordinate.ensures)
 
 pub returns : goal.returns
 returns c =
     let w = c.loop-i in
     let e : w.i ≡ c.args.width = omega arith in
-    rw e at w.invariant.1
+    rw e at w.invariant

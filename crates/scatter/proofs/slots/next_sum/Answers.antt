@@ -1,6 +1,7 @@
 -- `scatter::slots::next_sum` meets its contract.
 use mathlib.Core.Path.{sym, ◌∙◌}
 use native.Mathlib.Omega.{arith}
+use borrow.Author.Rules.{rules}
 use Rattle.gf2.proofs.Loops.{filled_none, filled_more}
 use Rattle.scatter.specs.Cells.{twice_limbs}
 use Rattle.scatter.proofs.MoveLaws.{before-first, before-next, next-limb}
@@ -25,7 +26,7 @@ loop-w-preserved c =
       before-next a.x l.w,
       filled_more l.invariant.1 (twice-false a.m l.w l.invariant.1.within (omega arith) (sym c.ends_twice.ensures ∙ c.if-ends_twice.false))
           (omega (arith, twice_most a.m))
-          (next-limb a.x a.g.now a.r l.w l.invariant.0 c.raise_pair.ensures (c.shared_slice_known-in-loop-w-1.given _).fits),
+          (next-limb a.x a.g.now a.r l.w l.invariant.0 c.raise_pair.ensures (search rules)),
     )
 
 pub returns : goal.returns

@@ -9,14 +9,12 @@ pub returns-then-g-ne-ROOM : goal.returns-then-g-ne-ROOM
 returns-then-g-ne-ROOM c = let a = c.args in spread-missing a.g.now twice_limbs a.m c.if-g-ne-ROOM.true
 
 pub loop-r-init : goal.loop-r-init
-loop-r-init c = let a = c.args in (omega arith, spread_none a.g.now twice_limbs a.m)
+loop-r-init c = let a = c.args in spread_none a.g.now twice_limbs a.m
 
 pub loop-r-preserved : goal.loop-r-preserved
 loop-r-preserved c = let l = c.loop-r in
-    let a = c.args in (
-      omega arith,
-      spread-more a.g.now twice_limbs a.m (l.r - 1) (omega (arith, c.loop-r-test.true)) (omega arith) (twice_most a.m) l.invariant.1 c.next_sum-next.ensures,
-    )
+    let a = c.args in
+    spread-more a.g.now twice_limbs a.m (l.r - 1) (omega arith) (omega arith) (twice_most a.m) l.invariant c.next_sum-next.ensures
 
 pub returns : goal.returns
-returns c = let a = c.args in spread-all a.g.now twice_limbs a.m c.if-g-ne-ROOM.false (omega arith) c.loop-r.invariant.1
+returns c = let a = c.args in spread-all a.g.now twice_limbs a.m c.if-g-ne-ROOM.false (omega arith) c.loop-r.invariant

@@ -3,6 +3,7 @@ use mathlib.Core.Path.{ap₂, ◌∙◌}
 use Prim.Native.Nat.{◌-◌, ◌%◌}
 use native.Mathlib.Omega.{arith}
 use lib.Bits.{bit_xor}
+use borrow.Author.Rules.{rules}
 use Rattle.gf2.proofs.Loops.{filled_none, filled_more, filled-all}
 use Rattle.limbs.proofs.RaisedLimbs.{pair_from}
 use Rattle.scatter.specs.Cells.{twice_limbs}
@@ -17,4 +18,4 @@ loop-w-preserved c = filled_more c.loop-w.invariant (omega arith) (omega arith) 
     (c.raise_pair.ensures ∙ ap₂ (pair_from (64 - c.args.m % 64)) c.limb_below-low.ensures c.limb_below-high.ensures))
 
 pub returns : goal.returns
-returns c = filled-all c.loop-w.invariant (omega arith) (omega arith) ∙ twice-limbs twice_limbs _ _ (λ k. (c.shared_slice_known-1.given k).fits)
+returns c = filled-all c.loop-w.invariant (omega arith) (omega arith) ∙ twice-limbs twice_limbs _ _ (λ k. search rules)

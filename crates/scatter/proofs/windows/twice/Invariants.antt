@@ -1,5 +1,4 @@
 -- `scatter::windows::twice` meets its contract.
-use Prim.Native.Nat.{◌-◌}
 use lib.Bits.{bit_xor}
 use Rattle.gf2.proofs.Loops.{Filled}
 use Rattle.limbs.proofs.RaisedLimbs.{limb_of}
@@ -9,6 +8,3 @@ use Rattle.scatter.proofs.windows.twice.Given as goal
 
 abbrev pub invariant-loop-w : goal.invariant-loop-w
 invariant-loop-w l = Filled twice_limbs (λ k. bit_xor (limb_of l.x k) (raised_limb l.x l.m k)) l.initial.out l.out l.w
-
-abbrev pub decreases-loop-w : goal.decreases-loop-w
-decreases-loop-w l = twice_limbs - l.w

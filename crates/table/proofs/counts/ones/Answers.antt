@@ -1,30 +1,18 @@
 -- `table::counts::ones` meets its contract.
-use Rattle.std.specs.Prelude.{is_ok}
-use mathlib.Core.Path.{◌≡◌, ◌∙◌}
-use mathlib.Core.Bool.{true}
-use mathlib.Core.List.{[]}
-use Rattle.judging.specs.FaultTable.{shape_causes}
-use Rattle.table.specs.Judgements.{shape_verdict}
-use Rattle.table.specs.Calls.{ones_call}
-use Rattle.table.proofs.Shapes.{shaped}
+use mathlib.Core.Path.{ap₂, ◌∙◌}
+use Rattle.gf2.specs.Tables.{ones_in}
+use Rattle.judging.specs.Causes.{answered}
+use Rattle.judging.proofs.CauseLaws.{handed_on, verdict_err, verdict_ok}
 use Rattle.table.proofs.TableOnes.{ones_small}
 use Rattle.table.proofs.counts.ones.Goals as goal
-use Rattle.table.proofs.counts.ones.Goals.{Then-is_ok}
 
--- where the shape has passed
-none : (c : Then-is_ok) → let a = c.args in is_ok (shape_verdict a.width a.table.now) ≡ true
-none c = let a = c.args in judged (shape_causes a.width a.table.now) [] c.judge_shape-fault.ensures c.is_ok.ensures c.if-is_ok.true
+pub returns-in_err-table : goal.returns-in_err-table
+unfolding answered
+returns-in_err-table c = handed_on c.from_residual.result c.from_residual.ensures.1 (rw (verdict_err c.new.ensures.verdict c.in_err-table.was))
 
-pub returns-then-is_ok : goal.returns-then-is_ok
-unfolding ones_call
-returns-then-is_ok c =
-    let e = none (goal.at.returns-then-is_ok c).Then-is_ok in
-    let is = shaped (λ k. (c.shared_slice_known-1.given k).fits) e in
-    let a = c.args in
-    rw (c.ones_of.ensures ∙ ones_small a.width a.table.now is.greatest is.is_table, c.judge_shape-fault.ensures, e)
-
-pub returns-else-is_ok : goal.returns-else-is_ok
-unfolding ones_call
-returns-else-is_ok c =
-    let a = c.args in
-    rw (c.judge_shape-fault.ensures, judged (shape_causes a.width a.table.now) [] c.judge_shape-fault.ensures c.is_ok.ensures c.if-is_ok.false)
+pub returns : goal.returns
+unfolding answered
+returns c =
+    let t = c.in_ok-table.table in
+    let same = c.in_ok-table.ensures.same in
+    rw (c.ones_of.ensures ∙ ones_small t.width t.bytes.now t.shaped.greatest t.shaped.is_table ∙ ap₂ ones_in same.0 same.1, verdict_ok c.new.ensures.verdict c.in_ok-table.was)

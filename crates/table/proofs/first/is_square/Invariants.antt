@@ -1,14 +1,9 @@
 -- `table::first::is_square` meets its contract.
-use Prim.Native.Nat.{◌-◌, ◌≤◌}
 use Rattle.gf2.specs.Coordinates.{coord}
 use Rattle.gf2.specs.Operands.{minus}
-use Rattle.limbs.specs.Limbs.{carried_limbs}
 use Rattle.table.proofs.Comparing.{AgreeTo}
 use Rattle.table.proofs.Squares.{Carry}
 use Rattle.table.proofs.first.is_square.Given as goal
 
 abbrev pub invariant-loop-w : goal.invariant-loop-w
-invariant-loop-w l = (l.w ≤ carried_limbs) × Carry l.m l.s l.w l.previous × AgreeTo l.m l.x (λ i. coord l.s (minus l.m i 1)) l.w
-
-abbrev pub decreases-loop-w : goal.decreases-loop-w
-decreases-loop-w l = carried_limbs - l.w
+invariant-loop-w l = Carry l.m l.s l.w l.previous × AgreeTo l.m l.x (λ i. coord l.s (minus l.m i 1)) l.w

@@ -10,7 +10,7 @@ use Rattle.table.proofs.first.last_high.Goals as goal
 pub overflow_cast-result : goal.overflow_cast-result
 overflow_cast-result c =
     let a = c.args in
-    omega (arith, c.shared_slice_known-1.given ((a.m - 1) / 8), shr_le (get_or a.s.now ((a.m - 1) / 8) 0) ((a.m - 1) % 8))
+    omega (arith, c.type_inv.s ((a.m - 1) / 8), shr_le (get_or a.s.now ((a.m - 1) / 8) 0) ((a.m - 1) % 8))
 
 pub returns : goal.returns
 unfolding coord

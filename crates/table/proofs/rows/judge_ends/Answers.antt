@@ -20,14 +20,14 @@ whole : (c : After-loop-d) → let a = c.args in c.loop-d.all ≡ ored a.width (
 whole c =
     let a = c.args in
     let e : c.loop-d.d ≡ a.width = omega arith in
-    c.loop-d.invariant.1 ∙ ap (λ n. ored n (last_byte a.width a.table.now)) e
+    c.loop-d.invariant ∙ ap (λ n. ored n (last_byte a.width a.table.now)) e
 
 pub returns-then-used-eq0 : goal.returns-then-used-eq0
 returns-then-used-eq0 c =
     sym (rows-done _ _ (every_of c.args.width _ (λ d l. clear_whole _ _ (row-length _ d _ c.requires.1 l) c.if-used-eq0.true)))
 
 pub loop-d-init : goal.loop-d-init
-loop-d-init c = (omega arith, ored-none _)
+loop-d-init c = ored-none _
 
 pub overflow_mul-all : goal.overflow_mul-all
 overflow_mul-all c = omega (arith, within c)
@@ -41,11 +41,11 @@ bounds-table-d c = within (goal.at.bounds-table-d c).In-loop-d
 pub loop-d-preserved : goal.loop-d-preserved
 loop-d-preserved c =
     let a = c.args in
-    (omega arith, ap (λ n. bit_or c.loop-d.all (get_or a.table.now (c.loop-d.d * n + a.width / 8) 0)) c.bytes_for-size.ensures ∙ ored-more _ _ _ c.loop-d.invariant.1)
+    ap (λ n. bit_or c.loop-d.all (get_or a.table.now (c.loop-d.d * n + a.width / 8) 0)) c.bytes_for-size.ensures ∙ ored-more _ _ _ c.loop-d.invariant
 
 pub returns-then-all-used-ne0 : goal.returns-then-all-used-ne0
 returns-then-all-used-ne0 c =
-    sym (ends-broken _ _ c.requires.1 c.if-used-eq0.false (λ k. (c.shared_slice_known-1.given k).fits) (λ z.
+    sym (ends-broken _ _ c.requires.1 c.if-used-eq0.false (λ k. (c.type_inv.table k).fits) (λ z.
     c.if-all-used-ne0.true (ap (λ y. y / 2 ^ (c.args.width % 8)) (whole (goal.at.returns-then-all-used-ne0 c).After-loop-d) ∙ z)))
 
 pub returns : goal.returns

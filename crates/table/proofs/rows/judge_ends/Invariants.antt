@@ -1,12 +1,8 @@
 -- `table::rows::judge_ends` meets its contract.
 use mathlib.Core.Path.{◌≡◌}
-use Prim.Native.Nat.{◌-◌, ◌≤◌}
 use Rattle.limbs.proofs.LimbLoops.{ored}
 use Rattle.table.proofs.Shapes.{last_byte}
 use Rattle.table.proofs.rows.judge_ends.Given as goal
 
 abbrev pub invariant-loop-d : goal.invariant-loop-d
-invariant-loop-d l = (l.d ≤ l.width) × (l.all ≡ ored l.d (last_byte l.width l.table))
-
-abbrev pub decreases-loop-d : goal.decreases-loop-d
-decreases-loop-d l = l.width - l.d
+invariant-loop-d l = l.all ≡ ored l.d (last_byte l.width l.table)

@@ -14,10 +14,10 @@ use borrow.Author.Rules.{rules}
 use Rattle.table.proofs.symmetry.same_bytes.Goals as goal
 
 pub loop-w-init : goal.loop-w-init
-loop-w-init c = (omega arith, ored-none _)
+loop-w-init c = ored-none _
 
 pub loop-w-preserved : goal.loop-w-preserved
-loop-w-preserved c = (omega arith, ored-more _ _ _ c.loop-w.invariant.1)
+loop-w-preserved c = ored-more _ _ _ c.loop-w.invariant
 
 pub returns : goal.returns
 returns c =
@@ -28,6 +28,6 @@ returns c =
     let sy : length s.y ≡ carried_bytes = search rules in
     let bx : (k : ℕ) → Fits w8 (get_or s.x k 0) = λ k. search rules in
     let by : (k : ℕ) → Fits w8 (get_or s.y k 0) = λ k. search rules in
-    ap (λ n. eqb n 0) (l.invariant.1 ∙ ap (λ n. ored n (apart c.to_limbs-p.result c.to_limbs-q.result)) e
+    ap (λ n. eqb n 0) (l.invariant ∙ ap (λ n. ored n (apart c.to_limbs-p.result c.to_limbs-q.result)) e
     ∙ ap₂ (λ x y. ored carried_limbs (apart x y)) c.to_limbs-p.ensures c.to_limbs-q.ensures)
     ∙ same-limbs s.x s.y sx sy (λ k. (bx k).fits) (λ k. (by k).fits)

@@ -1,13 +1,8 @@
 -- `table::symmetry::same_bytes` meets its contract.
 use mathlib.Core.Path.{◌≡◌}
-use Prim.Native.Nat.{◌-◌, ◌≤◌}
-use Rattle.limbs.specs.Limbs.{carried_limbs}
 use Rattle.limbs.proofs.LimbLoops.{ored}
 use Rattle.table.proofs.Comparing.{apart}
 use Rattle.table.proofs.symmetry.same_bytes.Given as goal
 
 abbrev pub invariant-loop-w : goal.invariant-loop-w
-invariant-loop-w l = (l.w ≤ carried_limbs) × (l.apart ≡ ored l.w (apart l.p l.q))
-
-abbrev pub decreases-loop-w : goal.decreases-loop-w
-decreases-loop-w l = carried_limbs - l.w
+invariant-loop-w l = l.apart ≡ ored l.w (apart l.p l.q)

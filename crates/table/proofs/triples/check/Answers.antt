@@ -1,23 +1,20 @@
 -- `table::triples::check` meets its contract.
-use mathlib.Core.Path.{ap}
-use mathlib.Core.Bool.{not}
+use mathlib.Core.Path.{refl, ap₂, ◌∙◌}
 use Rattle.judging.specs.FaultTable.{symmetry_causes, triple_causes}
-use Rattle.table.proofs.Parts.{Part, stopped, passed, further-fault}
-use Rattle.table.proofs.Theorems.{symmetry}
-use borrow.Author.Rules.{rules}
+use Rattle.judging.proofs.CauseLaws.{ends, follows, handed_on, verdict_err, verdict_ok}
+use Rattle.table.specs.Judgements.{triple_verdict}
 use Rattle.table.proofs.triples.check.Goals as goal
-use Rattle.table.proofs.triples.check.Goals.{After-is_none}
 
 -- 1 to 5, then 6
-part : (c : After-is_none) → let a = c.args in
-    Part (symmetry_causes a.width a.table.now) (triple_causes a.width a.table.now) c.judge_symmetry-fault.result c.is_none.result
-part c = record { given = c.judge_symmetry-fault.ensures; tested = c.is_none.ensures }
-
-pub returns-then-not-is_none : goal.returns-then-not-is_none
-returns-then-not-is_none c = stopped (part (goal.at.returns-then-not-is_none c).After-is_none) (ap not c.if-not-is_none.true)
-
-pub judge_triples-requires : goal.judge_triples-requires
-judge_triples-requires c = (symmetry _ _).0 (none_is _ (passed (part (goal.at.judge_triples-requires c).After-is_none) (ap not c.if-not-is_none.false)))
+pub returns-in_err-new : goal.returns-in_err-new
+returns-in_err-new c =
+    let a = c.args in
+    handed_on c.from_residual.result c.from_residual.ensures.1
+    (ends (symmetry_causes a.width a.table.now) (triple_causes a.width a.table.now) refl (verdict_err c.new.ensures.verdict c.in_err-new.was))
 
 pub returns : goal.returns
-returns c = further-fault (part (goal.at.returns c).After-is_none) (ap not c.if-not-is_none.false) (search rules)
+returns c =
+    let a = c.args in
+    let same = c.in_ok-new.ensures.same in
+    follows (symmetry_causes a.width a.table.now) (triple_causes a.width a.table.now) refl (verdict_ok c.new.ensures.verdict c.in_ok-new.was)
+    (c.judge_triples.ensures ∙ ap₂ triple_verdict same.0 same.1)

@@ -1,0 +1,1 @@
+-- `turns::moves::moved_bits` meets its contract.
