@@ -42,7 +42,12 @@ fn same_row(width: usize, table: &[u8], squares: &[u64], k: usize, r: usize, i: 
     requires { Shaped width table.now × (width ≤ most_width) × HasSets squares.now × (k < most_gates) × (r < width) × (i < width) }
     ensures { result ≡ every width (λ j. eqb (bit_at squares.now k i j) (wanted width table.now r i j)) }
 {
-    (0..width).all(|j| in_set(squares, k, i, j) == is_wanted(width, table, r, i, j))
+    for j in 0..width {
+        if in_set(squares, k, i, j) != is_wanted(width, table, r, i, j) {
+            return false;
+        }
+    }
+    true
 }
 
 // The square of gate k, as far as the width goes.

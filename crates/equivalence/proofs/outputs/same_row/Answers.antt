@@ -1,15 +1,28 @@
--- `equivalence::outputs::same_row` meets its contract.
-use mathlib.Core.Bool.{Bool}
-use Prim.Native.Nat.{ℕ}
+-- `equivalence::outputs::same_row` meets its contract. The invariant: the products before j agree.
+use mathlib.Core.Path.{◌≡◌, sym, ap₂, ◌∙◌}
+use native.Mathlib.Omega.{arith}
 use lib.Dec.{eqb}
-use Rattle.std.proofs.Common.{rules, tests}
-use Rattle.netlist.specs.Sets.{wanted}
-use Rattle.netlist.proofs.Ranges.{every-from_all}
-use Rattle.equivalence.specs.Inner.{bit_at}
+use borrow.Author.Tests.{eq-eqb, ne_eqb}
+use Rattle.gf2.proofs.Sums.{every-none, every_more, every-not}
 use Rattle.equivalence.proofs.outputs.same_row.Goals as goal
+
+pub loop-j-init : goal.loop-j-init
+loop-j-init c = every-none _
+
+pub in_set-requires : goal.in_set-requires
+in_set-requires c = let p = c.requires in (p.2, p.3, omega arith, omega arith)
+
+pub is_wanted-requires : goal.is_wanted-requires
+is_wanted-requires c = let p = c.requires in (p.0, p.1, p.4, p.5, omega arith)
+
+pub returns-then-in_set-is_wanted : goal.returns-then-in_set-is_wanted
+returns-then-in_set-is_wanted c = sym (every-not _ _ c.loop-j.j c.loop-j-test.true (sym (ap₂ eqb c.in_set.ensures c.is_wanted.ensures) ∙ ne_eqb _ _ c.if-in_set-is_wanted.true))
+
+pub loop-j-preserved : goal.loop-j-preserved
+loop-j-preserved c = every_more _ _ c.loop-j.invariant (sym (ap₂ eqb c.in_set.ensures c.is_wanted.ensures) ∙ eq-eqb _ _ c.if-in_set-is_wanted.false)
 
 pub returns : goal.returns
 returns c =
-    let a = c.args in
-    let same : ℕ → Bool = λ j. eqb (bit_at a.squares.now a.k a.i j) (wanted a.width a.table.now a.r a.i j) in
-    every-from_all same a.width _ _ _ c.all.ensures.ran (λ x b q k. search (rules, tests))
+    let w = c.loop-j in
+    let e : w.j ≡ c.args.width = omega arith in
+    sym (rw e at w.invariant)
