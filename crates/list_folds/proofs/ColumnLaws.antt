@@ -1,7 +1,7 @@
 -- Laws of the columns: a bit stored, row after row, the next one of a column, and the first ones after limbs.
 use Rattle.std.proofs.Common.{min}
-use mathlib.Core.Path.{◌≡◌, refl, sym, ap, ap₂, ◌∙◌, subst}
-use mathlib.Core.Bool.{Bool, true, false}
+use mathlib.Core.Path.{◌≡◌, refl, sym, ap, ap₂, ◌∙◌}
+use mathlib.Core.Bool.{true, false}
 use mathlib.Core.List.{List}
 use Prim.Native.Nat.{ℕ, zero, suc, ◌+◌, ◌-◌, ◌*◌, ◌/◌, ◌%◌, ◌^◌, ◌<◌, ◌≤◌}
 use native.Mathlib.Nat.{zero-div, lt_of_le_of_lt, lt_of_lt_of_le, div-eq_of_lt, div-one, zero-add, mod-eq_of_lt}
@@ -16,7 +16,7 @@ use lib.Pow.{shr-shr, shr_le, pow_mono}
 use lib.Count.{count_trailing_zeros}
 use Rattle.gf2.specs.Sums.{sum}
 use Rattle.gf2.specs.Coordinates.{coord}
-use Rattle.gf2.specs.Operands.{max_width, below, choose}
+use Rattle.gf2.specs.Operands.{max_width, below}
 use Rattle.gf2.specs.Tables.{row}
 use Rattle.gf2.proofs.Coordinates.{xor-bit, shl-bit, shl-bit-out, coord-lt}
 use Rattle.gf2.proofs.Sums.{sum-ext, sum-clear, sum-bits, sum-next}
@@ -31,7 +31,6 @@ use Rattle.netlist.specs.Lists.{all_ones}
 use Rattle.gf2.proofs.Counts.{sum_ones}
 use Rattle.netlist.proofs.ListLaws.{ones-at, ones-of}
 use Rattle.list_folds.specs.declared.columns.Rows.{Rows}
-use Rattle.list_folds.specs.TableFolds.{keeps, kept_bit}
 use Rattle.list_folds.specs.Columns.{bit_from, is_set, Columns, Successor, FirstFrom, Firsts}
 
 -- a bit v at place p, where there was 0
@@ -157,27 +156,6 @@ module _ {rows : Rows} {m : ℕ} {table : List ℕ} {d : ℕ} {old : List ℕ} (
     pub row-after : {s n : ℕ} → n ≡ next_one x s → s ≤ n
     row-after {s} q = (next_known x s q).above
 
-  pub row-end : {s : ℕ} {columns : List ℕ} → m ≤ s → RowTo m table d s old columns → RowTo m table d m old columns
-  row-end h c = record { size = c.size; others = c.others; here = λ u lu l. c.here u lu (omega arith); rest = λ u lu l. absurd (omega arith) }
-
-  -- row d is done where its bits are those kept and the others as they were
-  done-with : {columns : List ℕ} → length columns ≡ length old → ((u e : ℕ) → u < m → e < m → (e ≡ d → ⊥) → bit_from columns (u * carried_limbs) e ≡ bit_from old (u * carried_limbs) e) →
-      ((u : ℕ) → u < m → bit_from columns (u * carried_limbs) d ≡ kept_bit rows m table d u) → Columns rows m table (d + 1) columns
-  done-with {columns} size others here = record {
-    room = record { least = z.room.least; greatest = z.room.greatest; room = omega (arith, size, z.room.room) };
-    kept = λ s e ls le h. elim (dec_lt e d) [
-      | yes l ↦ others s e ls le (λ q. omega arith) ∙ z.kept s e ls le l
-      | no l ↦ let same : e ≡ d = omega arith in ap (bit_from columns (s * carried_limbs)) same ∙ here s ls ∙ ap (λ e. kept_bit rows m table e s) (sym same)
-    ];
-    blank = λ s e ls le h. others s e ls le (λ q. omega arith) ∙ z.blank s e ls le (omega arith);
-  }
-
-  pub row_done : {columns : List ℕ} → keeps rows m table d ≡ true → RowTo m table d m old columns → Columns rows m table (d + 1) columns
-  row_done k c = done-with c.size c.others (λ s l. c.here s l l ∙ sym (ap (λ b. choose b (coord (row m table d) s) 0) k))
-
-  pub row-skipped : keeps rows m table d ≡ false → Columns rows m table (d + 1) old
-  row-skipped k = done-with refl (λ s e ls le n. refl) (λ s l. z.blank s d l ld (omega arith) ∙ sym (ap (λ b. choose b (coord (row m table d) s) 0) k))
-
 pub columns-none : (rows : Rows) (m : ℕ) (table : List ℕ) → 2 ≤ m → m ≤ max_width → Columns rows m table 0 (replicate (max_width * carried_limbs) 0)
 columns-none rows m table two most = record {
   room = record { least = two; greatest = most; room = rw (length-replicate {A = ℕ} (max_width * carried_limbs) 0) (omega arith) };
@@ -285,29 +263,6 @@ module _ (columns : List ℕ) (k : ℕ) where
 
       least : 64 * k + count_trailing_zeros 64 (left_of columns 0 (64 * k)) ≡ min (64 * length columns) (64 * k + count_trailing_zeros 64 (left_of columns 0 (64 * k)))
       least = omega (arith, zeros-lt columns 0 (64 * k) small' some')
-
--- the first ones, limb before limb
-module _ {columns : List ℕ} where
-  pub firsts-none : {firsts : List ℕ} → length columns ≤ length firsts → Firsts columns (length columns) firsts × FirstFrom columns (64 * length columns) (64 * length columns)
-  firsts-none h = (
-    record { size = h; first = λ j g l. absurd (omega arith) },
-    record { least = omega arith; most = omega arith; none = λ j g l. absurd (omega arith); found = λ l. absurd (omega arith) },
-  )
-
-  pub firsts_more : {firsts : List ℕ} {k q n : ℕ} → q + 1 ≡ k → k ≤ length columns → Firsts columns k firsts → FirstFrom columns (64 * k) n → Firsts columns q (set firsts q n)
-  firsts_more {firsts} {k} {q} {n} e l f s = record {
-    size = omega (arith, length-set firsts q n, f.size);
-    first = λ j g h. elim (ℕ_discrete j q) [
-      | yes b ↦
-          let here : get_or (set firsts q n) j 0 ≡ n = ap (λ z. get_or (set firsts q n) z 0) b ∙ get_or-set_same firsts q n 0 (omega (arith, f.size)) in
-          let from : 64 * (j + 1) ≡ 64 * k = omega arith in
-          rw (here, from) s
-      | no b ↦ rw (get_or-set_other firsts q j n 0 b) (f.first j (omega arith) h)
-    ];
-  }
-
-pub from_next : {test : ℕ → Bool} {to k n : ℕ} (q : ℕ) → q + 1 ≡ k → Successor test to (64 * k) n → Successor test to (64 * (q + 1)) n
-from_next {test} {to} {n = n} q e s = subst (λ z. Successor test to (64 * z) n) (sym e) s
 
 -- the first one after the limb of a place in a column
 pub first-after : {columns firsts : List ℕ} {to : ℕ} (at from : ℕ) → from ≤ to → to ≤ max_width → at + carried_limbs ≤ length columns → Firsts columns 0 firsts →

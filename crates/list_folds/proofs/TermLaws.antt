@@ -121,10 +121,6 @@ pub base-most : (mixed : Bool) (m i : ℕ) → i < m → m ≤ max_width → row
 base-most false m i l h = omega (arith, width-square i m (omega arith) h)
 base-most true m i l h = omega (arith, width-square m m h h, rows-product m i l h)
 
-pub base-least : (mixed : Bool) (m i : ℕ) → i < m → m ≤ row_base mixed m i
-base-least false m i l = omega arith
-base-least true m i l = omega arith
-
 -- a run of row i
 pub row-run : (mixed : Bool) {m : ℕ} {columns firsts : List ℕ} {at base i from to start n : ℕ} → Readable m columns firsts → i < m → at < m → base ≡ row_base mixed m i →
     from ≤ to → to ≤ m → start ≤ base + i → 2 * m + n + (to - from) < word_limit → Run m columns (at * carried_limbs) from to start n

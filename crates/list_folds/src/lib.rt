@@ -12,9 +12,8 @@ mod reading;
 mod terms;
 
 pub use columns::Rows;
-pub use terms::Terms;
-
 use reading::Columns;
+pub use terms::Terms;
 
 // The folds for the first coordinates, `count` of them, from gate n on, and the wires of their sums; the number of the next gate.
 // For any width and any table: nothing is stored where a number of a gate might not be a word.
@@ -34,8 +33,7 @@ pub fn put_folds(
         return n;
     }
     let mut scratch = [0u64; columns::SCRATCH];
-    let rows = t.rows;
-    columns::fill(&mut scratch, width, table, rows);
+    columns::fill(&mut scratch, width, table, t.rows);
     let mut firsts = [0u32; columns::SCRATCH];
     columns::find_firsts(&mut firsts, &scratch);
     let columns = Columns {

@@ -66,14 +66,7 @@ fn push_run(
 }
 
 // The pairs of row i: j below i is bit j - i + m of the column, any other bit j - i.
-fn push_row(
-    out: &mut [u32],
-    columns: &Columns,
-    mixed: bool,
-    r: usize,
-    i: usize,
-    f: Fold,
-) -> Fold
+fn push_row(out: &mut [u32], columns: &Columns, mixed: bool, r: usize, i: usize, f: Fold) -> Fold
     requires { (r < columns.now.width) × (i < columns.now.width) × (3 * columns.now.width + f.gates < word_limit) }
     ensures { Pushed columns.now.width f out.old (row_terms mixed columns.now.width columns.now.limbs.now r i) result out.new }
 {
@@ -89,13 +82,7 @@ fn push_row(
 }
 
 // All pairs, by i and then j.
-fn push_pairs(
-    out: &mut [u32],
-    columns: &Columns,
-    mixed: bool,
-    r: usize,
-    f: Fold,
-) -> Fold
+fn push_pairs(out: &mut [u32], columns: &Columns, mixed: bool, r: usize, f: Fold) -> Fold
     requires { (r < columns.now.width) × (3 * columns.now.width + columns.now.width * columns.now.width + f.gates < word_limit) }
     ensures { Pushed columns.now.width f out.old (rows_to mixed columns.now.width columns.now.limbs.now r columns.now.width) result out.new }
 {
@@ -126,13 +113,7 @@ fn first_term(width: usize, square: bool, r: usize, n: usize) -> Fold
 }
 
 // The fold for r, its first gate being gate n.
-fn fold_terms(
-    out: &mut [u32],
-    columns: &Columns,
-    t: Terms,
-    r: usize,
-    n: usize,
-) -> Fold
+fn fold_terms(out: &mut [u32], columns: &Columns, t: Terms, r: usize, n: usize) -> Fold
     requires { (r < columns.now.width) × (3 * columns.now.width + columns.now.width * columns.now.width + n < word_limit) }
     ensures { Pushed columns.now.width (fresh n) out.old (fold_terms t columns.now.width columns.now.limbs.now r) result out.new }
 {

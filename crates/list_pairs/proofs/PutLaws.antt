@@ -2,12 +2,12 @@
 use mathlib.Core.Path.{◌≡◌, refl, sym, ap, ap₂, ◌∙◌}
 use mathlib.Core.Bool.{Bool, true, false, true≢false}
 use mathlib.Core.List.{List, [], ◌∷◌, ◌++◌}
-use Prim.Native.Nat.{ℕ, suc, ◌+◌, ◌*◌, ◌/◌, ◌<◌, ◌≤◌}
+use Prim.Native.Nat.{ℕ, ◌+◌, ◌*◌, ◌/◌, ◌<◌, ◌≤◌}
 use native.Mathlib.Nat.{mul-one}
 use native.Mathlib.Numerals.{add-one}
 use native.Mathlib.Omega.{arith}
 use lib.ListN.{length, length-append}
-use lib.Seq.{sets, set_out}
+use lib.Seq.{sets}
 use lib.Dec.{ltb}
 use borrow.Author.Tests.{lt-ltb, le-ltb, ltb-true, ltb-false}
 use Rattle.gf2.specs.Operands.{max_width, choose}
@@ -27,11 +27,6 @@ pub only-most : {A : Type 0} (b : Bool) (w : A) → length (only b w) ≤ 1
 unfolding only
 only-most true w = omega arith
 only-most false w = omega arith
-
--- past the end nothing is stored
-pub sets-out : (l : List ℕ) (i : ℕ) (vs : List ℕ) → length l ≤ i → sets l i vs ≡ l
-sets-out l i [] h = refl
-sets-out l i (v ∷ vs) h = ap (λ z. sets z (suc i) vs) (set_out l i v h) ∙ sets-out l (suc i) vs (omega arith)
 
 -- the words of gates after those of n gates
 words_more : (n : ℕ) (gs hs : List Gate) (out : List ℕ) →

@@ -16,16 +16,7 @@ const LIMIT: usize = 2147483648;
 pub fn fits(width: usize, count: usize, n: usize) -> bool
     ensures { result ≡ fits width count n }
 {
-    if width < 2 {
-        return false;
-    }
-    if limbs::MAX_WIDTH < width {
-        return false;
-    }
-    if width < count {
-        return false;
-    }
-    n < LIMIT
+    2 <= width && width <= limbs::MAX_WIDTH && count <= width && n < LIMIT
 }
 
 fn and_wire(width: usize, i: usize, j: usize) -> u32

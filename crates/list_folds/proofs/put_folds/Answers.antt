@@ -22,16 +22,6 @@ fill-requires c =
     let k = fits-known a.width a.count a.n (sym c.fits.ensures ∙ c.if-not-fits.false) in
     columns-none a.t.rows a.width a.table.now k.0 k.1
 
-pub invariant_of-columns : goal.invariant_of-columns
-invariant_of-columns c =
-    record { readable = record { room = c.fill.ensures.room; after = c.find_firsts.ensures } }
-
-pub put_each-requires : goal.put_each-requires
-put_each-requires c =
-    let a = c.args in
-    let k = fits-known a.width a.count a.n (sym c.fits.ensures ∙ c.if-not-fits.false) in
-    (k.2, k.3)
-
 pub returns : goal.returns
 returns c =
     let a = c.args in

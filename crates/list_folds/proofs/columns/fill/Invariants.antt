@@ -1,6 +1,6 @@
 -- `list_folds::columns::fill` meets its contract. The invariant: the columns have the rows before d.
 use mathlib.Core.Path.{◌≡◌}
-use Prim.Native.Nat.{◌-◌, ◌≤◌}
+use Prim.Native.Nat.{◌≤◌}
 use lib.ListN.{length}
 use Rattle.list_folds.specs.Columns.{Columns}
 use Rattle.list_folds.proofs.columns.fill.Given as goal

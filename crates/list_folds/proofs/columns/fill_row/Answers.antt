@@ -1,12 +1,7 @@
 -- `list_folds::columns::fill_row` meets its contract. The invariant: the row has its coordinates before s, and s is one of its ones or past it.
-use mathlib.Core.Path.{sym, ◌∙◌}
 use native.Mathlib.Omega.{arith}
-use Rattle.list_folds.proofs.ColumnLaws.{row-none, row_more, row_next, row-after, row-end, row_done, row-skipped}
+use Rattle.list_folds.proofs.ColumnLaws.{row-none, row_more, row_next, row-after}
 use Rattle.list_folds.proofs.columns.fill_row.Goals as goal
-
-pub returns-then-not-is_kept : goal.returns-then-not-is_kept
-returns-then-not-is_kept c =
-    row-skipped c.requires (sym c.is_kept.ensures ∙ c.if-not-is_kept.true)
 
 pub loop-s-init : goal.loop-s-init
 loop-s-init c =
@@ -20,7 +15,3 @@ pub loop-s-preserved : goal.loop-s-preserved
 loop-s-preserved c =
     let v = c.loop-s.invariant in
     row_next c.requires c.row_limbs-row.ensures c.next_one-s-in-loop-s.ensures (row_more c.requires c.loop-s-test.true (v.1 c.loop-s-test.true) v.0)
-
-pub returns : goal.returns
-returns c =
-    row_done c.requires (sym c.is_kept.ensures ∙ c.if-not-is_kept.false) (row-end c.requires (omega (arith, c.loop-s-test.false)) c.loop-s.invariant.0)

@@ -2,18 +2,11 @@
 use Prim.Native.Nat.{◌^◌, ◌<◌}
 use native.Mathlib.Omega.{arith}
 use lib.ListN.{get_or}
-use lib.Count.{trailing_le}
 use Rattle.list_folds.proofs.ColumnLaws.{first-later, first-here}
 use Rattle.list_folds.proofs.columns.first_from.Goals as goal
 
 pub returns-then-limb-eq0 : goal.returns-then-limb-eq0
 returns-then-limb-eq0 c = first-later c.args.columns.now c.args.k c.if-limb-eq0.true c.requires.2
-
-pub overflow_cast-result : goal.overflow_cast-result
-overflow_cast-result c = let a = c.args in omega (arith, trailing_le 64 (get_or a.columns.now a.k 0))
-
-pub overflow_add-result : goal.overflow_add-result
-overflow_add-result c = omega (arith, c.requires.0, c.requires.1, trailing_le 64 (get_or c.args.columns.now c.args.k 0))
 
 pub returns : goal.returns
 returns c =

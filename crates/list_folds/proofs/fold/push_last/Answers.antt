@@ -2,8 +2,5 @@
 use Rattle.list_folds.proofs.WriteLaws.{push-none}
 use Rattle.list_folds.proofs.fold.push_last.Goals as goal
 
-pub returns-in-Some : goal.returns-in-Some
-returns-in-Some c = rw c.in-Some.is c.push.ensures
-
 pub returns-in-None : goal.returns-in-None
 returns-in-None c = rw c.in-None.is (push-none _ _ _)

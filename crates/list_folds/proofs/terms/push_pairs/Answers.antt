@@ -1,5 +1,5 @@
 -- `list_folds::terms::push_pairs` meets its contract. The invariant: the rows before i are pushed.
-use mathlib.Core.Path.{◌≡◌, refl, ◌∙◌}
+use mathlib.Core.Path.{refl, ◌∙◌}
 use native.Mathlib.Omega.{arith}
 use native.Mathlib.Nat.{mul-le-mul_right}
 use Rattle.list_folds.proofs.WriteLaws.{push-none, push-more, push-most}
@@ -20,9 +20,3 @@ loop-i-preserved c =
     let a = c.args in
     let w = c.loop-i in
     (omega arith, rw (rows_more a.mixed a.columns.now.width a.columns.now.limbs.now a.r w.i) (push-more w.invariant.1 c.push_row-g.ensures), c.push_row-g.auto.out ∙ w.invariant.2)
-
-pub returns : goal.returns
-returns c =
-    let w = c.loop-i in
-    let e : w.i ≡ c.args.columns.now.width = omega arith in
-    rw e at w.invariant.1

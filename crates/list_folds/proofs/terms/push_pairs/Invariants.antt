@@ -1,6 +1,6 @@
 -- `list_folds::terms::push_pairs` meets its contract. The invariant: the rows before i are pushed.
 use mathlib.Core.Path.{◌≡◌}
-use Prim.Native.Nat.{◌-◌, ◌≤◌}
+use Prim.Native.Nat.{◌≤◌}
 use lib.ListN.{length}
 use Rattle.list_folds.specs.Folds.{Pushed}
 use Rattle.list_folds.specs.Terms.{rows_to}

@@ -4,28 +4,12 @@ use native.Mathlib.Omega.{arith}
 use Rattle.limbs.specs.Limbs.{carried_limbs}
 use Rattle.list_folds.specs.Columns.{is_set}
 use Rattle.list_folds.proofs.WriteLaws.{push-most}
-use Rattle.list_folds.proofs.TermLaws.{run-most, base-most, base-least, row-run, push-mixed, push-plain}
+use Rattle.list_folds.proofs.TermLaws.{run-most, row-run, push-mixed, push-plain}
 use Rattle.list_folds.proofs.terms.push_row.Goals as goal
-
-pub overflow_add-start : goal.overflow_add-start
-overflow_add-start c =
-    omega (arith, base-most c.args.mixed c.args.columns.now.width c.args.i c.requires.1 c.args.columns.now.readable.room.greatest, c.row_base.ensures)
-
-pub push_run-requires : goal.push_run-requires
-push_run-requires c =
-    row-run c.args.mixed c.args.columns.now.readable c.requires.1 c.minus-at.ensures.1 c.row_base.ensures (omega (arith, c.requires.1)) (omega arith) (omega arith) (omega (arith, c.requires.2))
 
 pub returns-then-mixed : goal.returns-then-mixed
 returns-then-mixed c =
     push-mixed c.args.columns.now.limbs.now c.args.r c.requires.1 c.minus-at.ensures.0 c.row_base.ensures c.if-mixed.true c.push_run.ensures
-
-pub overflow_sub-start : goal.overflow_sub-start
-overflow_sub-start c =
-    omega (arith, base-least c.args.mixed c.args.columns.now.width c.args.i c.requires.1, c.row_base.ensures)
-
-pub push_run-g-requires : goal.push_run-g-requires
-push_run-g-requires c =
-    row-run c.args.mixed c.args.columns.now.readable c.requires.1 c.minus-at.ensures.1 c.row_base.ensures (omega arith) (omega arith) (omega arith) (omega (arith, c.requires.2))
 
 pub push_run-requires-2 : goal.push_run-requires-2
 push_run-requires-2 c =

@@ -1,5 +1,5 @@
 -- `list_folds::terms::push_run` meets its contract. The invariant: the ones before d are pushed, and d is one or the end.
-use mathlib.Core.Path.{◌≡◌, refl, ◌∙◌}
+use mathlib.Core.Path.{refl, ◌∙◌}
 use Prim.Native.Nat.{◌-◌}
 use native.Mathlib.Omega.{arith}
 use Rattle.list_folds.specs.Columns.{is_set}
@@ -25,9 +25,3 @@ loop-d-preserved c =
     let w = c.loop-d in
     let n = c.next_one-d-in-loop-d.ensures in
     (omega (arith, n.least, w.invariant.0), n.most, n.found, run-next (is_set a.columns.now.limbs.now a.at) a.start a.from w.invariant.0 (w.invariant.2 c.loop-d-test.true) w.invariant.3 c.push-g.ensures n, c.push-g.auto.out ∙ w.invariant.4)
-
-pub returns : goal.returns
-returns c =
-    let w = c.loop-d in
-    let e : w.d ≡ c.args.to = omega (arith, w.invariant.1) in
-    rw e at w.invariant.3

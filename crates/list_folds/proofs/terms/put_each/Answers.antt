@@ -1,5 +1,5 @@
 -- `list_folds::terms::put_each` meets its contract. The invariant: the folds before r are stored.
-use mathlib.Core.Path.{◌≡◌, refl, ap, ◌∙◌}
+use mathlib.Core.Path.{refl, ap, ◌∙◌}
 use Prim.Native.Nat.{◌+◌, ◌*◌, ◌≤◌}
 use native.Mathlib.Omega.{arith}
 use lib.ListN.{set}
@@ -26,9 +26,3 @@ pub loop-r-preserved : goal.loop-r-preserved
 loop-r-preserved c =
     let w = c.loop-r in
     (omega arith, folds-more w.invariant.1 c.fold_terms-f.ensures (c.put.ensures ∙ ap (set w.ends w.r) c.unwrap_or.ensures), c.fold_terms-f.auto.out ∙ w.invariant.2, c.put.auto.out ∙ w.invariant.3)
-
-pub returns : goal.returns
-returns c =
-    let w = c.loop-r in
-    let e : w.r ≡ c.args.count = omega arith in
-    record { gates_put = rw e at w.invariant.1.put; ends_after = rw e at w.invariant.1.sums }

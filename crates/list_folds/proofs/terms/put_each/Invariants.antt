@@ -1,6 +1,6 @@
 -- `list_folds::terms::put_each` meets its contract. The invariant: the folds before r are stored.
 use mathlib.Core.Path.{◌≡◌}
-use Prim.Native.Nat.{◌-◌, ◌≤◌}
+use Prim.Native.Nat.{◌≤◌}
 use lib.ListN.{length}
 use Rattle.list_folds.specs.Terms.{fold_terms}
 use Rattle.list_folds.proofs.FoldedLaws.{Folded}

@@ -2,12 +2,6 @@
 use Rattle.list_writer.proofs.CallLaws.{list-none, list-some}
 use Rattle.list_writer.proofs.lists.put_gates.Goals as goal
 
-pub returns-in-Plain : goal.returns-in-Plain
-returns-in-Plain c = rw c.in-Plain.is c.put_plain.ensures
-
-pub returns-in-Reduced : goal.returns-in-Reduced
-returns-in-Reduced c = rw c.in-Reduced.is c.put_reduced.ensures
-
 pub returns-then-full-eq0 : goal.returns-then-full-eq0
 returns-then-full-eq0 c =
     rw (list-none c.requires.0 c.in-Common.is c.if-full-eq0.true) c.put_plain-then-full-eq0.ensures

@@ -1,8 +1,0 @@
--- `list_pairs::store::put` meets its contract.
-use mathlib.Core.Path.{sym}
-use native.Mathlib.Omega.{arith}
-use lib.Seq.{set_out}
-use Rattle.list_pairs.proofs.store.put.Goals as goal
-
-pub returns-else-at-out : goal.returns-else-at-out
-returns-else-at-out c = sym (set_out _ _ _ (omega arith))
