@@ -1,8 +1,7 @@
 -- Laws of the counts: the numbers of all gates, and the answers of the calls.
 use Rattle.std.specs.Prelude.{Ok}
-use mathlib.Core.Path.{◌≡◌, refl, sym, ap, ap₂, ◌∙◌}
-use mathlib.Core.Bool.{Bool, true, false}
-use mathlib.Core.List.{List, []}
+use mathlib.Core.Path.{◌≡◌, refl, sym, ap, ◌∙◌}
+use mathlib.Core.List.{List}
 use Prim.Native.Nat.{ℕ, zero, suc, ◌+◌, ◌-◌, ◌*◌, ◌/◌, ◌≤◌}
 use native.Mathlib.Nat.{mul-add, mul-pos}
 use native.Mathlib.Omega.{arith}
@@ -16,7 +15,6 @@ use Rattle.table.specs.Judgements.{symmetry_verdict}
 use Rattle.table.proofs.Theorems.{symmetry}
 use Rattle.netlist.specs.declared.counts.Method.{Method}
 use Rattle.netlist.specs.declared.counts.Method.TheVariants.{Plain, Reduced, Common}
-use Rattle.netlist.specs.Gates.{Netlist, and_gates, xor_gates}
 use Rattle.netlist.specs.Lists.{plain, reduced, sharing, common, if_none, full_rows}
 use Rattle.netlist.specs.Counts.{plain_gates, reduced_gates, common_gates}
 use Rattle.netlist.specs.Inner.{Countable}

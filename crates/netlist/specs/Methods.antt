@@ -7,7 +7,7 @@ use Rattle.netlist.specs.declared.Tallied.{Tallied}
 use Rattle.netlist.specs.Calls.{counts_of}
 use Rattle.netlist.specs.declared.counts.Method.{Method}
 use Rattle.netlist.specs.declared.counts.Method.TheVariants.{Plain, Reduced, Common}
-use Rattle.netlist.specs.Gates.{Netlist, and_gates, xor_gates}
+use Rattle.netlist.specs.Gates.{Netlist}
 use Rattle.netlist.specs.Lists.{plain, reduced, full_rows, common}
 use Rattle.netlist.specs.Counts.{plain_xors, reduced_xors, common_xors, plain_gates, reduced_gates, common_gates}
 

@@ -1,7 +1,6 @@
 -- `equivalence::outputs::judge_outputs` meets its contract. The invariant: the outputs before r are right.
 use mathlib.Core.Path.{sym, ap, ◌∙◌}
 use mathlib.Core.Bool.{not}
-use native.Mathlib.Omega.{arith}
 use Rattle.judging.specs.Causes.{judged}
 use Rattle.judging.proofs.Searches.{up_start, none_left, one_found, one-fails}
 use Rattle.equivalence.specs.Causes.{wrong_output}

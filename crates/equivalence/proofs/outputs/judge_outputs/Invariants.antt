@@ -1,7 +1,6 @@
 -- `equivalence::outputs::judge_outputs` meets its contract. The invariant: the outputs before r are right.
 use mathlib.Core.Path.{◌≡◌}
 use mathlib.Core.List.{[], ◌∷◌}
-use Prim.Native.Nat.{◌-◌, ◌≤◌}
 use Rattle.judging.specs.Causes.{judged}
 use Rattle.judging.proofs.Searches.{up_to}
 use Rattle.equivalence.specs.Causes.{wrong_output, output_causes}

@@ -1,5 +1,4 @@
 -- `equivalence::sets::fill_sets` meets its contract. The invariant: the squares before k are filled.
-use Prim.Native.Nat.{◌-◌, ◌≤◌}
 use Rattle.equivalence.specs.Inner.{Gathered}
 use Rattle.equivalence.proofs.sets.fill_sets.Given as goal
 

@@ -1,6 +1,5 @@
 -- `equivalence::sets::put_sum` meets its contract. The invariant: the first w limbs are summed.
-use Prim.Native.Nat.{◌-◌, ◌≤◌}
-use Rattle.equivalence.specs.Inner.{set_limbs, SumPut}
+use Rattle.equivalence.specs.Inner.{SumPut}
 use Rattle.equivalence.proofs.sets.put_sum.Given as goal
 
 abbrev pub invariant-loop-w : goal.invariant-loop-w

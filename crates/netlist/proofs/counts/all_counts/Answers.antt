@@ -1,6 +1,5 @@
 -- `netlist::counts::all_counts` meets its contract.
-use mathlib.Core.Path.{sym, ap, ◌∙◌}
-use Rattle.std.specs.Prelude.{Ok}
+use mathlib.Core.Path.{sym, ◌∙◌}
 use Rattle.judging.proofs.CauseLaws.{handed_on, answer-given, answer-refused}
 use Rattle.netlist.proofs.CallLaws.{table-fine}
 use Rattle.netlist.proofs.counts.all_counts.Goals as goal
