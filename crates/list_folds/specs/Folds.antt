@@ -13,6 +13,7 @@ abbrev pub term_after : ℕ → Option ℕ → ℕ → ℕ → Fold
 term_after m None n w = record { running = Some w; gates = n }
 term_after m (Some r) n w = record { running = Some (gate_wire m n); gates = n + 1 }
 
+-- the gate that it gives, where there is a term before it
 abbrev pub words_after : Option ℕ → ℕ → ℕ → List ℕ → List ℕ
 words_after None n w out = out
 words_after (Some r) n w out = sets out (2 + 3 * n) (1 ∷ r ∷ w ∷ [])
