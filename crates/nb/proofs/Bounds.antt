@@ -36,7 +36,6 @@ use Rattle.netlist.proofs.Theorems.{theorem_lists}
 use Rattle.netlist.proofs.TableLaws.{width-times}
 use Rattle.equivalence.specs.Calls.{accept_verdict, accept_call}
 use Rattle.equivalence.proofs.AcceptLaws.{counts-few}
-use Rattle.gaussian.specs.Types.{type_of}
 use Rattle.gaussian.specs.Causes.{type_zero, type_causes, draw_causes}
 use Rattle.gaussian.specs.Calls.{answer as typed, type_call, draw_call}
 use Rattle.gaussian.proofs.TypeBound.{type-small}

@@ -1,8 +1,6 @@
 -- What each call of the C interface answers, for every input: its fault packed with what it returns. What a call leaves in the lent buffers is
 -- what the call below leaves: zero_into .. solve_into of crate operand, product_into .. of product, those of runner, gaussian, card and list_writer.
 use Rattle.std.specs.Prelude.{List, ℕ, Result}
-use Rattle.gf2.specs.Quadratic.{trace}
-use Rattle.gf2.specs.Inverse.{products_made}
 use Rattle.judging.specs.Causes.{Cause, judged}
 use Rattle.operand.specs.Calls.{trace_of}
 use Rattle.table.specs.Calls.{ones_call}

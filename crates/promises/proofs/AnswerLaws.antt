@@ -9,7 +9,6 @@ use Rattle.gf2.specs.Operands.{choose}
 use Rattle.judging.specs.declared.fault.Fault.{Fault}
 use Rattle.judging.specs.Causes.{Cause, Verdict, judged, answered}
 use Rattle.judging.proofs.CauseLaws.{exact, ok_or_err}
-use Rattle.netlist.specs.declared.GateCounts.{GateCounts}
 use Rattle.netlist.specs.Gates.{Netlist, and_gates, xor_gates}
 use Rattle.netlist.specs.Calls.{counts_of}
 use Rattle.nb.specs.Packing.{packed_verdict, packed_value, packed_counts, PacksVerdict, PacksValue, PacksCounts, Unpacks}

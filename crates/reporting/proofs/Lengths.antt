@@ -25,7 +25,7 @@ use Rattle.card.specs.Numbers.{Read, refused, got}
 use Rattle.card.specs.Cards.{lent_causes, Table, read_card}
 use Rattle.card.specs.Statements.{Bytes}
 use Rattle.card.proofs.Refusals.{card-refusals}
-use Rattle.netlist.specs.Gates.{Netlist, and_gates, xor_gates}
+use Rattle.netlist.specs.Gates.{Netlist}
 use Rattle.netlist.specs.Lists.{plain, reduced, common}
 use Rattle.netlist.specs.Calls.{counts_of}
 use Rattle.netlist.specs.Statements.{Sized}

@@ -37,7 +37,7 @@ fn accepted(text: Text, all: AllCounts) -> Text
     counts(second, b"common", all.common)
 }
 
-// The verdict of the check, and where it accepts the gates of the lists, or the fault.
+// The gates of the lists of a table that the check accepts, or the fault of the check.
 fn judged(width: usize, table: &[u8]) -> Result<AllCounts, Fault>
     ensures { result ≡ judged_counts width table.now }
 {

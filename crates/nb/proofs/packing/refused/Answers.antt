@@ -1,5 +1,4 @@
 -- `nb::packing::refused` meets its contract.
-use native.Mathlib.Omega.{arith}
 use Rattle.nb.specs.Packing.{packed_fault}
 use Rattle.nb.proofs.PackLaws.{small_of}
 use Rattle.nb.proofs.packing.refused.Goals as goal

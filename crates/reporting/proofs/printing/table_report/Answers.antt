@@ -1,4 +1,4 @@
-use Rattle.std.proofs.Common.{[], ◌∷◌, ap, ap₂, ◌∙◌, sym}
+use Rattle.std.proofs.Common.{[], ◌∷◌, ap, ◌∙◌, sym}
 use Rattle.netlist.proofs.TableLaws.{ones-counted}
 use Rattle.reporting.specs.Text.{ascii, line}
 use Rattle.reporting.specs.Steps.{appended}
