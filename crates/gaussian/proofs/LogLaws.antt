@@ -1,7 +1,8 @@
 -- The loop that fills the logarithms, one power of 2^t a turn, and what a logarithm says of cosets.
+use Rattle.std.specs.Prelude.{None, Some}
 use mathlib.Core.Path.{◌≡◌, sym, ap, ◌∙◌}
 use mathlib.Core.List.{List}
-use Prim.Native.Nat.{ℕ, ◌+◌, ◌-◌, ◌*◌, ◌%◌, ◌^◌, ◌<◌, ◌≤◌}
+use Prim.Native.Nat.{ℕ, ◌+◌, ◌*◌, ◌%◌, ◌^◌, ◌<◌}
 use native.Mathlib.Nat.{mod-mod, mod-eq_of_lt, pow-suc}
 use native.Mathlib.Decide.{ℕ_discrete}
 use native.Mathlib.Numerals.{add-one}
@@ -14,7 +15,7 @@ use Rattle.gf2.specs.Operands.{choose}
 use Rattle.gf2.proofs.Coordinates.{zero-at}
 use Rattle.gaussian.specs.Types.{modulus}
 use Rattle.gaussian.specs.Table.{gives}
-use Rattle.gaussian.specs.Inner.{residues, Residue, Drawable, Logarithms}
+use Rattle.gaussian.specs.Inner.{residues, Residue, Drawable, Logarithms, LogarithmOf}
 use Rattle.gaussian.proofs.Modulo.{mul-cong}
 use Rattle.gaussian.proofs.Cosets.{power-one, coset-in, coset-out}
 use Rattle.gaussian.proofs.ResidueLaws.{residue-of}
@@ -66,24 +67,14 @@ pub gives-even : (p t x i : ℕ) → x ≡ 0 → (t % 2 ≡ 1 → ⊥) → gives
 unfolding gives
 gives-even p t x i z n = rw (eq-eqb x 0 z) (omega arith)
 
-module _ {m t x log : ℕ} {logs : List ℕ} (d : Drawable m t) (l : Logarithms m t m logs) (rx : Residue (modulus m t) x) (nz : x ≡ 0 → ⊥) (is : log ≡ get_or logs (x ^ t % modulus m t) 0) where
-  module _ (pos : 0 < log) where
-    found : (log - 1 < m) × ((2 ^ t) ^ (log - 1) % modulus m t ≡ x ^ t % modulus m t)
-    found = l.sound (x ^ t % modulus m t) (log - 1) (sym is ∙ omega arith)
-
-    pub log-less : log - 1 < m
-    log-less = found.0
-
-    pub gives-log : (i : ℕ) → i < m → choose (eqb i (log - 1)) 1 0 % 2 ≡ gives (modulus m t) t x i % 2
-    unfolding gives
-    gives-log i li = rw (ne_eqb x 0 nz) (elim (ℕ_discrete i (log - 1)) [
-      | yes q ↦ rw (eq-eqb i (log - 1) q, coset-in m t d.least d.is_type i x li rx.less (sym found.1 ∙ ap (λ k. (2 ^ t) ^ k % modulus m t) (sym q)))
-      | no q ↦ rw (ne_eqb i (log - 1) q, coset-out m t d.least d.is_type i x (λ e. q (power-one m t d.least d.is_type i (log - 1) li found.0 (sym e ∙ sym found.1))))
-    ])
-
-  pub gives_none : log ≤ 0 → (i : ℕ) → i < m → gives (modulus m t) t x i % 2 ≡ 0
+module _ {m t p x : ℕ} (d : Drawable m t) (is : p ≡ modulus m t) (rx : Residue p x) (nz : x ≡ 0 → ⊥) where
+  pub gives-log : {s : ℕ} → LogarithmOf m t x (Some s) → (i : ℕ) → i < m → choose (eqb i s) 1 0 % 2 ≡ gives p t x i % 2
   unfolding gives
-  gives_none z i li = rw (
-    ne_eqb x 0 nz,
-    coset-out m t d.least d.is_type i x (λ e. absurd (omega (arith, z, is, ap (λ y. get_or logs y 0) e, l.known i li))),
-  )
+  gives-log {s} l i li = rw (is, ne_eqb x 0 nz) (elim (ℕ_discrete i s) [
+    | yes q ↦ rw (eq-eqb i s q, coset-in m t d.least d.is_type i x li (rw is at rx.less) (sym l.1 ∙ ap (λ k. (2 ^ t) ^ k % modulus m t) (sym q)))
+    | no q ↦ rw (ne_eqb i s q, coset-out m t d.least d.is_type i x (λ e. q (power-one m t d.least d.is_type i s li l.0 (sym e ∙ sym l.1))))
+  ])
+
+  pub gives_none : LogarithmOf m t x None → (i : ℕ) → i < m → gives p t x i % 2 ≡ 0
+  unfolding gives
+  gives_none l i li = rw (is, ne_eqb x 0 nz, coset-out m t d.least d.is_type i x (λ e. l i li (sym e)))
