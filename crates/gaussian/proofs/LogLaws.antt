@@ -18,7 +18,7 @@ use Rattle.gaussian.specs.Table.{gives}
 use Rattle.gaussian.specs.Inner.{residues, Residue, Drawable, Logarithms, LogarithmOf}
 use Rattle.gaussian.proofs.Modulo.{mul-cong}
 use Rattle.gaussian.proofs.Cosets.{power-one, coset-in, coset-out}
-use Rattle.gaussian.proofs.ResidueLaws.{residue-of}
+use Rattle.gaussian.proofs.ResidueLaws.{residue-of, drawable-small}
 
 pub record LogLoop (m t : ℕ) (logs : List ℕ) (y s : ℕ) : Type 0 where
   pub power : (2 ^ t) ^ s % modulus m t ≡ y
@@ -33,14 +33,14 @@ module _ {m t : ℕ} (d : Drawable m t) where
   module _ {logs : List ℕ} {y s : ℕ} (l : LogLoop m t logs y s) (below : s < m) where
     new-known : (i : ℕ) → i < s + 1 → get_or (set logs y (s + 1)) ((2 ^ t) ^ i % modulus m t) 0 ≡ i + 1
     new-known i h = elim (ℕ_discrete i s) [
-      | yes q ↦ rw (q, l.power) (get_or-set_same logs y (s + 1) 0 (omega (arith, l.entries.size, l.less.small, l.less.less)))
+      | yes q ↦ rw (q, l.power) (get_or-set_same logs y (s + 1) 0 (omega (arith, l.entries.size, drawable-small d, l.less)))
       | no q ↦ get_or-set_other logs y ((2 ^ t) ^ i % modulus m t) (s + 1) 0 (λ e. q (power-one m t d.least d.is_type i s (omega arith) below (e ∙ sym l.power)))
           ∙ l.entries.known i (omega arith)
     ]
 
     new-sound : (z i : ℕ) → get_or (set logs y (s + 1)) z 0 ≡ i + 1 → (i < s + 1) × ((2 ^ t) ^ i % modulus m t ≡ z)
     new-sound z i e = elim (ℕ_discrete z y) [
-      | yes q ↦ let same : i ≡ s = omega (arith, sym (get_or-set_same logs y (s + 1) 0 (omega (arith, l.entries.size, l.less.small, l.less.less))) ∙ ap (λ k. get_or (set logs y (s + 1)) k 0) (sym q) ∙ e) in
+      | yes q ↦ let same : i ≡ s = omega (arith, sym (get_or-set_same logs y (s + 1) 0 (omega (arith, l.entries.size, drawable-small d, l.less))) ∙ ap (λ k. get_or (set logs y (s + 1)) k 0) (sym q) ∙ e) in
           (omega arith, ap (λ k. (2 ^ t) ^ k % modulus m t) same ∙ l.power ∙ sym q)
       | no q ↦ let old = l.entries.sound z i (sym (get_or-set_other logs y z (s + 1) 0 q) ∙ e) in (omega (arith, old.0), old.1)
     ]
@@ -49,7 +49,7 @@ module _ {m t : ℕ} (d : Drawable m t) where
     log-more {base} e ez = record {
       power =
           ap (λ k. (2 ^ t) ^ k % modulus m t) (add-one s) ∙ ap (λ x. x % modulus m t) (pow-suc (2 ^ t) s)
-          ∙ mul-cong ((2 ^ t) ^ s) y (2 ^ t) base (modulus m t) (l.power ∙ sym (mod-eq_of_lt l.less.less)) (sym (mod-mod (2 ^ t) (modulus m t)) ∙ ap (λ x. x % modulus m t) (sym e))
+          ∙ mul-cong ((2 ^ t) ^ s) y (2 ^ t) base (modulus m t) (l.power ∙ sym (mod-eq_of_lt l.less)) (sym (mod-mod (2 ^ t) (modulus m t)) ∙ ap (λ x. x % modulus m t) (sym e))
           ∙ sym ez;
       less = residue-of _ ez l.less;
       entries = record { size = length-set logs y (s + 1) ∙ l.entries.size; known = new-known; sound = new-sound };
@@ -71,7 +71,7 @@ module _ {m t p x : ℕ} (d : Drawable m t) (is : p ≡ modulus m t) (rx : Resid
   pub gives-log : {s : ℕ} → LogarithmOf m t x (Some s) → (i : ℕ) → i < m → choose (eqb i s) 1 0 % 2 ≡ gives p t x i % 2
   unfolding gives
   gives-log {s} l i li = rw (is, ne_eqb x 0 nz) (elim (ℕ_discrete i s) [
-    | yes q ↦ rw (eq-eqb i s q, coset-in m t d.least d.is_type i x li (rw is at rx.less) (sym l.1 ∙ ap (λ k. (2 ^ t) ^ k % modulus m t) (sym q)))
+    | yes q ↦ rw (eq-eqb i s q, coset-in m t d.least d.is_type i x li (rw is at rx) (sym l.1 ∙ ap (λ k. (2 ^ t) ^ k % modulus m t) (sym q)))
     | no q ↦ rw (ne_eqb i s q, coset-out m t d.least d.is_type i x (λ e. q (power-one m t d.least d.is_type i s li l.0 (sym e ∙ sym l.1))))
   ])
 

@@ -33,7 +33,7 @@ module _ {m t p w : ℕ} where
     adds = rows_none m (given p t w) l;
     size = refl;
     less = r;
-    power = sym (ap (λ x. x * w % p) (pow-zero 2) ∙ ap (λ x. x % p) (one-mul w) ∙ mod-eq_of_lt r.less);
+    power = sym (ap (λ x. x * w % p) (pow-zero 2) ∙ ap (λ x. x % p) (one-mul w) ∙ mod-eq_of_lt r);
   }
 
   module _ {a b : List ℕ} {y d : ℕ} (l : TermLoop m t p w a b y d) where

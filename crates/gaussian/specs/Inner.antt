@@ -8,11 +8,9 @@ use Rattle.gaussian.specs.Table.{rows_of}
 abbrev pub residues : ℕ
 residues = max_type * max_width + 2
 
--- x is a residue modulo p, and p is no greater than a listed type can make it
-pub record Residue (p x : ℕ) : Type 0 where
-  pub above : 1 < p
-  pub small : p < residues
-  pub less : x < p
+-- x is a residue modulo p
+abbrev pub Residue : ℕ → ℕ → Type 0
+Residue p x = x < p
 
 -- a width and a type that can be drawn
 pub record Drawable (m t : ℕ) : Type 0 where
