@@ -9,10 +9,11 @@ use Rattle.gaussian.specs.Inner.{residues, Residue, Drawable}
 use Rattle.gaussian.proofs.Modulo.{mul-cong, mul-pow, pow-cong}
 use Rattle.gaussian.proofs.TypeBound.{modulus-small}
 
--- what is left modulo p is a residue, and so is what is less than the p of a width and type that can be drawn
+-- what is left modulo p is a residue
 pub residue-of : {p a b : ℕ} (x : ℕ) → b ≡ x % p → Residue p a → Residue p b
 residue-of x e r = rw e (mod-lt x (omega arith))
 
+-- the p of a width and type that can be drawn
 pub drawable-small : {m t : ℕ} → Drawable m t → modulus m t < residues
 drawable-small d = modulus-small d.small d.greatest
 

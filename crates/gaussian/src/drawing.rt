@@ -35,9 +35,7 @@ fn add_image(table: &mut [u8], logs: &DiscreteLogarithms, d: usize, x: u32)
         if t % 2 == 1 {
             flip_row(table, m, d);
         }
-        return;
-    }
-    if let Some(s) = logs.logarithm(x) {
+    } else if let Some(s) = logs.logarithm(x) {
         flip(table, m, d, s);
     }
 }
@@ -60,8 +58,7 @@ fn add_term(table: &mut [u8], logs: &DiscreteLogarithms, w: u32)
     requires { HasRow logs.now.modulus.m 0 table.old × Residue logs.now.modulus.p w }
     ensures { Adds logs.now.modulus.m (term logs.now.modulus.p logs.now.modulus.t w) table.old table.new }
 {
-    let modulus = logs.modulus;
-    if modulus.power(w, modulus.t) == 1 {
+    if logs.modulus.in_k(w) {
         add_images(table, logs, w);
     }
 }

@@ -1,6 +1,7 @@
 // Residues modulo p = T·m+1, a prime, each held in 32 bits: one more, products, powers, and logarithms to the base 2^T.
 ghost use Rattle.std.specs.Prelude.{◌≡◌, ◌+◌, ◌*◌, ◌%◌, ◌^◌};
 ghost use Rattle.gaussian.specs.Types.{modulus};
+ghost use Rattle.gaussian.specs.Table.{in_k};
 ghost use Rattle.gaussian.specs.Inner.{Residue, Drawable, Logarithms, LogarithmOf};
 ghost use Rattle.gaussian.specs.Drawables.{drawable-prop};
 
@@ -71,9 +72,17 @@ impl Modulus {
         }
         r
     }
+
+    // Whether x lies in K: whether x^t is 1 modulo p.
+    pub(crate) fn in_k(self, x: u32) -> bool
+        requires { Residue self.p x }
+        ensures { result ≡ in_k self.p self.t x }
+    {
+        self.power(x, self.t) == 1
+    }
 }
 
-// The logarithms to the base 2^t of its powers: entry y is s + 1 where y is power s, for an s below m, and 0 where there is none.
+// The discrete logarithms to the base 2^t modulo p: entry y is s + 1 where y is (2^t)^s for an s below m, and 0 where there is none.
 #[derive(Clone, Copy)]
 pub(crate) struct DiscreteLogarithms<'a> {
     pub(crate) modulus: Modulus,
