@@ -1,7 +1,8 @@
 -- The loop that fills the logarithms, one power of 2^t a turn, and what a logarithm says of cosets.
+use Rattle.std.specs.Prelude.{None, Some}
 use mathlib.Core.Path.{◌≡◌, sym, ap, ◌∙◌}
 use mathlib.Core.List.{List}
-use Prim.Native.Nat.{ℕ, ◌+◌, ◌-◌, ◌*◌, ◌%◌, ◌^◌, ◌<◌, ◌≤◌}
+use Prim.Native.Nat.{ℕ, ◌+◌, ◌*◌, ◌%◌, ◌^◌, ◌<◌}
 use native.Mathlib.Nat.{mod-mod, mod-eq_of_lt, pow-suc}
 use native.Mathlib.Decide.{ℕ_discrete}
 use native.Mathlib.Numerals.{add-one}
@@ -14,10 +15,10 @@ use Rattle.gf2.specs.Operands.{choose}
 use Rattle.gf2.proofs.Coordinates.{zero-at}
 use Rattle.gaussian.specs.Types.{modulus}
 use Rattle.gaussian.specs.Table.{gives}
-use Rattle.gaussian.specs.Inner.{residues, Residue, Drawable, Logarithms}
+use Rattle.gaussian.specs.Inner.{residues, Residue, Drawable, Logarithms, LogarithmOf}
 use Rattle.gaussian.proofs.Modulo.{mul-cong}
 use Rattle.gaussian.proofs.Cosets.{power-one, coset-in, coset-out}
-use Rattle.gaussian.proofs.ResidueLaws.{residue-of}
+use Rattle.gaussian.proofs.ResidueLaws.{residue-of, drawable-small}
 
 pub record LogLoop (m t : ℕ) (logs : List ℕ) (y s : ℕ) : Type 0 where
   pub power : (2 ^ t) ^ s % modulus m t ≡ y
@@ -32,14 +33,14 @@ module _ {m t : ℕ} (d : Drawable m t) where
   module _ {logs : List ℕ} {y s : ℕ} (l : LogLoop m t logs y s) (below : s < m) where
     new-known : (i : ℕ) → i < s + 1 → get_or (set logs y (s + 1)) ((2 ^ t) ^ i % modulus m t) 0 ≡ i + 1
     new-known i h = elim (ℕ_discrete i s) [
-      | yes q ↦ rw (q, l.power) (get_or-set_same logs y (s + 1) 0 (omega (arith, l.entries.size, l.less.small, l.less.less)))
+      | yes q ↦ rw (q, l.power) (get_or-set_same logs y (s + 1) 0 (omega (arith, l.entries.size, drawable-small d, l.less)))
       | no q ↦ get_or-set_other logs y ((2 ^ t) ^ i % modulus m t) (s + 1) 0 (λ e. q (power-one m t d.least d.is_type i s (omega arith) below (e ∙ sym l.power)))
           ∙ l.entries.known i (omega arith)
     ]
 
     new-sound : (z i : ℕ) → get_or (set logs y (s + 1)) z 0 ≡ i + 1 → (i < s + 1) × ((2 ^ t) ^ i % modulus m t ≡ z)
     new-sound z i e = elim (ℕ_discrete z y) [
-      | yes q ↦ let same : i ≡ s = omega (arith, sym (get_or-set_same logs y (s + 1) 0 (omega (arith, l.entries.size, l.less.small, l.less.less))) ∙ ap (λ k. get_or (set logs y (s + 1)) k 0) (sym q) ∙ e) in
+      | yes q ↦ let same : i ≡ s = omega (arith, sym (get_or-set_same logs y (s + 1) 0 (omega (arith, l.entries.size, drawable-small d, l.less))) ∙ ap (λ k. get_or (set logs y (s + 1)) k 0) (sym q) ∙ e) in
           (omega arith, ap (λ k. (2 ^ t) ^ k % modulus m t) same ∙ l.power ∙ sym q)
       | no q ↦ let old = l.entries.sound z i (sym (get_or-set_other logs y z (s + 1) 0 q) ∙ e) in (omega (arith, old.0), old.1)
     ]
@@ -48,7 +49,7 @@ module _ {m t : ℕ} (d : Drawable m t) where
     log-more {base} e ez = record {
       power =
           ap (λ k. (2 ^ t) ^ k % modulus m t) (add-one s) ∙ ap (λ x. x % modulus m t) (pow-suc (2 ^ t) s)
-          ∙ mul-cong ((2 ^ t) ^ s) y (2 ^ t) base (modulus m t) (l.power ∙ sym (mod-eq_of_lt l.less.less)) (sym (mod-mod (2 ^ t) (modulus m t)) ∙ ap (λ x. x % modulus m t) (sym e))
+          ∙ mul-cong ((2 ^ t) ^ s) y (2 ^ t) base (modulus m t) (l.power ∙ sym (mod-eq_of_lt l.less)) (sym (mod-mod (2 ^ t) (modulus m t)) ∙ ap (λ x. x % modulus m t) (sym e))
           ∙ sym ez;
       less = residue-of _ ez l.less;
       entries = record { size = length-set logs y (s + 1) ∙ l.entries.size; known = new-known; sound = new-sound };
@@ -66,24 +67,14 @@ pub gives-even : (p t x i : ℕ) → x ≡ 0 → (t % 2 ≡ 1 → ⊥) → gives
 unfolding gives
 gives-even p t x i z n = rw (eq-eqb x 0 z) (omega arith)
 
-module _ {m t x log : ℕ} {logs : List ℕ} (d : Drawable m t) (l : Logarithms m t m logs) (rx : Residue (modulus m t) x) (nz : x ≡ 0 → ⊥) (is : log ≡ get_or logs (x ^ t % modulus m t) 0) where
-  module _ (pos : 0 < log) where
-    found : (log - 1 < m) × ((2 ^ t) ^ (log - 1) % modulus m t ≡ x ^ t % modulus m t)
-    found = l.sound (x ^ t % modulus m t) (log - 1) (sym is ∙ omega arith)
-
-    pub log-less : log - 1 < m
-    log-less = found.0
-
-    pub gives-log : (i : ℕ) → i < m → choose (eqb i (log - 1)) 1 0 % 2 ≡ gives (modulus m t) t x i % 2
-    unfolding gives
-    gives-log i li = rw (ne_eqb x 0 nz) (elim (ℕ_discrete i (log - 1)) [
-      | yes q ↦ rw (eq-eqb i (log - 1) q, coset-in m t d.least d.is_type i x li rx.less (sym found.1 ∙ ap (λ k. (2 ^ t) ^ k % modulus m t) (sym q)))
-      | no q ↦ rw (ne_eqb i (log - 1) q, coset-out m t d.least d.is_type i x (λ e. q (power-one m t d.least d.is_type i (log - 1) li found.0 (sym e ∙ sym found.1))))
-    ])
-
-  pub gives_none : log ≤ 0 → (i : ℕ) → i < m → gives (modulus m t) t x i % 2 ≡ 0
+module _ {m t p x : ℕ} (d : Drawable m t) (is : p ≡ modulus m t) (rx : Residue p x) (nz : x ≡ 0 → ⊥) where
+  pub gives-log : {s : ℕ} → LogarithmOf m t x (Some s) → (i : ℕ) → i < m → choose (eqb i s) 1 0 % 2 ≡ gives p t x i % 2
   unfolding gives
-  gives_none z i li = rw (
-    ne_eqb x 0 nz,
-    coset-out m t d.least d.is_type i x (λ e. absurd (omega (arith, z, is, ap (λ y. get_or logs y 0) e, l.known i li))),
-  )
+  gives-log {s} l i li = rw (is, ne_eqb x 0 nz) (elim (ℕ_discrete i s) [
+    | yes q ↦ rw (eq-eqb i s q, coset-in m t d.least d.is_type i x li (rw is at rx) (sym l.1 ∙ ap (λ k. (2 ^ t) ^ k % modulus m t) (sym q)))
+    | no q ↦ rw (ne_eqb i s q, coset-out m t d.least d.is_type i x (λ e. q (power-one m t d.least d.is_type i s li l.0 (sym e ∙ sym l.1))))
+  ])
+
+  pub gives_none : LogarithmOf m t x None → (i : ℕ) → i < m → gives p t x i % 2 ≡ 0
+  unfolding gives
+  gives_none l i li = rw (is, ne_eqb x 0 nz, coset-out m t d.least d.is_type i x (λ e. l i li (sym e)))

@@ -9,15 +9,13 @@ use Rattle.gaussian.specs.Inner.{residues, Residue, Drawable}
 use Rattle.gaussian.proofs.Modulo.{mul-cong, mul-pow, pow-cong}
 use Rattle.gaussian.proofs.TypeBound.{modulus-small}
 
--- what is left modulo p is a residue, and so is what is less than the p of a width and type that can be drawn
+-- what is left modulo p is a residue
 pub residue-of : {p a b : ℕ} (x : ℕ) → b ≡ x % p → Residue p a → Residue p b
-residue-of x e r = let h = r.above in record { above = h; small = r.small; less = rw e (mod-lt x (omega arith)) }
+residue-of x e r = rw e (mod-lt x (omega arith))
 
+-- the p of a width and type that can be drawn
 pub drawable-small : {m t : ℕ} → Drawable m t → modulus m t < residues
 drawable-small d = modulus-small d.small d.greatest
-
-pub residue : {m t : ℕ} (x : ℕ) → Drawable m t → x < modulus m t → Residue (modulus m t) x
-residue x d h = record { above = d.is_type.0.0; small = drawable-small d; less = h }
 
 -- the digit 1
 pub digit-one : (p r x e : ℕ) → (e % 2 ≡ 0 → ⊥) → r * x % p ≡ r * x ^ (e % 2) % p
@@ -60,4 +58,4 @@ power-more {x} {e} {p} {r} {square} {left} {n} {k} l en ek = record {
 pub power-done : {x e p r square left : ℕ} → PowerLoop x e p r square left → left ≤ 0 → r ≡ x ^ e % p
 power-done {x} {e} {p} {r} {square} {left} l h =
     let z : left ≡ 0 = omega arith in
-    sym (ap (λ y. r * square ^ y % p) z ∙ rw (pow-zero, mul-one) (mod-eq_of_lt l.done.less)) ∙ l.value
+    sym (ap (λ y. r * square ^ y % p) z ∙ rw (pow-zero, mul-one) (mod-eq_of_lt l.done)) ∙ l.value

@@ -1,11 +1,11 @@
 -- What one w adds to all rows, row after row, and the sum over all w.
 use mathlib.Core.Path.{◌≡◌, refl, sym, ap, ◌∙◌}
+use mathlib.Core.Bool.{true, false}
 use mathlib.Core.List.{List}
 use Prim.Native.Nat.{ℕ, ◌+◌, ◌*◌, ◌%◌, ◌^◌, ◌≤◌}
 use native.Mathlib.Nat.{add_comm, mul_comm, mul_assoc, one-mul, mod-eq_of_lt, mod-add-mod, pow-zero, pow-succ'}
 use native.Mathlib.Numerals.{add-one}
 use lib.ListN.{length, replicate}
-use borrow.Author.Tests.{eq-eqb, ne_eqb}
 use Rattle.gf2.specs.Sums.{sum}
 use Rattle.gf2.specs.Operands.{bytes_for}
 use Rattle.gaussian.specs.Types.{modulus}
@@ -33,7 +33,7 @@ module _ {m t p w : ℕ} where
     adds = rows_none m (given p t w) l;
     size = refl;
     less = r;
-    power = sym (ap (λ x. x * w % p) (pow-zero 2) ∙ ap (λ x. x % p) (one-mul w) ∙ mod-eq_of_lt r.less);
+    power = sym (ap (λ x. x * w % p) (pow-zero 2) ∙ ap (λ x. x % p) (one-mul w) ∙ mod-eq_of_lt r);
   }
 
   module _ {a b : List ℕ} {y d : ℕ} (l : TermLoop m t p w a b y d) where
@@ -56,13 +56,13 @@ module _ {m t p w : ℕ} where
 
 -- w is in K, or not
 module _ (m t p w : ℕ) where
-  pub term_in : {x : ℕ} {a b : List ℕ} → x ≡ w ^ t % p → x ≡ 1 → Adds m (given p t w) a b → Adds m (term p t w) a b
-  unfolding term in_k
-  term_in e k h = rw (eq-eqb (w ^ t % p) 1 (sym e ∙ k)) h
+  pub term_in : {a b : List ℕ} → in_k p t w ≡ true → Adds m (given p t w) a b → Adds m (term p t w) a b
+  unfolding term
+  term_in k h = rw k h
 
-  pub term-out : {x : ℕ} (l : List ℕ) → x ≡ w ^ t % p → (x ≡ 1 → ⊥) → Adds m (term p t w) l l
-  unfolding term in_k
-  term-out l e n = adds_none m (term p t w) l (λ d s ld ls. rw (ne_eqb (w ^ t % p) 1 (λ k. n (e ∙ k))))
+  pub term-out : (l : List ℕ) → in_k p t w ≡ false → Adds m (term p t w) l l
+  unfolding term
+  term-out l k = adds_none m (term p t w) l (λ d s ld ls. rw k)
 
 -- the sum over the w below n
 abbrev pub partial : ℕ → ℕ → ℕ → List ℕ

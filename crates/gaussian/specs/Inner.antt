@@ -8,11 +8,9 @@ use Rattle.gaussian.specs.Table.{rows_of}
 abbrev pub residues : ℕ
 residues = max_type * max_width + 2
 
--- x is a residue modulo p, and p is no greater than a listed type can make it
-pub record Residue (p x : ℕ) : Type 0 where
-  pub above : 1 < p
-  pub small : p < residues
-  pub less : x < p
+-- x is a residue modulo p
+abbrev pub Residue : ℕ → ℕ → Type 0
+Residue p x = x < p
 
 -- a width and a type that can be drawn
 pub record Drawable (m t : ℕ) : Type 0 where
@@ -26,6 +24,11 @@ pub record Logarithms (m t n : ℕ) (logs : List ℕ) : Type 0 where
   pub size : length logs ≡ residues
   pub known : (s : ℕ) → s < n → get_or logs ((2 ^ t) ^ s % modulus m t) 0 ≡ s + 1
   pub sound : (y s : ℕ) → get_or logs y 0 ≡ s + 1 → (s < n) × ((2 ^ t) ^ s % modulus m t ≡ y)
+
+-- what is answered of x: the s below m for which (2^T)^s is x^T modulo p, or that there is none
+abbrev pub LogarithmOf : ℕ → ℕ → ℕ → Option ℕ → Type 0
+LogarithmOf m t x None = (s : ℕ) → s < m → ¬ ((2 ^ t) ^ s % modulus m t ≡ x ^ t % modulus m t)
+LogarithmOf m t x (Some s) = (s < m) × ((2 ^ t) ^ s % modulus m t ≡ x ^ t % modulus m t)
 
 -- a table of width m, with a row d
 pub record HasRow (m d : ℕ) (table : List ℕ) : Type 0 where

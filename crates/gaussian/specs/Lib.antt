@@ -4,10 +4,12 @@
 -- Causes: what the calls judge.
 -- Calls: what each call answers, for every input.
 -- Inner: residues, logarithms and tables that are drawn. No demand cites it.
+-- Drawables: that a width and a type can be drawn is a proposition, as the ghost field of a modulus asks. No demand cites it.
 -- Statements: what is proved of the list, of the two orders and of drawn tables; the proofs are proofs/Theorems.antt.
 pub mod Types
 pub mod Table
 pub mod Causes
 pub mod Calls
 pub mod Inner
+pub mod Drawables
 pub mod Statements

@@ -1,5 +1,5 @@
 -- `gaussian::drawing::add_image` meets its contract.
-use Rattle.gaussian.proofs.LogLaws.{gives-odd, gives-even, log-less, gives-log, gives_none}
+use Rattle.gaussian.proofs.LogLaws.{gives-odd, gives-even, gives-log, gives_none}
 use Rattle.gaussian.proofs.AddLaws.{row-none, row_same}
 use Rattle.gaussian.proofs.drawing.add_image.Goals as goal
 
@@ -9,17 +9,12 @@ returns-then-t-eq1 c = row_same _ _ _ _ c.flip_row.ensures (λ i l. gives-odd _ 
 pub returns-else-t-eq1 : goal.returns-else-t-eq1
 returns-else-t-eq1 c = row-none _ _ _ _ (λ i l. gives-even _ _ _ i c.if-x-eq0.true c.if-t-eq1.false)
 
-pub flip-requires : goal.flip-requires
-flip-requires c =
-    let p = c.requires in
-    (p.2, log-less p.0 p.1 p.3 c.if-x-eq0.false c.logarithm-log.ensures c.if-log-gt0.true)
+pub returns-in-Some : goal.returns-in-Some
+returns-in-Some c =
+    let p = c.args.logs.now.modulus in
+    row_same _ _ _ _ c.flip.ensures (gives-log p.drawable p.made c.requires.1 c.if-x-eq0.false (rw c.in-Some.is at c.logarithm.ensures))
 
-pub returns-then-log-gt0 : goal.returns-then-log-gt0
-returns-then-log-gt0 c =
-    let p = c.requires in
-    row_same _ _ _ _ c.flip.ensures (gives-log p.0 p.1 p.3 c.if-x-eq0.false c.logarithm-log.ensures c.if-log-gt0.true)
-
-pub returns-else-log-gt0 : goal.returns-else-log-gt0
-returns-else-log-gt0 c =
-    let p = c.requires in
-    row-none _ _ _ _ (gives_none p.0 p.1 p.3 c.if-x-eq0.false c.logarithm-log.ensures c.if-log-gt0.false)
+pub returns-in_default : goal.returns-in_default
+returns-in_default c =
+    let p = c.args.logs.now.modulus in
+    row-none _ _ _ _ (gives_none p.drawable p.made c.requires.1 c.if-x-eq0.false (rw c.in_default.is at c.logarithm.ensures))

@@ -6,8 +6,8 @@ use Rattle.gaussian.proofs.LogLaws.{no-logarithms}
 use Rattle.gaussian.proofs.TermLaws.{sum-start, sum_more, sum_done}
 use Rattle.gaussian.proofs.drawing.fill.Goals as goal
 
-pub logarithms-requires : goal.logarithms-requires
-logarithms-requires c = (c.requires.0, no-logarithms _ _)
+pub new-logs-requires : goal.new-logs-requires
+new-logs-requires c = no-logarithms _ _
 
 pub loop-w-init : goal.loop-w-init
 loop-w-init c =
@@ -15,10 +15,13 @@ loop-w-init c =
     (sum-start _ _ (c.fill.ensures.after (λ y e. e) ∙ ap (λ n. replicate n 0) size), omega (arith, size))
 
 pub loop-w-preserved : goal.loop-w-preserved
-loop-w-preserved c = (
-  sum_more _ _ _ c.loop-w.invariant.0 c.add_term.ensures,
-  omega (arith, c.loop-w.invariant.1),
-)
+loop-w-preserved c =
+    let p = c.new-modulus in (
+      sum_more _ _ _ c.loop-w.invariant.0 (rw (c.new-logs.ensures, p.result.made, p.ensures.0, p.ensures.1) at c.add_term.ensures),
+      omega (arith, c.loop-w.invariant.1),
+    )
 
 pub returns : goal.returns
-returns c = sum_done _ _ _ c.loop-w.invariant.0 (omega (arith, c.modulus-p.ensures))
+returns c =
+    let p = c.new-modulus in
+    sum_done _ _ _ c.loop-w.invariant.0 (omega (arith, rw (p.ensures.0, p.ensures.1) at p.result.made))

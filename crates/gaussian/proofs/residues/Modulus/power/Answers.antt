@@ -1,7 +1,7 @@
--- `gaussian::residues::power` meets its contract.
+-- `gaussian::residues::Modulus::power` meets its contract.
 use native.Mathlib.Omega.{arith}
 use Rattle.gaussian.proofs.ResidueLaws.{power-more, power-done}
-use Rattle.gaussian.proofs.residues.power.Goals as goal
+use Rattle.gaussian.proofs.residues.Modulus.power.Goals as goal
 
 pub loop-left-preserved : goal.loop-left-preserved
 loop-left-preserved c = power-more c.loop-left.invariant c.digit-r.ensures c.times-square.ensures
