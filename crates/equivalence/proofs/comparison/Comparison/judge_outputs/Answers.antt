@@ -1,10 +1,10 @@
--- `equivalence::outputs::judge_outputs` meets its contract. The invariant: the outputs before r are right.
+-- `equivalence::comparison::Comparison::judge_outputs` meets its contract. The invariant: the outputs before r are right.
 use mathlib.Core.Path.{sym, ap, ◌∙◌}
 use mathlib.Core.Bool.{not}
 use Rattle.judging.specs.Causes.{judged}
 use Rattle.judging.proofs.Searches.{up_start, none_left, one_found, one-fails}
 use Rattle.equivalence.specs.Causes.{wrong_output}
-use Rattle.equivalence.proofs.outputs.judge_outputs.Goals as goal
+use Rattle.equivalence.proofs.comparison.Comparison.judge_outputs.Goals as goal
 
 pub loop-r-init : goal.loop-r-init
 loop-r-init c = ap judged (sym (up_start _ _))
