@@ -28,12 +28,13 @@ const CRATES: [&str; 19] = [
 
 /// What Rattle has and Rust hasn't: what each begins with, the brackets that it goes on to the end of, and the mark that ends it where
 /// these are closed.
-const RATTLE: [(&str, [char; 2], &str); 9] = [
+const RATTLE: [(&str, [char; 2], &str); 10] = [
     ("requires ", ['{', '}'], ""),
     ("requires* ", ['{', '}'], ""),
     ("ensures ", ['{', '}'], ""),
     ("ensures* ", ['{', '}'], ""),
     ("ghost use ", ['{', '}'], ";"),
+    ("ghost ", ['{', '}'], ","),
     ("prove!(", ['(', ')'], ";"),
     ("#![tactic(", ['[', ']'], ""),
     ("#[tactic(", ['[', ']'], ""),

@@ -14,7 +14,7 @@ pub(crate) struct Columns<'a> {
 
 impl<'a> Columns<'a> {
     // The first one from bit `from` on of the column that starts at limb `at`, or `to`.
-    pub fn next_one(&self, at: usize, from: usize, to: usize) -> usize
+    pub(crate) fn next_one(&self, at: usize, from: usize, to: usize) -> usize
         requires { (from ≤ to) × (to ≤ self.now.width) × (at + carried_limbs ≤ length self.now.limbs.now) }
         ensures { Successor (is_set self.now.limbs.now at) to from result }
     {

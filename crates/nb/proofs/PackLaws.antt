@@ -52,6 +52,10 @@ pub unpack-refused : (f : Fault) → is_small f ≡ true → Unpacks (packed_fau
 unfolding packed_fault
 unpack-refused f e = let s = small_of f e in unpack (number_of f).0 (number_of f).1 (number_of f).2 s.number s.first
 
+-- and so do the values of an answer without fault
+pub unpack-answered : (first second : ℕ) → first < value_limit → Unpacks (packed 0 first second) 0 first second
+unpack-answered first second f = unpack 0 first second (omega arith) f
+
 -- an answer has room where its verdict has and the value of one without fault
 pub packs-answered : {A : Type 0} (P : A → Type 0) (v : Verdict) {x : A} → PacksVerdict v → (v ≡ Ok tt → P x) → Packs P (answered v x)
 unfolding answered
