@@ -28,11 +28,9 @@ use Rattle.gf2.proofs.Operands.{coord-from, from-operand}
 use Rattle.gf2.proofs.OperandVectors.{bytes_fit}
 use Rattle.judging.specs.Causes.{Cause}
 use Rattle.judging.specs.FaultTable.{symmetry_causes}
-use Rattle.judging.proofs.CauseLaws.{Fine, fine, none-fine, none-given, exact}
+use Rattle.judging.proofs.CauseLaws.{Fine, fine, none-fine, exact}
 use Rattle.judging.proofs.Searches.{fine-append, fine-parts, fine-from, fine-at}
 use Rattle.judging.proofs.Passed.{not-not, length-passes}
-use Rattle.table.specs.Rows.{Shaped}
-use Rattle.table.proofs.Theorems.{symmetry}
 use Rattle.table.proofs.BasisOperands.{basis-operand}
 use Rattle.netlist.specs.Gates.{Netlist, and_gates, xor_gates}
 use Rattle.netlist.specs.Running.{value_on, wires, result, gate_of, kind_at, left_at, right_at, gate_count, output_at, gates_to, read_list}
@@ -47,7 +45,7 @@ use Rattle.netlist.proofs.SetLaws.{pair-point, sum_of, sum_same, set-bit, wire-v
 use Rattle.netlist.proofs.Theorems.{computes}
 use Rattle.runner.specs.Causes.{bad_gates}
 use Rattle.runner.proofs.RunLaws.{output-there}
-use Rattle.equivalence.specs.Causes.{most_width, most_gates, other_gates, wrong_output, size_causes, table_causes, limit_causes, gate_causes, output_causes, accept_causes}
+use Rattle.equivalence.specs.Causes.{most_width, most_gates, other_gates, wrong_output, table_causes, limit_causes, gate_causes, output_causes, accept_causes}
 use Rattle.equivalence.specs.Calls.{accept_verdict}
 use Rattle.equivalence.specs.Inner.{Ready}
 use Rattle.equivalence.specs.Statements.{Comparable, GivesProduct}
@@ -71,10 +69,6 @@ list-ready m list p q =
       outputs = g.1;
       formed = not-not (every (gate_count list) (is_formed m list)) q.1.0;
     }
-
--- a table of which 1 to 5 were not given
-pub table-shaped : (m : ℕ) (table list : List ℕ) → Fine (size_causes m table list ++ table_causes m table) → Shaped m table
-table-shaped m table list p = ((symmetry m table).0 (none-given (symmetry_causes m table) (p.0, (p.1.0, p.1.1.1.1.1)))).0
 
 pub outputs-right : (m : ℕ) (table list : List ℕ) → Fine (accept_causes m table list) → (r : ℕ) → r < m → is_right_output m table list r ≡ true
 outputs-right m table list p r l =

@@ -1,5 +1,5 @@
 -- Laws of a list's gates: the tests of their form as code makes them, the wires of a gate that has passed, and the ANDs among the first.
-use mathlib.Core.Path.{◌≡◌, refl, sym, ap, ap₂, ◌∙◌}
+use mathlib.Core.Path.{◌≡◌, refl, sym, ap₂, ◌∙◌}
 use mathlib.Core.Bool.{true, false}
 use mathlib.Core.List.{List, [], ◌∷◌}
 use Prim.Native.Nat.{ℕ, zero, suc, ◌+◌, ◌-◌, ◌*◌, ◌<◌, ◌≤◌}
@@ -84,8 +84,8 @@ module _ (list : List ℕ) where
       ∙ sym (ands-more g)
 
   -- what the ANDs leave of the gates
-  pub xors-left : (m n g : ℕ) → g ≡ gate_count list → n ≡ and_gates (gates_to list g) →
+  pub xors-left : (m n g : ℕ) → g ≡ gate_count list → n ≡ and_gates (gates_to list (gate_count list)) →
       (n ≡ and_gates (read_list list m).gates) × (g - n ≡ xor_gates (read_list list m).gates)
   unfolding read_list gates_to
-  xors-left m n g e h = let k = h ∙ ap (λ g. and_gates (gates_to list g)) e in
-      (k, omega (arith, e, k, gate-kinds (gates_to list (gate_count list)), length-single (gate_count list) (λ k. gate_of (kind_at list k) (left_at list k) (right_at list k))))
+  xors-left m n g e h =
+      (h, omega (arith, e, h, gate-kinds (gates_to list (gate_count list)), length-single (gate_count list) (λ k. gate_of (kind_at list k) (left_at list k) (right_at list k))))

@@ -8,7 +8,7 @@ use native.Mathlib.Decide.{ℕ_discrete}
 use native.Mathlib.Omega.{arith}
 use lib.Dec.{eqb}
 use lib.Bits.{bit_xor}
-use lib.ListN.{length, get_or, set, replicate, length-set, length-replicate}
+use lib.ListN.{length, get_or, set, replicate}
 use lib.Seq.{get_or-set_same, get_or-set_other}
 use borrow.Author.Tests.{eq-eqb, ne_eqb, lt-ltb, le-ltb}
 use Rattle.gf2.specs.Operands.{choose}
@@ -19,7 +19,11 @@ use Rattle.netlist.specs.Judgements.{IsA, IsB, InForm}
 use Rattle.netlist.specs.Sets.{Products, one_product, set_on}
 use Rattle.netlist.proofs.SetLaws.{one-comm, gate-set-and, gate-set-xor}
 use Rattle.equivalence.specs.Causes.{most_width, most_gates}
-use Rattle.equivalence.specs.Inner.{set_bits, set_limbs, HasSets, place_of, bit_at, Ready, Gathered, SumPut}
+use Rattle.equivalence.specs.Inner.{set_bits, set_limbs, place_of, bit_at, Ready, Gathered, SumPut}
+
+-- limbs for the squares of all gates
+abbrev pub HasSets : List ℕ → Type 0
+HasSets sets = length sets ≡ most_gates * set_limbs
 
 -- the bit of ai·bj is one of its limb's
 pub bit-limb : (s : List ℕ) (k i j : ℕ) → bit_at s k i j ≡ get_or s (set_limbs * k + (most_width * i + j) / 64) 0 / 2 ^ ((most_width * i + j) % 64) % 2
@@ -46,14 +50,13 @@ bit-put s k at c h z = elim (ℕ_discrete (c / 64) (at / 64)) [
 
 -- a sum, limb by limb
 pub sum-none : {k x y : ℕ} {s : List ℕ} → SumPut 0 k x y s s
-sum-none = record { size = refl; sums = λ w h. absurd (omega arith); front = λ p h. refl; rest = λ p h. refl }
+sum-none = record { sums = λ w h. absurd (omega arith); front = λ p h. refl; rest = λ p h. refl }
 
-pub sum_more : {n k x y : ℕ} {s t : List ℕ} → HasSets s → k < most_gates → x < k → y < k → n < set_limbs → SumPut n k x y s t →
+pub sum_more : {n k x y : ℕ} {s t : List ℕ} → HasSets t → k < most_gates → x < k → y < k → n < set_limbs → SumPut n k x y s t →
     SumPut (n + 1) k x y s (set t (set_limbs * k + n) (bit_xor (get_or t (set_limbs * x + n) 0) (get_or t (set_limbs * y + n) 0)))
 sum_more {n} {k} {x} {y} {s} {t} room lk lx ly ln put = record {
-  size = length-set t _ _ ∙ put.size;
   sums = λ w h. elim (ℕ_discrete w n) [
-    | yes e ↦ rw e (get_or-set_same t (set_limbs * k + n) _ 0 (omega (arith, put.size, room))
+    | yes e ↦ rw e (get_or-set_same t (set_limbs * k + n) _ 0 (omega (arith, room))
         ∙ ap₂ bit_xor (put.front (set_limbs * x + n) (omega arith)) (put.front (set_limbs * y + n) (omega arith)))
     | no ne ↦ get_or-set_other t (set_limbs * k + n) (set_limbs * k + w) _ 0 (omega arith) ∙ put.sums w (omega arith)
   ];
@@ -67,7 +70,6 @@ clear = replicate (most_gates * set_limbs) 0
 
 pub gathered_none : (m : ℕ) (list : List ℕ) → Gathered m list 0 clear
 gathered_none m list = record {
-  size = length-replicate {A = ℕ} (most_gates * set_limbs) 0;
   bits = λ l i j h. absurd (omega arith);
   rest = λ p h. zero-at (most_gates * set_limbs) p;
 }
@@ -111,10 +113,9 @@ module _ (m : ℕ) (list : List ℕ) (ready : Ready m list) (k : ℕ) (lk : k < 
       bit-limb t l i j ∙ ap (λ x. x / 2 ^ ((most_width * i + j) % 64) % 2) (h (set_limbs * l + (most_width * i + j) / 64) (omega arith))
       ∙ sym (bit-limb s l i j) ∙ g.bits l i j ll li lj
 
-  pub product-gathered : kind_at list k ≡ 0 → InForm m 0 (left_at list k) (right_at list k) → (at : ℕ) → at ≡ place_of m (left_at list k) (right_at list k) → at < set_bits →
+  pub product-gathered : HasSets s → kind_at list k ≡ 0 → InForm m 0 (left_at list k) (right_at list k) → (at : ℕ) → at ≡ place_of m (left_at list k) (right_at list k) → at < set_bits →
       Gathered m list (k + 1) (set s (set_limbs * k + at / 64) (1 * 2 ^ (at % 64) % 2 ^ 64))
-  product-gathered e f at q small = record {
-    size = length-set s _ _ ∙ g.size;
+  product-gathered room e f at q small = record {
     bits = λ l i j h li lj. elim (ℕ_discrete l k) [
       | yes y ↦ rw y (here i j li lj)
       | no n ↦ kept _ (λ p o. get_or-set_other s (set_limbs * k + at / 64) p _ 0 (omega arith)) l i j (omega arith) li lj
@@ -126,14 +127,13 @@ module _ (m : ℕ) (list : List ℕ) (ready : Ready m list) (k : ℕ) (lk : k < 
           bit_at (set s (set_limbs * k + at / 64) (1 * 2 ^ (at % 64) % 2 ^ 64)) k i j ≡ set_on m (read_list list m) (2 * m + k) i j
       here i j li lj =
           bit-limb (set s (set_limbs * k + at / 64) (1 * 2 ^ (at % 64) % 2 ^ 64)) k i j
-          ∙ bit-put s k at (most_width * i + j) (omega (arith, g.size, ready.few)) (g.rest (set_limbs * k + (most_width * i + j) / 64) (omega arith))
+          ∙ bit-put s k at (most_width * i + j) (omega (arith, room, ready.few)) (g.rest (set_limbs * k + (most_width * i + j) / 64) (omega arith))
           ∙ ap (λ a. choose (eqb (most_width * i + j) a) 1 0) q ∙ place-one m (left_at list k) (right_at list k) i j ready.narrow f li lj
           ∙ sym (ap (λ (t : Products). t i j) (gate-set-and m list k lk e))
 
   pub sum-gathered : (kind_at list k ≡ 0 → ⊥) → 2 * m ≤ left_at list k → 2 * m ≤ right_at list k →
       (left_at list k - 2 * m < k) → (right_at list k - 2 * m < k) → {t : List ℕ} → SumPut set_limbs k (left_at list k - 2 * m) (right_at list k - 2 * m) s t → Gathered m list (k + 1) t
   sum-gathered n hl hr ll lr {t} put = record {
-    size = put.size ∙ g.size;
     bits = λ l i j h li lj. elim (ℕ_discrete l k) [
       | yes y ↦ rw y (here i j li lj)
       | no x ↦ kept t put.front l i j (omega arith) li lj

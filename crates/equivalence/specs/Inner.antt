@@ -1,5 +1,5 @@
 -- What only inner functions cite: the sets of products as bits in limbs, and what the filling and the comparing are given.
-use Rattle.std.specs.Prelude.{◌≡◌, true, List, ℕ, ◌+◌, ◌-◌, ◌*◌, ◌/◌, ◌<◌, ◌≤◌, ltb, length, get_or}
+use Rattle.std.specs.Prelude.{◌≡◌, true, List, ℕ, ◌+◌, ◌-◌, ◌*◌, ◌/◌, ◌<◌, ◌≤◌, ltb, get_or}
 use Rattle.std.specs.Int.Bits.{bit_xor}
 use Rattle.gf2.specs.Sums.{every}
 use Rattle.gf2.specs.Operands.{choose}
@@ -15,10 +15,6 @@ set_bits = most_width * most_width
 
 abbrev pub set_limbs : ℕ
 set_limbs = set_bits / 64
-
--- limbs for the squares of all gates
-abbrev pub HasSets : List ℕ → Type 0
-HasSets sets = length sets ≡ most_gates * set_limbs
 
 -- where the product of a wire of a and one of b has its bit
 abbrev pub place_of : ℕ → ℕ → ℕ → ℕ
@@ -38,18 +34,16 @@ pub record Ready (m : ℕ) (list : List ℕ) : Type 0 where
 
 -- the squares of the first k gates have the products that are summed in them; those of the others are clear
 pub record Gathered (m : ℕ) (list : List ℕ) (k : ℕ) (sets : List ℕ) : Type 0 where
-  pub size : HasSets sets
   pub bits : (l i j : ℕ) → l < k → i < most_width → j < most_width → bit_at sets l i j ≡ set_on m (read_list list m) (2 * m + l) i j
   pub rest : (p : ℕ) → set_limbs * k ≤ p → get_or sets p 0 ≡ 0
 
 -- the first n limbs of gate k's square are those of gates x and y added; the other limbs are as they were
 pub record SumPut (n k x y : ℕ) (before after : List ℕ) : Type 0 where
-  pub size : length after ≡ length before
   pub sums : (w : ℕ) → w < n →
       get_or after (set_limbs * k + w) 0 ≡ bit_xor (get_or before (set_limbs * x + w) 0) (get_or before (set_limbs * y + w) 0)
   pub front : (p : ℕ) → p < set_limbs * k → get_or after p 0 ≡ get_or before p 0
   pub rest : (p : ℕ) → set_limbs * k + n ≤ p → get_or after p 0 ≡ get_or before p 0
 
--- the squares of all gates of such a list
+-- the squares of all gates
 abbrev pub AllGathered : ℕ → List ℕ → List ℕ → Type 0
-AllGathered m list sets = Ready m list × Gathered m list (gate_count list) sets
+AllGathered m list sets = Gathered m list (gate_count list) sets

@@ -1,10 +1,12 @@
 // The gates of a list: whether each is of the form that is compared, and how many are ANDs.
-ghost use Rattle.std.specs.Prelude.{◌≡◌, ◌<◌, ◌≤◌};
+ghost use Rattle.std.specs.Prelude.{◌≡◌, ◌≤◌};
 ghost use Rattle.gf2.specs.Sums.{every};
-ghost use Rattle.netlist.specs.Gates.{word_limit, and_gates};
-ghost use Rattle.netlist.specs.Running.{gates_to};
+ghost use Rattle.netlist.specs.Gates.{and_gates};
+ghost use Rattle.netlist.specs.Running.{gate_count, gates_to};
 ghost use Rattle.netlist.specs.Judgements.{is_pair, is_in_form, is_formed};
 ghost use Rattle.equivalence.specs.Causes.{most_width};
+
+use runner::GateList;
 
 // One wire of a and one of b.
 fn is_pair(width: usize, a: usize, b: usize) -> bool
@@ -21,7 +23,7 @@ fn is_pair(width: usize, a: usize, b: usize) -> bool
 }
 
 // An AND takes one wire of a and one of b, on either side, an XOR two gates.
-fn in_form(width: usize, kind: usize, left: usize, right: usize) -> bool
+fn in_form(width: usize, kind: u32, left: usize, right: usize) -> bool
     requires { width ≤ most_width }
     ensures { result ≡ is_in_form width kind left right }
 {
@@ -37,32 +39,23 @@ fn in_form(width: usize, kind: usize, left: usize, right: usize) -> bool
     2 * width <= right
 }
 
-// Gate k by its words.
-fn is_formed(width: usize, list: &[u32], k: usize) -> bool
-    requires { (width ≤ most_width) × (k < word_limit) }
-    ensures { result ≡ is_formed width list.now k }
+fn is_formed(list: &GateList, k: u32) -> bool
+    requires { list.now.width ≤ most_width }
+    ensures { result ≡ is_formed list.now.width list.now.words.now k }
 {
-    let at = 2 + 3 * k;
-    let kind = runner::word(list, at);
-    let left = runner::word(list, at + 1);
-    let right = runner::word(list, at + 2);
-    in_form(width, kind, left, right)
+    in_form(list.width, list.kind(k), list.left(k), list.right(k))
 }
 
-// The first g gates.
-pub(crate) fn are_formed(width: usize, list: &[u32], g: usize) -> bool
-    requires { (width ≤ most_width) × (g < word_limit) }
-    ensures { result ≡ every g (is_formed width list.now) }
+pub(crate) fn are_formed(list: &GateList) -> bool
+    requires { list.now.width ≤ most_width }
+    ensures { result ≡ every (gate_count list.now.words.now) (is_formed list.now.width list.now.words.now) }
 {
-    (0..g).all(|k| is_formed(width, list, k))
+    (0..list.gates()).all(|k| is_formed(list, k))
 }
 
-// The ANDs among the first g gates.
-pub(crate) fn count_ands(list: &[u32], g: usize) -> usize
-    requires { g < word_limit }
-    ensures { (result ≡ and_gates (gates_to list.now g)) × (result ≤ g) }
+// How many of its gates are ANDs.
+pub(crate) fn count_ands(list: &GateList) -> usize
+    ensures { (result ≡ and_gates (gates_to list.now.words.now (gate_count list.now.words.now))) × (result ≤ gate_count list.now.words.now) }
 {
-    (0..g)
-        .filter(|k| runner::word(list, 2 + 3 * *k) == 0)
-        .count()
+    (0..list.gates()).filter(|k| list.kind(*k) == 0).count()
 }

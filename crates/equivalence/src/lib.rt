@@ -7,7 +7,9 @@ ghost use Rattle.equivalence.specs.Calls.{accept_call};
 
 use judging::Fault;
 use netlist::{AndCount, GateCounts, XorCount};
+use runner::GateList;
 
+mod comparison;
 mod gates;
 mod judge;
 mod outputs;
@@ -21,11 +23,11 @@ pub(crate) const MOST_GATES: usize = 2000;
 pub fn accept(width: usize, table: &[u8], list: &[u32]) -> Result<GateCounts, Fault>
     ensures { result ≡ accept_call width table.now list.now }
 {
-    judge::judge_all(width, table, list)?;
-    let g = runner::word(list, 1);
-    let n = gates::count_ands(list, g);
+    let list = GateList { width, words: list };
+    judge::judge_all(table, &list)?;
+    let n = gates::count_ands(&list);
     Ok(GateCounts {
         ands: AndCount(n),
-        xors: XorCount(g - n),
+        xors: XorCount(list.gates() as usize - n),
     })
 }

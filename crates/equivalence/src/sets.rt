@@ -3,8 +3,9 @@ ghost use Rattle.std.specs.Prelude.{◌≡◌, ◌+◌, ◌*◌, ◌/◌, ◌%�
 ghost use Rattle.netlist.specs.Running.{gate_count};
 ghost use Rattle.netlist.specs.Judgements.{InForm};
 ghost use Rattle.equivalence.specs.Causes.{most_width, most_gates};
-ghost use Rattle.equivalence.specs.Inner.{set_bits, set_limbs, HasSets, place_of, Ready, Gathered, SumPut};
+ghost use Rattle.equivalence.specs.Inner.{set_bits, set_limbs, place_of, Gathered, AllGathered, SumPut};
 
+use crate::comparison::Comparison;
 use crate::{MOST_GATES, MOST_WIDTH};
 
 // The bits and the limbs of a gate's square.
@@ -27,16 +28,16 @@ fn place(width: usize, left: usize, right: usize) -> usize
 }
 
 // The square of gate k, which was clear, with one product.
-fn put_product(sets: &mut [u64], k: usize, at: usize)
-    requires { HasSets sets.old × (k < most_gates) × (at < set_bits) }
+fn put_product(sets: &mut [u64; ROOM], k: usize, at: usize)
+    requires { (k < most_gates) × (at < set_bits) }
     ensures { sets.new ≡ set sets.old (set_limbs * k + at / 64) (1 * 2 ^ (at % 64) % 2 ^ 64) }
 {
     sets[LIMBS * k + at / 64] = 1u64 << (at % 64);
 }
 
 // The square of gate k, those of gates x and y added: a product that is in both falls out.
-fn put_sum(sets: &mut [u64], k: usize, x: usize, y: usize)
-    requires { HasSets sets.old × (k < most_gates) × (x < k) × (y < k) }
+fn put_sum(sets: &mut [u64; ROOM], k: usize, x: usize, y: usize)
+    requires { (k < most_gates) × (x < k) × (y < k) }
     ensures { SumPut set_limbs k x y sets.old sets.new }
 {
     for w in 0..LIMBS {
@@ -44,27 +45,29 @@ fn put_sum(sets: &mut [u64], k: usize, x: usize, y: usize)
     }
 }
 
-// The square of gate k, from those before it.
-fn fill_set(width: usize, list: &[u32], k: usize, sets: &mut [u64])
-    requires { Ready width list.now × (k < gate_count list.now) × Gathered width list.now k sets.old }
-    ensures { Gathered width list.now (k + 1) sets.new }
-{
-    let at = 2 + 3 * k;
-    let left = runner::word(list, at + 1);
-    let right = runner::word(list, at + 2);
-    if runner::word(list, at) == 0 {
-        put_product(sets, k, place(width, left, right));
-    } else {
-        put_sum(sets, k, left - 2 * width, right - 2 * width);
+impl<'a> Comparison<'a> {
+    // The square of gate k, from those before it.
+    fn fill_set(&self, k: u32, sets: &mut [u64; ROOM])
+        requires { (k < gate_count self.now.list.words.now) × Gathered self.now.list.width self.now.list.words.now k sets.old }
+        ensures { Gathered self.now.list.width self.now.list.words.now (k + 1) sets.new }
+    {
+        let width = self.list.width;
+        let left = self.list.left(k);
+        let right = self.list.right(k);
+        if self.list.kind(k) == 0 {
+            put_product(sets, k as usize, place(width, left, right));
+        } else {
+            put_sum(sets, k as usize, left - 2 * width, right - 2 * width);
+        }
     }
-}
 
-// The squares of the first g gates.
-pub(crate) fn fill_sets(width: usize, list: &[u32], g: usize, sets: &mut [u64])
-    requires { Ready width list.now × (g ≡ gate_count list.now) × Gathered width list.now 0 sets.old }
-    ensures { Gathered width list.now g sets.new }
-{
-    for k in 0..g {
-        fill_set(width, list, k, sets);
+    // The squares of all gates.
+    pub(crate) fn fill_sets(&self, sets: &mut [u64; ROOM])
+        requires { Gathered self.now.list.width self.now.list.words.now 0 sets.old }
+        ensures { AllGathered self.now.list.width self.now.list.words.now sets.new }
+    {
+        for k in 0..self.list.gates() {
+            self.fill_set(k, sets);
+        }
     }
 }

@@ -1,11 +1,10 @@
 -- What only inner functions cite: the parts of the causes, and what the filling of wires and result is given.
-use Rattle.std.specs.Prelude.{◌≡◌, true, List, [], ◌∷◌, ◌++◌, ℕ, ◌+◌, ◌-◌, ◌*◌, ◌<◌, ◌≤◌, length, get_or}
+use Rattle.std.specs.Prelude.{◌≡◌, true, List, [], ◌∷◌, ◌++◌, ℕ, ◌-◌, ◌<◌, ◌≤◌, length, get_or}
 use Rattle.gf2.specs.Sums.{every}
 use Rattle.gf2.specs.Operands.{max_width, bytes_for}
 use Rattle.judging.specs.Causes.{Cause}
 use Rattle.judging.specs.FaultTable.{bad_width, bad_length, high_bit}
 use Rattle.operand.specs.declared.Operand.{Operand}
-use Rattle.netlist.specs.Gates.{word_limit}
 use Rattle.netlist.specs.Running.{applied, value_on, kind_at, left_at, right_at, gate_count, output_at}
 use Rattle.netlist.specs.Judgements.{is_gate, is_output}
 use Rattle.runner.specs.Causes.{few_words, other_width, bad_words, bad_wires, bad_gates}
@@ -45,24 +44,15 @@ pub record AreBits (n : ℕ) (values : List ℕ) : Type 0 where
 abbrev pub gate_at : List ℕ → ℕ → List ℕ → ℕ
 gate_at list k values = applied (kind_at list k) (value_on values (left_at list k)) (value_on values (right_at list k))
 
--- gate k is good, the wires before its own are filled, and the last of them is at hand
-pub record IsNext (m : ℕ) (list : List ℕ) (k : ℕ) (values : List ℕ) (last : ℕ) : Type 0 where
-  pub greatest : m ≤ max_width
-  pub few : k < word_limit
-  pub good : is_gate m list k ≡ true
-  pub room : 2 * m + k ≤ length values
-  pub bits : AreBits (2 * m + k) values
-  pub at_hand : last ≡ get_or values (2 * m + k - 1) 0
+-- the n wires before a gate's own are filled, and the last of them is at hand
+pub record IsNext (n : ℕ) (values : List ℕ) (last : ℕ) : Type 0 where
+  pub room : n ≤ length values
+  pub bits : AreBits n values
+  pub at_hand : last ≡ get_or values (n - 1) 0
 
--- g gates whose wires are earlier, and a byte per wire
-pub record HasGates (m g : ℕ) (list wires : List ℕ) : Type 0 where
+-- a width, gates whose wires are earlier, and output wires that are there
+pub record IsRunnable (m : ℕ) (list : List ℕ) : Type 0 where
   pub least : 1 ≤ m
   pub greatest : m ≤ max_width
-  pub byte_per_wire : length wires ≡ 2 * m + g
-  pub good : every g (is_gate m list) ≡ true
-
--- output wires that are there, and a byte per wire
-pub record HasOutputs (m : ℕ) (list wires : List ℕ) : Type 0 where
-  pub greatest : m ≤ max_width
-  pub byte_per_wire : length wires ≡ 2 * m + gate_count list
-  pub present : every m (is_output m list) ≡ true
+  pub gates : every (gate_count list) (is_gate m list) ≡ true
+  pub outputs : every m (is_output m list) ≡ true

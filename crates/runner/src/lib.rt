@@ -9,34 +9,34 @@ ghost use Rattle.runner.specs.Causes.{run_causes, run_bytes_causes};
 ghost use Rattle.runner.specs.Calls.{run_bytes_result, run_bytes_wires, run_result, run_wires};
 ghost use Rattle.runner.specs.Inner.{list_causes};
 
+use crate::lists::Runnable;
 use judging::Fault;
 use operand::Operand;
 
 mod judge;
+mod lists;
 mod output;
 mod wires;
-mod words;
 
-pub use judge::{judge_gates, judge_words};
-pub use words::word;
+pub use lists::GateList;
 
 // The sizes of operands and result have passed: what is left to judge, and the work.
 fn run_sized(
-    width: usize,
-    list: &[u32],
+    list: &GateList,
     x: [u8; limbs::BYTES],
     y: [u8; limbs::BYTES],
     res: &mut [u8],
     wires: &mut [u8],
 ) -> Result<(), Fault>
-    requires { (2 ≤ width) × (width ≤ max_width) × (length res.old ≡ bytes_for width) }
-    ensures { (result ≡ judged (list_causes width list.now x y (length wires.old)))
-        × (res.new ≡ run_bytes_result result width list.now x y res.old)
-        × (wires.new ≡ run_bytes_wires result width list.now x y wires.old) }
+    requires { (2 ≤ list.now.width) × (list.now.width ≤ max_width) × (length res.old ≡ bytes_for list.now.width) }
+    ensures { (result ≡ judged (list_causes list.now.width list.now.words.now x y (length wires.old)))
+        × (res.new ≡ run_bytes_result result list.now.width list.now.words.now x y res.old)
+        × (wires.new ≡ run_bytes_wires result list.now.width list.now.words.now x y wires.old) }
 {
-    judge::judge_list(width, list, x, y, wires.len())?;
-    wires::fill_wires(width, list, &x, &y, wires);
-    output::fill_result(width, list, wires, res);
+    list.judge_list(x, y, wires.len())?;
+    let passed = Runnable { list: *list };
+    passed.fill_wires(&x, &y, wires);
+    passed.fill_result(wires, res);
     Ok(())
 }
 
@@ -55,7 +55,7 @@ pub fn run(
     judge::judge_carried(width, a, b, res.len())?;
     let x = a.bytes;
     let y = b.bytes;
-    run_sized(width, list, x, y, res, wires)
+    run_sized(&GateList { width, words: list }, x, y, res, wires)
 }
 
 pub fn run_bytes(
@@ -72,8 +72,7 @@ pub fn run_bytes(
 {
     judging::judge_sizes(width, &[a.len(), b.len(), res.len()])?;
     run_sized(
-        width,
-        list,
+        &GateList { width, words: list },
         limbs::carried(a),
         limbs::carried(b),
         res,

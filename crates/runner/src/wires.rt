@@ -3,11 +3,10 @@ ghost use Rattle.std.specs.Prelude.{◌≡◌, ◌+◌, ◌-◌, ◌*◌, ◌<�
 ghost use Rattle.std.proofs.lemmas.List.Edits.{sets};
 ghost use Rattle.gf2.specs.Coordinates.{coord, tabulate};
 ghost use Rattle.gf2.specs.Operands.{max_width};
-ghost use Rattle.netlist.specs.Gates.{word_limit};
 ghost use Rattle.netlist.specs.Running.{applied, run as run_gates, wires as wires_of, gates_to, gate_count, read_list};
-ghost use Rattle.runner.specs.Inner.{AreBits, HasGates, IsNext, gate_at};
+ghost use Rattle.runner.specs.Inner.{AreBits, IsNext, gate_at};
 
-use crate::words;
+use crate::lists::Runnable;
 
 // The coordinates of an operand, on the wires from `at` on.
 fn fill_operand(width: usize, bytes: &[u8], at: usize, wires: &mut [u8])
@@ -19,7 +18,7 @@ fn fill_operand(width: usize, bytes: &[u8], at: usize, wires: &mut [u8])
     }
 }
 
-fn gate_value(kind: usize, x: u8, y: u8) -> u8
+fn gate_value(kind: u32, x: u8, y: u8) -> u8
     requires { (x < 2) × (y < 2) }
     ensures { result ≡ applied kind x y }
 {
@@ -34,36 +33,39 @@ fn on_wire(wires: &[u8], wire: usize, own: usize, last: u8) -> u8
     if wire + 1 == own { last } else { wires[wire] }
 }
 
-// The value of gate k, from two wires before its own.
-fn gate_at(width: usize, list: &[u32], k: usize, wires: &[u8], last: u8) -> u8
-    requires { IsNext width list.now k wires.now last }
-    ensures { result ≡ gate_at list.now k wires.now }
-{
-    let own = 2 * width + k;
-    let at = 2 + 3 * k;
-    let x = on_wire(wires, words::word(list, at + 1), own, last);
-    let y = on_wire(wires, words::word(list, at + 2), own, last);
-    gate_value(words::word(list, at), x, y)
-}
-
-// The wires of the gates. The last wire is kept: a sum's next gate reads it at once.
-fn fill_gates(width: usize, list: &[u32], g: usize, wires: &mut [u8])
-    requires { HasGates width g list.now wires.old × (g < word_limit) × AreBits (2 * width) wires.old }
-    ensures { wires.new ≡ run_gates (gates_to list.now g) (take (2 * width) wires.old) }
-{
-    let mut last = wires[2 * width - 1];
-    for k in 0..g {
-        let next = gate_at(width, list, k, wires, last);
-        wires[2 * width + k] = next;
-        last = next;
+impl<'a> Runnable<'a> {
+    // The value of gate k, from two wires before its own.
+    fn gate_at(&self, k: u32, wires: &[u8], last: u8) -> u8
+        requires { (k < gate_count self.now.list.words.now) × IsNext (2 * self.now.list.width + k) wires.now last }
+        ensures { result ≡ gate_at self.now.list.words.now k wires.now }
+    {
+        let own = 2 * self.list.width + k as usize;
+        let x = on_wire(wires, self.list.left(k), own, last);
+        let y = on_wire(wires, self.list.right(k), own, last);
+        gate_value(self.list.kind(k), x, y)
     }
-}
 
-pub(crate) fn fill_wires(width: usize, list: &[u32], a: &[u8], b: &[u8], wires: &mut [u8])
-    requires { HasGates width (gate_count list.now) list.now wires.old }
-    ensures { wires.new ≡ wires_of width (read_list list.now width) a.now b.now }
-{
-    fill_operand(width, a, 0, wires);
-    fill_operand(width, b, width, wires);
-    fill_gates(width, list, words::word(list, 1), wires);
+    // The wires of the gates. The last wire is kept: a sum's next gate reads it at once.
+    fn fill_gates(&self, wires: &mut [u8])
+        requires { (length wires.old ≡ 2 * self.now.list.width + gate_count self.now.list.words.now) × AreBits (2 * self.now.list.width) wires.old }
+        ensures { wires.new ≡ run_gates (gates_to self.now.list.words.now (gate_count self.now.list.words.now)) (take (2 * self.now.list.width) wires.old) }
+    {
+        let first = 2 * self.list.width;
+        let mut last = wires[first - 1];
+        for k in 0..self.list.gates() {
+            let next = self.gate_at(k, wires, last);
+            wires[first + k as usize] = next;
+            last = next;
+        }
+    }
+
+    pub(crate) fn fill_wires(&self, a: &[u8], b: &[u8], wires: &mut [u8])
+        requires { length wires.old ≡ 2 * self.now.list.width + gate_count self.now.list.words.now }
+        ensures { wires.new ≡ wires_of self.now.list.width (read_list self.now.list.words.now self.now.list.width) a.now b.now }
+    {
+        let width = self.list.width;
+        fill_operand(width, a, 0, wires);
+        fill_operand(width, b, width, wires);
+        self.fill_gates(wires);
+    }
 }

@@ -12,5 +12,5 @@ returns-in_err-judge_all c =
 pub returns : goal.returns
 returns c =
     let a = c.args in
-    let x = xors-left a.list.now a.width c.count_ands-n.result c.word-g.result c.word-g.ensures.0 c.count_ands-n.ensures.0 in
+    let x = xors-left a.list.now a.width c.count_ands-n.result c.gates.result c.gates.ensures c.count_ands-n.ensures.0 in
     ap₂ counted_as x.0 x.1 ∙ answer-given _ (sym c.judge_all.ensures ∙ c.in_ok-judge_all.was)

@@ -9,10 +9,10 @@ use Rattle.runner.proofs.run_sized.Goals as goal
 use Rattle.runner.proofs.run_sized.Goals.{In_ok-judge_list}
 
 -- the list that was given no fault
-found : (c : In_ok-judge_list) → let a = c.args in FineList a.width a.list.now (length a.wires.now)
+found : (c : In_ok-judge_list) → let a = c.args in FineList a.list.now.width a.list.now.words.now (length a.wires.now)
 found c =
     let a = c.args in
-    list-fine a.width a.list.now a.x a.y (length a.wires.now) (sym c.judge_list.ensures ∙ c.in_ok-judge_list.was)
+    list-fine a.list.now.width a.list.now.words.now a.x a.y (length a.wires.now) (sym c.judge_list.ensures ∙ c.in_ok-judge_list.was)
 
 pub judge_list-requires : goal.judge_list-requires
 judge_list-requires c = let p = c.requires in (p.0, p.1)
@@ -26,22 +26,22 @@ returns-in_err-judge_list c =
       kept-wires _ _ _ _ _ (handed_on r e refl),
     )
 
-pub fill_wires-requires : goal.fill_wires-requires
-fill_wires-requires c =
-    let f = found (goal.at.fill_wires-requires c).In_ok-judge_list in
+pub invariant_of-passed : goal.invariant_of-passed
+invariant_of-passed c =
+    let f = found (goal.at.invariant_of-passed c).In_ok-judge_list in
     let p = c.requires in
-    record { least = omega (arith, p.0); greatest = p.1; byte_per_wire = f.byte_per_wire; good = f.gates }
+    record { passed = record { least = omega (arith, p.0); greatest = p.1; gates = f.gates; outputs = f.outputs } }
+
+pub fill_wires-requires : goal.fill_wires-requires
+fill_wires-requires c = (found (goal.at.fill_wires-requires c).In_ok-judge_list).byte_per_wire
 
 pub fill_result-requires : goal.fill_result-requires
-fill_result-requires c =
-    let f = found (goal.at.fill_result-requires c).In_ok-judge_list in
-    let p = c.requires in
-    (record { greatest = p.1; byte_per_wire = c.fill_wires.auto.wires ∙ f.byte_per_wire; present = f.outputs }, p.2)
+fill_result-requires c = (c.fill_wires.auto.wires ∙ (found (goal.at.fill_result-requires c).In_ok-judge_list).byte_per_wire, c.requires.2)
 
 pub returns : goal.returns
 returns c =
     let a = c.args in (
       sym c.in_ok-judge_list.was ∙ c.judge_list.ensures,
-      ran-result a.width a.list.now a.x a.y a.res.now c.fill_wires.ensures c.fill_result.ensures,
+      ran-result a.list.now.width a.list.now.words.now a.x a.y a.res.now c.fill_wires.ensures c.fill_result.ensures,
       c.fill_wires.ensures,
     )

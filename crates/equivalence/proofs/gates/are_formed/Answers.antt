@@ -1,10 +1,13 @@
 -- `equivalence::gates::are_formed` meets its contract.
+use mathlib.Core.Path.{ap, ◌∙◌}
 use Rattle.std.proofs.Common.{rules, tests}
+use Rattle.gf2.specs.Sums.{every}
 use Rattle.netlist.specs.Judgements.{is_formed}
 use Rattle.netlist.proofs.Ranges.{every-from_all}
 use Rattle.equivalence.proofs.gates.are_formed.Goals as goal
 
 pub returns : goal.returns
 returns c =
-    let a = c.args in
-    every-from_all (is_formed a.width a.list.now) a.g _ _ _ c.all.ensures.ran (λ x b q k. search (rules, tests))
+    let l = c.args.list.now in
+    every-from_all (is_formed l.width l.words.now) c.gates.result _ _ _ c.all.ensures.ran (λ x b q k. search (rules, tests))
+    ∙ ap (λ g. every g (is_formed l.width l.words.now)) c.gates.ensures

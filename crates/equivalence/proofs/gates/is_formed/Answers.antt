@@ -5,6 +5,6 @@ use Rattle.equivalence.proofs.gates.is_formed.Goals as goal
 
 pub returns : goal.returns
 returns c =
-    let a = c.args in
-    c.in_form.ensures ∙ ap (λ k. is_in_form a.width k c.word-left.result c.word-right.result) c.word-kind.ensures.0
-    ∙ ap₂ (is_in_form a.width _) c.word-left.ensures.0 c.word-right.ensures.0
+    let m = c.args.list.now.width in
+    c.in_form.ensures ∙ ap (λ k. is_in_form m k c.left.result c.right.result) c.kind.ensures
+    ∙ ap₂ (is_in_form m _) c.left.ensures c.right.ensures
