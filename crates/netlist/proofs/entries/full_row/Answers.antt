@@ -4,4 +4,4 @@ use Rattle.netlist.proofs.entries.full_row.Goals as goal
 
 pub returns : goal.returns
 returns c =
-    full-count c.args.d c.requires.0 c.requires.1 c.row_limbs-row.ensures c.ones_in.ensures
+    rw c.width-2.ensures (full-count c.args.d c.args.table.now.shaped c.requires (rw (c.width.ensures, c.bytes.ensures) at c.row_limbs-row.ensures) c.ones_in.ensures)
