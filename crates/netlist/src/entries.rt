@@ -10,8 +10,7 @@ fn full_row(table: &Table, d: usize) -> bool
     requires { d < table.now.width }
     ensures { result ≡ all_ones table.now.width (row table.now.width table.now.bytes.now d) }
 {
-    let row = ones::row_limbs(table.width(), table.bytes(), d);
-    ones::ones_in(&row) == table.width()
+    ones::ones_of(table.row(d)) == table.width()
 }
 
 pub(crate) fn full_rows(table: &Table) -> usize

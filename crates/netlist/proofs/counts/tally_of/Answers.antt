@@ -1,9 +1,8 @@
 -- `netlist::counts::tally_of` meets its contract.
 use mathlib.Core.Path.{◌≡◌, ap₂, ◌∙◌}
-use native.Mathlib.Omega.{arith}
 use Rattle.gf2.specs.Tables.{ones_in}
 use Rattle.netlist.specs.Methods.{xors_by, gates_by}
-use Rattle.netlist.proofs.TableLaws.{width-square, ones-counted}
+use Rattle.netlist.proofs.TableLaws.{ones-counted}
 use Rattle.netlist.proofs.CallLaws.{countable, number_by, gates-by, tally-counted}
 use Rattle.netlist.proofs.counts.tally_of.Goals as goal
 use Rattle.netlist.proofs.counts.tally_of.Goals.{After-ones_of}
