@@ -1,18 +1,20 @@
--- Laws of the calls that write: what the counted gates tell of a table, and the answers and buffers.
+-- Laws of the calls that write: the words of a list whose gates are counted, and the answers and buffers.
 use Rattle.std.specs.Prelude.{Result, Ok, Err, is_ok}
 use mathlib.Core.Path.{◌≡◌, refl, sym, ap, ◌∙◌}
-use mathlib.Core.List.{List, [], ◌∷◌, ◌++◌}
+use mathlib.Core.List.{List, [], ◌∷◌}
 use Prim.Native.Nat.{ℕ, zero, suc, ◌+◌, ◌*◌, ◌<◌, ◌≤◌}
 use native.Mathlib.Omega.{arith}
-use lib.ListN.{length, drop}
+use lib.ListN.{length}
 use borrow.Author.Tests.{lt-ltb, le-ltb}
 use Rattle.gf2.specs.Operands.{choose}
+use Rattle.gf2.specs.Check.{Symmetric}
 use Rattle.judging.specs.declared.fault.Fault.{Fault}
 use Rattle.judging.specs.declared.fault.Fault.TheVariants.{Call}
 use Rattle.judging.specs.declared.fault.CallFault.TheVariants.{OutputShort}
 use Rattle.judging.specs.Causes.{judged}
 use Rattle.judging.specs.FaultTable.{too_short, symmetry_causes}
-use Rattle.judging.proofs.CauseLaws.{head-holds, head-fails, stops, goes_on, answer-given, answer-refused, answer-passed, answer-failed}
+use Rattle.judging.proofs.CauseLaws.{head-holds, head-fails, stops, goes_on, answer-given, answer-refused}
+use Rattle.table.specs.Rows.{Shaped}
 use Rattle.table.specs.Judgements.{symmetry_verdict}
 use Rattle.netlist.specs.declared.GateCounts.{GateCounts}
 use Rattle.netlist.specs.declared.Tallied.{Tallied}
@@ -21,41 +23,30 @@ use Rattle.netlist.specs.declared.counts.Method.TheVariants.{Common}
 use Rattle.netlist.specs.Gates.{Netlist, word_limit, words}
 use Rattle.netlist.specs.Lists.{plain, sharing, common, full_rows, if_none}
 use Rattle.netlist.specs.Calls.{counts_of, list_verdict, list_call, list_buffer}
-use Rattle.netlist.specs.Methods.{list_by, shared_by, tallied, tally_call}
-use Rattle.netlist.proofs.CallLaws.{table-fine, sized-by}
-use Rattle.list_writer.specs.Inner.{listed, Told}
+use Rattle.netlist.specs.Statements.{Sized}
+use Rattle.netlist.specs.Methods.{list_by, shared_by, tallied}
+use Rattle.netlist.proofs.CallLaws.{sized-by}
+use Rattle.list_writer.specs.Inner.{listed}
 use Rattle.list_writer.proofs.ListLaws.{few_words_lem}
 
--- what is told by the numbers of a table that passes
-pub record Counted (method : Method) (m : ℕ) (table : List ℕ) (t : Tallied) : Type 0 where
-  pub passed : symmetry_verdict m table ≡ Ok tt
-  pub numbers : t ≡ tallied method m table
-  pub told : Told method m table t.full
-  pub gates : t.gates ≡ length (list_by method m table).gates
+-- the words of a list whose gates are counted
+module _ (method : Method) {m : ℕ} {table : List ℕ} (h : Shaped m table) (y : Symmetric m table) {t : Tallied} (e : t ≡ tallied method m table) where
+  pub sized : Sized m (list_by method m table)
+  sized = sized-by m table h.least h.is_table y method
 
-pub counted : (method : Method) (m : ℕ) (table : List ℕ) {r : Result Tallied Fault} {t : Tallied} → r ≡ tally_call method m table → r ≡ Ok t → Counted method m table t
-counted method m table {t = t} e q =
-    let p = answer-passed (symmetry_verdict m table) (sym e ∙ q) in
-    let f = table-fine m table p.0 in
-    record {
-      passed = p.0;
-      numbers = sym p.1;
-      told = record { shaped = f.0; sized = sized-by m table f.0.least f.0.is_table f.1 method; shared = ap (λ (t : Tallied). t.full) (sym p.1) };
-      gates = ap (λ (t : Tallied). t.gates) (sym p.1);
-    }
+  pub gates-counted : t.gates ≡ length (list_by method m table).gates
+  gates-counted = ap (λ (t : Tallied). t.gates) e
 
--- the words of a list that is told of
-module _ {method : Method} {m : ℕ} {table : List ℕ} {full : ℕ} (t : Told method m table full) {g : ℕ} (e : g ≡ length (list_by method m table).gates) where
-  pub told-few : 3 * g + m * m + 3 * m + 2 < word_limit
-  told-few = few_words_lem m g t.shaped.greatest (omega (arith, e, t.sized.most_gates))
+  pub words-few : 3 * t.gates + m * m + 3 * m + 2 < word_limit
+  words-few = few_words_lem m t.gates h.greatest (omega (arith, gates-counted, sized.most_gates))
 
-  pub told-words : length (words m (list_by method m table)) ≡ 2 + 3 * g + m
-  told-words = t.sized.by_gates ∙ ap (λ g. 2 + 3 * g + m) (sym e)
+  pub words-counted : length (words m (list_by method m table)) ≡ 2 + 3 * t.gates + m
+  words-counted = sized.by_gates ∙ ap (λ g. 2 + 3 * g + m) (sym gates-counted)
 
 -- the common list, with and without shared rows
-module _ {method : Method} {m : ℕ} {table : List ℕ} {full : ℕ} (t : Told method m table full) (e : method ≡ Common) where
+module _ {method : Method} (m : ℕ) (table : List ℕ) {full : ℕ} (s : full ≡ shared_by method m table) (e : method ≡ Common) where
   rows : full ≡ full_rows m table
-  rows = t.shared ∙ ap (λ z. shared_by z m table) e
+  rows = s ∙ ap (λ z. shared_by z m table) e
 
   pub list-none : full ≡ 0 → list_by method m table ≡ plain m table
   list-none z = ap (λ z. list_by z m table) e ∙ go (full_rows m table) refl (sym rows ∙ z)

@@ -16,10 +16,6 @@ use Rattle.gf2.specs.Tables.{row, ones_in}
 use Rattle.gf2.proofs.Sums.{sum-ext, sum-clear, sum-bits, sum-next, every-at, every_of}
 use Rattle.gf2.proofs.Parity.{bool-ext}
 use Rattle.gf2.proofs.Coordinates.{coord-lt}
-use Rattle.limbs.specs.Limbs.{carried_limbs, limb_coord}
-use Rattle.ones.specs.RowLimbs.{row_limbs}
-use Rattle.limbs.proofs.LimbCoords.{limb-pack}
-use Rattle.ones.proofs.RowLimbs.{row-limbs}
 use Rattle.table.specs.Rows.{Shaped}
 use Rattle.table.proofs.TableOnes.{ones_small}
 use Rattle.netlist.specs.Lists.{all_ones}
@@ -57,19 +53,23 @@ ones-each (suc n) f b e i l =
     ]
 
 -- row d has as many ones as the width just where it is all ones
-pub full-count : {m : ℕ} {table : List ℕ} (d : ℕ) → Shaped m table → d < m → {x : List ℕ} {n : ℕ} → x ≡ row_limbs m table d → n ≡ sum (64 * carried_limbs) (limb_coord x) → eqb n m ≡ all_ones m (row m table d)
+pub full-count : {m : ℕ} {table : List ℕ} (d : ℕ) → Shaped m table → d < m → {n : ℕ} → n ≡ sum (8 * length (row m table d)) (coord (row m table d)) % 2 ^ 64 → eqb n m ≡ all_ones m (row m table d)
 unfolding all_ones
-full-count {m} {table} d s l {x} {n} ex en = bool-ext _ _
+full-count {m} {table} d s l {n} en = bool-ext _ _
     (λ e. every_of m _ (λ i h. eq-eqb _ 1 (ones-each m f (coord-lt (row m table d)) (sym count ∙ eqb-true n m e) i h)))
     (λ e. eq-eqb n m (count ∙ sum-ext m f (λ i. 1) (λ i h. eqb-true _ _ (every-at m _ e i h)) ∙ sum_ones m))
   where
     f : ℕ → ℕ
     f = coord (row m table d)
 
+    wide : m ≤ 8 * length (row m table d)
+    wide = omega (arith, (s.is_table.rows d l).size)
+
+    all : sum (8 * length (row m table d)) f ≡ sum m f
+    all = sum-clear m (8 * length (row m table d)) f wide (s.is_table.rows d l).clear
+
     count : n ≡ sum m f
-    count = en ∙ ap (λ z. sum (64 * carried_limbs) (limb_coord z)) (ex ∙ row-limbs m table d l s.greatest)
-        ∙ sum-ext (64 * carried_limbs) _ f (λ i h. limb-pack carried_limbs f i h ∙ mod-eq_of_lt (coord-lt (row m table d) i))
-        ∙ sum-clear m (64 * carried_limbs) f (omega (arith, s.greatest)) (s.is_table.rows d l).clear
+    count = en ∙ ap (λ z. z % 2 ^ 64) all ∙ mod-eq_of_lt (omega (arith, sum-bits m f (coord-lt (row m table d)), s.greatest))
 
 -- the ones of all bytes are those of all rows
 pub ones-counted : {m : ℕ} {table : List ℕ} → Shaped m table → {n : ℕ} → n ≡ sum (8 * length table) (coord table) % 2 ^ 64 → n ≡ ones_in m table

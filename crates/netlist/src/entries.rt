@@ -1,21 +1,20 @@
 // The rows of a table that are all ones.
 ghost use Rattle.std.specs.Prelude.{◌≡◌, ◌<◌, ◌≤◌};
 ghost use Rattle.gf2.specs.Tables.{row};
-ghost use Rattle.table.specs.Rows.{Shaped};
 ghost use Rattle.netlist.specs.Lists.{all_ones, full_rows};
 
+use table::Table;
+
 // A row has no bit at the width or above, so it is all ones where it has as many as the width.
-fn full_row(width: usize, table: &[u8], d: usize) -> bool
-    requires { (Shaped width table.now) × (d < width) }
-    ensures { result ≡ all_ones width (row width table.now d) }
+fn full_row(table: &Table, d: usize) -> bool
+    requires { d < table.now.width }
+    ensures { result ≡ all_ones table.now.width (row table.now.width table.now.bytes.now d) }
 {
-    let row = ones::row_limbs(width, table, d);
-    ones::ones_in(&row) == width
+    ones::ones_of(table.row(d)) == table.width()
 }
 
-pub(crate) fn full_rows(width: usize, table: &[u8]) -> usize
-    requires { Shaped width table.now }
-    ensures { (result ≡ full_rows width table.now) × (result ≤ width) }
+pub(crate) fn full_rows(table: &Table) -> usize
+    ensures { (result ≡ full_rows table.now.width table.now.bytes.now) × (result ≤ table.now.width) }
 {
-    (0..width).filter(|d| full_row(width, table, *d)).count()
+    (0..table.width()).filter(|d| full_row(table, *d)).count()
 }

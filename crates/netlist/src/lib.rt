@@ -5,7 +5,7 @@ mod counts;
 mod entries;
 mod words;
 
-pub use counts::{Method, all_counts, gate_counts, tally};
+pub use counts::{Method, all_counts, gate_counts, tally, tally_of};
 pub use words::coordinate;
 
 // The numbers of a list's gates by kind: the papers' AND and XOR columns are never added together.

@@ -26,7 +26,5 @@ fn main(rt: HostRuntime) -> io::Result<()> {
     let mut input = [0u8; reporting::INPUT_LIMIT + 1];
     let n = read_full(&mut rt.stdin(), &mut input);
     let answer = reporting::report(&input[..n]);
-    let bytes = answer.bytes;
-    let length = answer.length;
-    rt.write_all(&bytes[..length])
+    rt.write_all(answer.bytes.as_slice())
 }

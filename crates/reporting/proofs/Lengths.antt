@@ -3,9 +3,9 @@ use Rattle.std.specs.Prelude.{Ok, Err}
 use mathlib.Core.Path.{◌≡◌, refl, ap, ◌∙◌, subst}
 use mathlib.Core.Bool.{Bool, true, false, not}
 use mathlib.Core.List.{List, [], ◌∷◌}
-use Prim.Native.Nat.{ℕ, ◌+◌, ◌-◌, ◌^◌, ◌<◌, ◌≤◌}
+use Prim.Native.Nat.{ℕ, ◌+◌, ◌^◌, ◌<◌, ◌≤◌}
 use native.Mathlib.Omega.{arith}
-use lib.ListN.{length, replicate, length-append}
+use lib.ListN.{length, length-append}
 use lib.Dec.{ltb}
 use borrow.Author.Tests.{lt-ltb, ltb-true, not-false}
 use Rattle.gf2.specs.Operands.{choose}
@@ -16,8 +16,6 @@ use Rattle.judging.specs.Faults.{number_of}
 use Rattle.judging.specs.Causes.{Cause, Verdict, judged}
 use Rattle.judging.specs.FaultTable.{check_causes}
 use Rattle.judging.proofs.CauseLaws.{Each, number_small, keeps}
-use Rattle.io.specs.Counts.{IsPrefixLen}
-use Rattle.io.proofs.Counting.{prefix_len_of_le}
 use Rattle.table.specs.Rows.{Shaped}
 use Rattle.table.specs.Judgements.{check_verdict}
 use Rattle.table.proofs.Theorems.{acceptance as accepted-table}
@@ -32,8 +30,7 @@ use Rattle.netlist.specs.Statements.{Sized}
 use Rattle.netlist.proofs.TableLaws.{width-square}
 use Rattle.netlist.proofs.SizeLaws.{ones-most, counts-most}
 use Rattle.netlist.proofs.Theorems.{theorem_lists}
-use Rattle.reporting.specs.declared.text.Text.{Text}
-use Rattle.reporting.specs.Text.{ascii, spaced, line, room, text_of}
+use Rattle.reporting.specs.Text.{ascii, spaced, line, room}
 use Rattle.reporting.specs.Steps.{appended}
 use Rattle.reporting.specs.Report.{input_limit, lent, refusal, counts_line, acceptance, closing, table_report, read_report, report}
 use Rattle.reporting.proofs.Reports.{card-shaped}
@@ -125,8 +122,5 @@ report-length s small = go (ltb input_limit (length s))
     go false = read_length s small (read_card lent s) refl
 
 -- the text that the code ends with
-pub whole : (s : List ℕ) {t : Text} {l : List ℕ} → Bytes s → t ≡ appended (text_of []) l → l ≡ report s → (t ≡ text_of (report s)) × IsPrefixLen t.length t.bytes
-whole s {t} small e q = (same, rw same (prefix_len_of_le _ _ (omega (arith, length-append (report s) (replicate (room - length (report s)) 0)))))
-  where
-    same : t ≡ text_of (report s)
-    same = e ∙ ap (appended (text_of [])) q ∙ appended-text [] (report s) (report-length s small)
+pub whole : (s : List ℕ) {t l : List ℕ} → Bytes s → t ≡ appended [] l → l ≡ report s → t ≡ report s
+whole s small e q = e ∙ ap (appended []) q ∙ appended-text [] (report s) (report-length s small)

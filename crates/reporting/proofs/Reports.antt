@@ -26,18 +26,17 @@ use Rattle.card.proofs.Trips.{card-written}
 use Rattle.netlist.specs.declared.AllCounts.{AllCounts}
 use Rattle.netlist.specs.Lists.{plain, reduced, common}
 use Rattle.netlist.specs.Calls.{counts_of, all_counts_call}
-use Rattle.reporting.specs.declared.text.Text.{Text}
-use Rattle.reporting.specs.Text.{ascii, spaced, line, text_of}
+use Rattle.reporting.specs.Text.{ascii, spaced, line}
 use Rattle.reporting.specs.Steps.{appended, accepted_lines, judged_counts, front, InFront}
 use Rattle.reporting.specs.Report.{input_limit, lent, refusal, counts_line, acceptance, closing, table_report, read_report, report}
 use Rattle.reporting.proofs.Texts.{appended-more}
 
 -- three parts one after the other
-three : (t : Text) (x y z : List ℕ) → appended (appended (appended t x) y) z ≡ appended t (x ++ (y ++ z))
+three : (t : List ℕ) (x y z : List ℕ) → appended (appended (appended t x) y) z ≡ appended t (x ++ (y ++ z))
 three t x y z = appended-more (appended t x) y z ∙ appended-more t x (y ++ z)
 
 -- the lines of an accepted table, as the code puts them
-pub accepted-put : (all : AllCounts) (t : Text) →
+pub accepted-put : (all : AllCounts) (t : List ℕ) →
     appended
     (appended
     (appended (appended t (ascii "accepted\n")) (counts_line (ascii "plain") all.plain))
@@ -53,11 +52,11 @@ lines_of (Ok all) = accepted_lines all
 lines_of (Err f) = refusal f
 
 module _ (m : ℕ) (table : List ℕ) where
-  abbrev pub head : Text
-  head = appended (appended (text_of []) (line (ascii "width") (m ∷ []))) (line (ascii "ones") (ones_in m table ∷ []))
+  abbrev pub head : List ℕ
+  head = appended (appended [] (line (ascii "width") (m ∷ []))) (line (ascii "ones") (ones_in m table ∷ []))
 
-  pub head-put : {first t : Text} {n : ℕ} →
-      first ≡ appended (text_of []) (line (ascii "width") (m ∷ [])) →
+  pub head-put : {first t : List ℕ} {n : ℕ} →
+      first ≡ appended [] (line (ascii "width") (m ∷ [])) →
       t ≡ appended first (line (ascii "ones") (n ∷ [])) →
       n ≡ ones_in m table →
       t ≡ head
@@ -71,7 +70,7 @@ module _ (m : ℕ) (table : List ℕ) where
   lines-are (Ok _) = refl
   lines-are (Err f) = refl
 
-  pub table-put : {t : Text} {r : Result AllCounts Fault} → t ≡ head → r ≡ judged_counts m table → appended t (lines_of r) ≡ appended (text_of []) (table_report m table)
+  pub table-put : {t : List ℕ} {r : Result AllCounts Fault} → t ≡ head → r ≡ judged_counts m table → appended t (lines_of r) ≡ appended [] (table_report m table)
   unfolding table_report
   table-put h e = ap₂ (λ t r. appended t (lines_of r)) h e ∙ ap (appended head) (lines-are (check_verdict m table)) ∙ three _ _ _ _
 

@@ -1,8 +1,7 @@
 -- Inner: what the code's steps make of a text, and what they take for granted of a table that was read.
-use Rattle.std.specs.Prelude.{List, [], ◌∷◌, ℕ, ◌+◌, ◌*◌, ◌≤◌, length, take, set, ltb, ◌++◌, Result}
+use Rattle.std.specs.Prelude.{List, [], ◌∷◌, ℕ, ◌*◌, ◌≤◌, length, take, ltb, ◌++◌, Result}
 use Rattle.gf2.specs.Operands.{bytes_for, choose}
 use Rattle.table.specs.Rows.{Shaped}
-use Rattle.reporting.specs.declared.text.Text.{Text}
 use Rattle.reporting.specs.Text.{room, ascii, line}
 use Rattle.reporting.specs.Report.{counts_line}
 use Rattle.judging.specs.declared.fault.Fault.{Fault}
@@ -13,12 +12,11 @@ use Rattle.netlist.specs.Lists.{plain, reduced, common}
 use Rattle.netlist.specs.Calls.{counts_of}
 
 -- a byte more, where there is room
-unfoldable pub pushed : Text → ℕ → Text
-pushed t b =
-    choose (ltb t.length room) (record { bytes = set t.bytes t.length b; length = t.length + 1 }) t
+unfoldable pub pushed : List ℕ → ℕ → List ℕ
+pushed t b = choose (ltb (length t) room) (t ++ (b ∷ [])) t
 
 -- some bytes more
-unfoldable pub appended : Text → List ℕ → Text
+unfoldable pub appended : List ℕ → List ℕ → List ℕ
 appended t [] = t
 appended t (b ∷ l) = appended (pushed t b) l
 

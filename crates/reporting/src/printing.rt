@@ -1,8 +1,6 @@
 // What the report program prints for the bytes of its input.
 ghost use Rattle.std.specs.Prelude.{◌≡◌, []};
-ghost use Rattle.io.specs.Counts.{IsPrefixLen};
 ghost use Rattle.table.specs.Rows.{Shaped};
-ghost use Rattle.reporting.specs.Text.{text_of};
 ghost use Rattle.reporting.specs.Steps.{appended, accepted_lines, judged_counts, front, InFront};
 ghost use Rattle.reporting.specs.Report.{refusal, counts_line, table_report, report as printed};
 
@@ -17,19 +15,19 @@ pub const INPUT_LIMIT: usize = 65536;
 const LENT: usize = limbs::MAX_WIDTH * limbs::BYTES;
 
 fn refused(text: Text, fault: Fault) -> Text
-    ensures { result ≡ appended text (refusal fault) }
+    ensures { result.bytes.items ≡ appended text.bytes.items (refusal fault) }
 {
     text.append_line(b"refused", fault.number().0)
 }
 
 fn counts(text: Text, word: &[u8], counts: GateCounts) -> Text
-    ensures { result ≡ appended text (counts_line word.now counts) }
+    ensures { result.bytes.items ≡ appended text.bytes.items (counts_line word.now counts) }
 {
     text.append_pair(word, counts.ands.0, counts.xors.0)
 }
 
 fn accepted(text: Text, all: AllCounts) -> Text
-    ensures { result ≡ appended text (accepted_lines all) }
+    ensures { result.bytes.items ≡ appended text.bytes.items (accepted_lines all) }
 {
     let verdict = text.append(b"accepted\n");
     let first = counts(verdict, b"plain", all.plain);
@@ -48,7 +46,7 @@ fn judged(width: usize, table: &[u8]) -> Result<AllCounts, Fault>
 // The report of a table that was read.
 fn table_report(width: usize, table: &[u8]) -> Text
     requires { Shaped width table.now }
-    ensures { result ≡ appended (text_of []) (table_report width table.now) }
+    ensures { result.bytes.items ≡ appended [] (table_report width table.now) }
 {
     let ones = ones::ones_of(table);
     let start = Text::empty();
@@ -63,15 +61,14 @@ fn table_report(width: usize, table: &[u8]) -> Text
 // The report of the table in front of the lent bytes.
 fn front_report(width: usize, lent: &[u8]) -> Text
     requires { InFront width lent.now }
-    ensures { result ≡ appended (text_of []) (table_report width (front width lent.now)) }
+    ensures { result.bytes.items ≡ appended [] (table_report width (front width lent.now)) }
 {
     let size = width * limbs::bytes_for(width);
     table_report(width, &lent[..size])
 }
 
 pub fn report(card: &[u8]) -> Text
-    ensures text { result ≡ text_of (printed card.now) }
-    ensures fits { IsPrefixLen result.length result.bytes }
+    ensures { result.bytes.items ≡ printed card.now }
 {
     if INPUT_LIMIT < card.len() {
         return refused(Text::empty(), Fault::Length);

@@ -1,46 +1,38 @@
-// The text of a report: bytes in an array, with lines put after one another.
+// The text of a report: lines put after one another.
 ghost use Rattle.std.specs.Prelude.{◌≡◌, [], ◌∷◌};
-ghost use Rattle.reporting.specs.Text.{text_of, spaced, line};
+ghost use Rattle.reporting.specs.Text.{spaced, line};
 ghost use Rattle.reporting.specs.Steps.{pushed, appended};
 
-// The first `length` bytes are the text; those after it are 0.
-#[derive(Clone, Copy)]
+use arrayvec::ArrayVec;
+
+// Enough for every report: proofs/Lengths.antt.
+const ROOM: usize = 128;
+
+#[derive(Drop)]
 pub struct Text {
-    pub bytes: [u8; Text::ROOM],
-    pub length: usize,
+    pub bytes: ArrayVec<u8, ROOM>,
 }
 
 impl Text {
-    // Enough for every report: proofs/Lengths.antt.
-    pub(crate) const ROOM: usize = 128;
-
     pub(crate) fn empty() -> Text
-        ensures { result ≡ text_of [] }
+        ensures { result.bytes.items ≡ [] }
     {
         Text {
-            bytes: [0u8; Text::ROOM],
-            length: 0,
+            bytes: ArrayVec::new(),
         }
     }
 
     // A byte without room is left out, so that no caller has to count; a report never has one.
     pub(crate) fn push(self, byte: u8) -> Text
-        ensures { result ≡ pushed self byte }
+        ensures { result.bytes.items ≡ pushed self.bytes.items byte }
     {
-        let length = self.length;
-        if Text::ROOM <= length {
-            return self;
-        }
         let mut bytes = self.bytes;
-        bytes[length] = byte;
-        Text {
-            bytes,
-            length: length + 1,
-        }
+        let _ = bytes.try_push(byte);
+        Text { bytes }
     }
 
     pub(crate) fn append(self, word: &[u8]) -> Text
-        ensures { result ≡ appended self word.now }
+        ensures { result.bytes.items ≡ appended self.bytes.items word.now }
     {
         let mut text = self;
         for byte in word {
@@ -51,7 +43,7 @@ impl Text {
 
     // A space and the number in decimal.
     pub(crate) fn append_number(self, n: usize) -> Text
-        ensures { result ≡ appended self (spaced (n ∷ [])) }
+        ensures { result.bytes.items ≡ appended self.bytes.items (spaced (n ∷ [])) }
     {
         let mut digits = [0u8; 20];
         let count = io::decimal(n as u64, &mut digits);
@@ -60,14 +52,14 @@ impl Text {
 
     // A word and a number on a line.
     pub(crate) fn append_line(self, word: &[u8], n: usize) -> Text
-        ensures { result ≡ appended self (line word.now (n ∷ [])) }
+        ensures { result.bytes.items ≡ appended self.bytes.items (line word.now (n ∷ [])) }
     {
         self.append(word).append_number(n).push(b'\n')
     }
 
     // A word and two numbers on a line.
     pub(crate) fn append_pair(self, word: &[u8], first: usize, second: usize) -> Text
-        ensures { result ≡ appended self (line word.now (first ∷ second ∷ [])) }
+        ensures { result.bytes.items ≡ appended self.bytes.items (line word.now (first ∷ second ∷ [])) }
     {
         self.append(word)
             .append_number(first)

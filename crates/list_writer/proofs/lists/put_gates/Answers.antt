@@ -4,8 +4,8 @@ use Rattle.list_writer.proofs.lists.put_gates.Goals as goal
 
 pub returns-then-full-eq0 : goal.returns-then-full-eq0
 returns-then-full-eq0 c =
-    rw (list-none c.requires.0 c.in-Common.is c.if-full-eq0.true) c.put_plain-then-full-eq0.ensures
+    rw (list-none _ _ c.requires.0 c.in-Common.is c.if-full-eq0.true) c.put_plain-then-full-eq0.ensures
 
 pub returns-else-full-eq0 : goal.returns-else-full-eq0
 returns-else-full-eq0 c =
-    rw (list-some c.requires.0 c.in-Common.is c.if-full-eq0.false) c.put_sharing.ensures
+    rw (list-some _ _ c.requires.0 c.in-Common.is c.if-full-eq0.false) c.put_sharing.ensures

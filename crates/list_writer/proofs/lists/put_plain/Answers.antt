@@ -4,4 +4,6 @@ use Rattle.list_writer.proofs.lists.put_plain.Goals as goal
 
 pub returns : goal.returns
 returns c =
-    plain-written c.requires c.put_pairs-n.ensures (c.put_folds.ensures.gates_put, c.put_folds.ensures.ends_after)
+    let w = c.width-width.ensures in
+    let b = c.bytes.ensures in
+    plain-written c.args.table.now.shaped (rw w at c.put_pairs-n.ensures) (rw (w, b) at c.put_folds.ensures.gates_put, rw (w, b) at c.put_folds.ensures.ends_after)

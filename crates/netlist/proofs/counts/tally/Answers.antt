@@ -1,16 +1,11 @@
 -- `netlist::counts::tally` meets its contract.
-use mathlib.Core.Path.{sym, ap, ◌∙◌}
-use Rattle.std.specs.Prelude.{Ok}
-use Rattle.judging.proofs.CauseLaws.{handed_on, answer-given, answer-refused}
-use Rattle.netlist.proofs.CallLaws.{table-fine}
+use Rattle.judging.proofs.CauseLaws.{handed_on, verdict_err, verdict_ok, answer-given, answer-refused}
 use Rattle.netlist.proofs.counts.tally.Goals as goal
 
-pub returns-in_err-judge_symmetry : goal.returns-in_err-judge_symmetry
-returns-in_err-judge_symmetry c =
-    handed_on c.from_residual.result c.from_residual.ensures.1 (answer-refused _ (sym c.judge_symmetry.ensures ∙ c.in_err-judge_symmetry.was))
-
-pub numbers-requires : goal.numbers-requires
-numbers-requires c = table-fine _ _ (sym c.judge_symmetry.ensures ∙ c.in_ok-judge_symmetry.was)
+pub returns-in_err-table : goal.returns-in_err-table
+returns-in_err-table c = handed_on c.from_residual.result c.from_residual.ensures.1 (answer-refused _ (verdict_err c.new.ensures.verdict c.in_err-table.was))
 
 pub returns : goal.returns
-returns c = ap Ok c.numbers.ensures ∙ answer-given _ (sym c.judge_symmetry.ensures ∙ c.in_ok-judge_symmetry.was)
+returns c =
+    let same = c.in_ok-table.ensures.same in
+    rw (c.tally_of.ensures, same.0, same.1) (answer-given _ (verdict_ok c.new.ensures.verdict c.in_ok-table.was))

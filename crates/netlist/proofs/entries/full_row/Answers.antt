@@ -3,5 +3,4 @@ use Rattle.netlist.proofs.TableLaws.{full-count}
 use Rattle.netlist.proofs.entries.full_row.Goals as goal
 
 pub returns : goal.returns
-returns c =
-    full-count c.args.d c.requires.0 c.requires.1 c.row_limbs-row.ensures c.ones_in.ensures
+returns c = rw c.width.ensures (full-count c.args.d c.args.table.now.shaped c.requires (rw c.row.ensures at c.ones_of.ensures))

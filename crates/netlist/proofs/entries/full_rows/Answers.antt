@@ -16,10 +16,10 @@ use Rattle.netlist.proofs.entries.full_rows.Goals as goal
 pub returns : goal.returns
 unfolding full_rows
 returns c =
-    let a = c.args in
-    let p : ℕ → Bool = λ d. all_ones a.width (row a.width a.table.now d) in
+    let a = c.args.table.now in
+    let p : ℕ → Bool = λ d. all_ones a.width (row a.width a.bytes.now d) in
     let e : c.count.result ≡ count_by p (range_with_len 0 a.width) =
     count_from_yields_List c.filter.result c.count.result c.count.ensures.ran
-    (YieldsList-from_filter _ p (YieldsList-from_range 0 a.width a.width c.filter.ensures.source (omega arith)) c.filter.ensures.closure (λ x b q k. search (rules, tests)))
+    (YieldsList-from_filter _ p (YieldsList-from_range 0 a.width a.width (rw c.width.ensures at c.filter.ensures.source) (omega arith)) c.filter.ensures.closure (λ x b q k. search (rules, tests)))
     ∙ length-filter p (range_with_len 0 a.width) in
     (e ∙ counted_below p a.width, omega (arith, e, few_below p a.width))

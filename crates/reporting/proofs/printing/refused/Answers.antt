@@ -7,4 +7,4 @@ use Rattle.reporting.proofs.printing.refused.Goals as goal
 
 pub returns : goal.returns
 unfolding refusal
-returns c = c.append_line.ensures ∙ ap (λ (n : FaultNumber). appended c.args.text (line (ascii "refused") (n.0 ∷ []))) c.number.ensures
+returns c = c.append_line.ensures ∙ ap (λ (n : FaultNumber). appended c.args.text.bytes.items (line (ascii "refused") (n.0 ∷ []))) c.number.ensures

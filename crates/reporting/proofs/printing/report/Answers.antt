@@ -10,8 +10,7 @@ pub returns-then-card-gt-INPUT_LIMIT : goal.returns-then-card-gt-INPUT_LIMIT
 returns-then-card-gt-INPUT_LIMIT c =
     let s = c.args.card.now in
     let text = c.refused.ensures ∙ ap (λ t. appended t (refusal Length)) c.empty.ensures in
-    let w = whole s (λ b. (c.type_inv.card b).fits) text (long-report s c.if-card-gt-INPUT_LIMIT.true) in
-    record { text = w.0; fits = w.1 }
+    whole s (λ b. (c.type_inv.card b).fits) text (long-report s c.if-card-gt-INPUT_LIMIT.true)
 
 pub front_report-requires : goal.front_report-requires
 front_report-requires c =
@@ -23,12 +22,10 @@ returns-in-Ok c =
     let s = c.args.card.now in
     let e = c.read.ensures in
     let read = table-read s c.if-card-gt-INPUT_LIMIT.false (λ b. (c.type_inv.card b).fits) (sym c.in-Ok.is ∙ e.answer) e.table in
-    let w = whole s (λ b. (c.type_inv.card b).fits) c.front_report.ensures read.reported in
-    record { text = w.0; fits = w.1 }
+    whole s (λ b. (c.type_inv.card b).fits) c.front_report.ensures read.reported
 
 pub returns-in-Err : goal.returns-in-Err
 returns-in-Err c =
     let s = c.args.card.now in
     let text = c.refused-in-Err.ensures ∙ ap (λ t. appended t (refusal c.in-Err.fault)) c.empty-in-Err.ensures in
-    let w = whole s (λ b. (c.type_inv.card b).fits) text (refused-report s c.if-card-gt-INPUT_LIMIT.false (sym c.in-Err.is ∙ c.read.ensures.answer)) in
-    record { text = w.0; fits = w.1 }
+    whole s (λ b. (c.type_inv.card b).fits) text (refused-report s c.if-card-gt-INPUT_LIMIT.false (sym c.in-Err.is ∙ c.read.ensures.answer))

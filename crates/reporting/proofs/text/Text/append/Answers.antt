@@ -8,10 +8,10 @@ pub loop-byte-preserved : goal.loop-byte-preserved
 loop-byte-preserved c =
     let l = c.loop-byte in
     let word = c.args.word.now in
-    ap (λ t. appended t (drop (l.byte-index + 1) word)) c.push-text.ensures ∙ appended-step l.text word l.byte-index c.loop-byte-test.true ∙ l.invariant
+    ap (λ t. appended t (drop (l.byte-index + 1) word)) c.push-text.ensures ∙ appended-step l.text.bytes.items word l.byte-index c.loop-byte-test.true ∙ l.invariant
 
 pub returns : goal.returns
 returns c =
     let l = c.loop-byte in
     let word = c.args.word.now in
-    sym (appended-none l.text) ∙ ap (appended l.text) (sym (drop_of_length-le word {i = l.byte-index} c.loop-byte-test.false)) ∙ l.invariant
+    sym (appended-none l.text.bytes.items) ∙ ap (appended l.text.bytes.items) (sym (drop_of_length-le word {i = l.byte-index} c.loop-byte-test.false)) ∙ l.invariant

@@ -4,4 +4,4 @@ use Rattle.reporting.specs.Steps.{appended}
 use Rattle.reporting.proofs.text.Text.append.Given as goal
 
 abbrev pub invariant-loop-byte : goal.invariant-loop-byte
-invariant-loop-byte l = appended l.text (drop l.byte-index l.word) ≡ appended l.initial.text l.word
+invariant-loop-byte l = appended l.text.bytes.items (drop l.byte-index l.word) ≡ appended l.initial.text.bytes.items l.word

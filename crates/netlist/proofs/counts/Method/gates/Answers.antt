@@ -1,5 +1,5 @@
--- `netlist::counts::gates_by` meets its contract.
-use Rattle.netlist.proofs.counts.gates_by.Goals as goal
+-- `netlist::counts::Method::gates` meets its contract.
+use Rattle.netlist.proofs.counts.Method.gates.Goals as goal
 
 pub returns-in-Plain : goal.returns-in-Plain
 returns-in-Plain c = rw c.in-Plain.is c.plain_gates.ensures

@@ -1,4 +1,4 @@
--- `netlist::counts::common_gates` meets its contract.
+-- `netlist::counts::Ones::common_gates` meets its contract.
 use mathlib.Core.Path.{sym, ap, ◌∙◌}
 use native.Mathlib.Nat.{mul-pos}
 use Prim.Native.Nat.{◌+◌, ◌-◌, ◌*◌}
@@ -6,32 +6,32 @@ use native.Mathlib.Omega.{arith}
 use Rattle.netlist.proofs.TableLaws.{width-square, ones-times}
 use Rattle.netlist.specs.Counts.{common_gates}
 use Rattle.netlist.proofs.CallLaws.{if_some}
-use Rattle.netlist.proofs.counts.common_gates.Goals as goal
+use Rattle.netlist.proofs.counts.Ones.common_gates.Goals as goal
 
-pub returns-then-full-eq0 : goal.returns-then-full-eq0
-returns-then-full-eq0 c =
-    let a = c.args in
-    c.plain_gates.ensures ∙ ap (common_gates a.width a.ones) (sym c.if-full-eq0.true)
+pub returns-then-self-eq0 : goal.returns-then-self-eq0
+returns-then-self-eq0 c =
+    let a = c.args.self in
+    c.plain_gates.ensures ∙ ap (common_gates a.width a.ones) (sym c.if-self-eq0.true)
 
 pub overflow_add-result : goal.overflow_add-result
 overflow_add-result c =
-    let a = c.args in
-    let p = c.requires in
+    let a = c.args.self in
+    let p = c.args.self.countable in
     omega (arith, p.most, p.greatest, width-square a.width a.width p.greatest p.greatest)
 
 pub overflow_mul-result : goal.overflow_mul-result
-overflow_mul-result c = let a = c.args in omega (arith, ones-times (a.width + a.ones - a.width * a.full) c.requires (omega arith))
+overflow_mul-result c = let a = c.args.self in omega (arith, ones-times (a.width + a.ones - a.width * a.full) c.args.self.countable (omega arith))
 
 pub overflow_add-result-2 : goal.overflow_add-result-2
 overflow_add-result-2 c =
-    let a = c.args in
-    let p = c.requires in
+    let a = c.args.self in
+    let p = c.args.self.countable in
     omega (arith, p.most, p.shared, width-square a.width a.width p.greatest p.greatest, ones-times (a.width + a.ones - a.width * a.full) p (omega arith))
 
 pub overflow_sub-result-2 : goal.overflow_sub-result-2
 overflow_sub-result-2 c =
-    let a = c.args in
-    omega (arith, mul-pos {m = a.width} {n = a.full} (omega (arith, c.requires.least)) (omega (arith, c.if-full-eq0.false)))
+    let a = c.args.self in
+    omega (arith, mul-pos {m = a.width} {n = a.full} (omega (arith, c.args.self.countable.least)) (omega (arith, c.if-self-eq0.false)))
 
 pub returns : goal.returns
-returns c = if_some _ _ _ c.if-full-eq0.false
+returns c = if_some _ _ _ c.if-self-eq0.false

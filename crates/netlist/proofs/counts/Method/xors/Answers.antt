@@ -1,5 +1,5 @@
--- `netlist::counts::xors_by` meets its contract.
-use Rattle.netlist.proofs.counts.xors_by.Goals as goal
+-- `netlist::counts::Method::xors` meets its contract.
+use Rattle.netlist.proofs.counts.Method.xors.Goals as goal
 
 pub returns-in-Plain : goal.returns-in-Plain
 returns-in-Plain c = rw c.in-Plain.is c.plain_xors.ensures
