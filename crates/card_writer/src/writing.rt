@@ -18,7 +18,7 @@ struct CardWriter<'a> {
     at: usize,
 }
 
-impl<'a> CardWriter<'a> {
+impl CardWriter<'_> {
     fn put(&mut self, byte: u8)
         requires { HasRoom (byte ∷ []) self.old }
         ensures { Puts (byte ∷ []) self.old self.new }
