@@ -14,6 +14,7 @@ use lib.Seq.{sets}
 use borrow.Author.Tests.{lt-ltb}
 use Rattle.gf2.specs.Sums.{sum}
 use Rattle.gf2.specs.Coordinates.{coord}
+use Rattle.gf2.specs.Operands.{max_width}
 use Rattle.gf2.specs.Tables.{row}
 use Rattle.gf2.proofs.Sums.{sum-ext, sum-split, sum-bits}
 use Rattle.gf2.proofs.Coordinates.{coord-lt}
@@ -37,7 +38,7 @@ use Rattle.card_writer.specs.Calls.{write_verdict, write_call, write_card}
 use Rattle.card_writer.specs.Inner.{Puts, HasRoom, limb_ones}
 use Rattle.card_writer.specs.declared.writing.CardWriter.{CardWriter}
 use Rattle.card.proofs.Places.{places-zero, places-one, places-ascend, place-high, place_is, places-are}
-use Rattle.card_writer.proofs.Lengths.{one_byte, two_bytes}
+use Rattle.card_writer.proofs.Lengths.{one_byte, two_bytes, card-most}
 use Rattle.card.proofs.Stores.{sets-append, sets-front}
 
 -- two parts
@@ -247,10 +248,15 @@ module _ {m : ℕ} {table : List ℕ} {old new : CardWriter} {d : ℕ} (to : Row
 pub rows_start : (m : ℕ) (table : List ℕ) (old : CardWriter) → RowsPut m table old old 0
 rows_start m table old = record { remains = rw sub-zero (left-all (rows_card m table 0 m) old) }
 
--- the card: the form, the width and the rows
-pub card-parts : (m : ℕ) (table : List ℕ) → card m table ≡ number 1 ++ (number m ++ rows_card m table 0 m)
-unfolding card
-card-parts m table = refl
+-- the card: the form, the width and the rows, where the writer stands at the front
+module _ (m : ℕ) (table : List ℕ) {old : CardWriter} where
+  pub card-room : m ≤ max_width → old.at ≡ 0 → HasRoom (number 1 ++ (number m ++ rows_card m table 0 m)) old
+  unfolding card
+  card-room h e = record { within = omega (arith, e, card-most m table h) }
+
+  pub card-put : {form rows new : CardWriter} → Puts (number 1) old form → Puts (number m) form rows → Puts (rows_card m table 0 m) rows new → Puts (card m table) old new
+  unfolding card
+  card-put p q r = put_both p (put_both q r)
 
 -- the answer of `write`, and the output afterwards
 pub record Wrote (m : ℕ) (table old : List ℕ) (r : Result ℕ Fault) (new : List ℕ) : Type 0 where

@@ -71,25 +71,17 @@ impl CardWriter<'_> {
             self.put_row(table, d);
         }
     }
-
-    // The form, the width and the rows.
-    fn put_card(&mut self, table: &Table)
-        requires { HasRoom (card table.now.width table.now.bytes.now) self.old }
-        ensures { Puts (card table.now.width table.now.bytes.now) self.old self.new }
-    {
-        self.put_number(1);
-        self.put_number(table.width());
-        self.put_rows(table);
-    }
 }
 
-// A table's card at the front of an output; its length.
+// A table's card at the front of an output: the form, the width and the rows. Its length.
 fn put_card(out: &mut [u8], table: &Table) -> usize
     ensures length { result ≡ length (card table.now.width table.now.bytes.now) }
     ensures out { out.new ≡ sets out.old 0 (card table.now.width table.now.bytes.now) }
 {
     let mut writer = CardWriter { out, at: 0 };
-    writer.put_card(table);
+    writer.put_number(1);
+    writer.put_number(table.width());
+    writer.put_rows(table);
     writer.at
 }
 
