@@ -1,22 +1,20 @@
 -- Laws of the numbers of a card.
 -- Parts: what a reading without fault rests on.
 -- Trips: a number written is read as it was, and a number read is written as it was.
--- Places: what is read at a place of the card.
-use mathlib.Core.Path.{◌≡◌, refl}
+-- Bytes: a number by the bytes that are read.
+use mathlib.Core.Path.{◌≡◌, refl, sym, ◌∙◌}
 use mathlib.Core.List.{List, [], ◌∷◌, ◌++◌}
 use mathlib.Core.Bool.{Bool, true, false}
 use Prim.Native.Nat.{ℕ, suc, ◌+◌, ◌-◌, ◌*◌, ◌/◌, ◌%◌, ◌<◌, ◌≤◌}
 use native.Mathlib.Decide.{dec_lt}
-use native.Mathlib.Numerals.{add-one}
 use native.Mathlib.Omega.{arith}
-use lib.ListN.{length, get_or, drop, drop_of_length-le}
-use lib.Seq.{drop-cons}
 use lib.Dec.{ltb, eqb}
 use borrow.Author.Tests.{lt-ltb, le-ltb, ltb-true, eq-eqb, ne_eqb, eqb-false}
 use Rattle.gf2.specs.Operands.{choose}
 use Rattle.judging.specs.declared.fault.Fault.{Fault}
 use Rattle.judging.specs.Faults.{card_ends, card_number}
 use Rattle.card.specs.Numbers.{number, number_limit, Read, refused, got, and_then, second_group, read_number}
+use Rattle.card.specs.Inner.{read_byte}
 use Rattle.card.specs.Statements.{Bytes}
 
 -- a fault is no value
@@ -93,33 +91,45 @@ written_read_lem (g ∷ h ∷ s) n rest small e = elim (dec_lt g 128) [
       same_read q.1 (two-groups g h s (omega arith) (small 0) (eqb-false h 0 p.0) (ltb-true h 128 q.0) (λ b. small (suc (suc b))))
 ]
 
-pub number-ends : (s : List ℕ) (at : ℕ) → length s ≤ at → read_number (drop at s) ≡ refused card_ends
-unfolding read_number
-number-ends s at h = rw (drop_of_length-le s h)
+-- the next byte, where there is one
+byte-is : (s : List ℕ) {g : ℕ} {rest : List ℕ} → read_byte s ≡ got g rest → s ≡ g ∷ rest
+byte-is [] e = no_value e
+byte-is (h ∷ s) e = cc
 
--- the byte there is g
-module _ (s : List ℕ) (at : ℕ) {g : ℕ} (byte : g ≡ get_or s at 0) (h : at < length s) where
-  pub number_short : g < 128 → read_number (drop at s) ≡ got g (drop (at + 1) s)
+-- where there is none
+no-byte : (s : List ℕ) {f : Fault} → read_byte s ≡ refused f → (s ≡ []) × (f ≡ card_ends)
+no-byte [] e = (refl, cc)
+no-byte (h ∷ s) e = no_value (sym e)
+
+-- a number, by the bytes that are read
+module _ (s : List ℕ) where
+  pub number-ends : {f : Fault} → read_byte s ≡ refused f → refused f ≡ read_number s
   unfolding read_number
-  number_short l = rw (drop-cons s at 0 h, ← byte, lt-ltb g 128 l, add-one)
+  number-ends e = let p = no-byte s e in rw (p.0, p.1)
 
-  pub number-long : {x : Read ℕ} → 128 ≤ g → second_group (g - 128) (drop (at + 1) s) ≡ x → read_number (drop at s) ≡ x
-  unfolding read_number
-  number-long l e = rw (drop-cons s at 0 h, ← byte, le-ltb g 128 l) (rw add-one at e)
+  module _ {g : ℕ} {rest : List ℕ} (byte : read_byte s ≡ got g rest) where
+    pub number_short : g < 128 → got g rest ≡ read_number s
+    unfolding read_number
+    number_short l = rw (byte-is s byte, lt-ltb g 128 l)
 
-pub second-ends : (low : ℕ) (s : List ℕ) (at : ℕ) → length s ≤ at → second_group low (drop at s) ≡ refused card_ends
-unfolding second_group
-second-ends low s at h = rw (drop_of_length-le s h)
+    pub number-long : {x : Read ℕ} → 128 ≤ g → x ≡ second_group (g - 128) rest → x ≡ read_number s
+    unfolding read_number
+    number-long l e = e ∙ rw (byte-is s byte, le-ltb g 128 l)
 
-module _ (low : ℕ) (s : List ℕ) (at : ℕ) {g : ℕ} (byte : g ≡ get_or s at 0) (h : at < length s) where
-  pub second-zero : g ≡ 0 → second_group low (drop at s) ≡ refused card_number
+module _ (low : ℕ) (s : List ℕ) where
+  pub second-ends : {f : Fault} → read_byte s ≡ refused f → refused f ≡ second_group low s
   unfolding second_group
-  second-zero e = rw (drop-cons s at 0 h, ← byte, eq-eqb g 0 e)
+  second-ends e = let p = no-byte s e in rw (p.0, p.1)
 
-  pub second-third : 128 ≤ g → second_group low (drop at s) ≡ refused card_number
-  unfolding second_group
-  second-third l = rw (drop-cons s at 0 h, ← byte, ne_eqb g 0 (λ e. omega arith), le-ltb g 128 l)
+  module _ {g : ℕ} {rest : List ℕ} (byte : read_byte s ≡ got g rest) where
+    pub second-zero : g ≡ 0 → refused card_number ≡ second_group low s
+    unfolding second_group
+    second-zero e = rw (byte-is s byte, eq-eqb g 0 e)
 
-  pub second-last : (g ≡ 0 → ⊥) → g < 128 → second_group low (drop at s) ≡ got (low + g * 128) (drop (at + 1) s)
-  unfolding second_group
-  second-last n l = rw (drop-cons s at 0 h, ← byte, ne_eqb g 0 n, lt-ltb g 128 l, add-one)
+    pub second-third : 128 ≤ g → refused card_number ≡ second_group low s
+    unfolding second_group
+    second-third l = rw (byte-is s byte, ne_eqb g 0 (λ e. omega arith), le-ltb g 128 l)
+
+    pub second-last : (g ≡ 0 → ⊥) → g < 128 → got (low + g * 128) rest ≡ second_group low s
+    unfolding second_group
+    second-last n l = rw (byte-is s byte, ne_eqb g 0 n, lt-ltb g 128 l)

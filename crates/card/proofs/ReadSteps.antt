@@ -7,12 +7,12 @@ use mathlib.Core.Path.{◌≡◌, refl, sym, ap, ◌∙◌}
 use mathlib.Core.List.{List, [], ◌∷◌, ◌++◌, append_assoc, append-nil}
 use mathlib.Core.Bool.{Bool, true, false}
 use Prim.Native.Nat.{ℕ, zero, suc, ◌+◌, ◌-◌, ◌*◌, ◌/◌, ◌%◌, ◌^◌, ◌<◌, ◌≤◌}
-use native.Mathlib.Nat.{zero-add, zero-mul, suc-mul}
+use native.Mathlib.Nat.{zero-add, sub-zero, zero-mul, suc-mul}
 use native.Mathlib.Numerals.{add-one}
 use native.Mathlib.Decide.{ℕ_discrete, dec_lt}
 use native.Mathlib.Omega.{arith}
-use lib.ListN.{length, get_or, take, drop, set, replicate, length-append, length-set, drop_of_length-le}
-use lib.Seq.{drop-cons, sets, take_all, take-append-le, get_or-set_same, get_or-set_other}
+use lib.ListN.{length, get_or, take, set, replicate, length-append, length-set}
+use lib.Seq.{sets, take_all, take-append-le, get_or-set_same, get_or-set_other}
 use lib.Bits.{bit_xor, xor_lt}
 use lib.Pow.{pow_mono}
 use lib.Dec.{eqb, ltb}
@@ -38,8 +38,12 @@ use Rattle.card.proofs.Stores.{sets-append, sets-front}
 use Rattle.card.proofs.Trips.{head-parts, rows-table}
 
 -- the exit of a `?`
-pub told-refused : {A : Type 0} (s : List ℕ) {x : Read A} {f : Fault} (r : Result (A × ℕ) Fault) → IsErrAnd r (λ g. g ≡ f) → refused f ≡ x → told s r ≡ x
-told-refused s r e h = ap (told s) (handed_on r e refl) ∙ h
+pub told-refused : {A : Type 0} (rest : List ℕ) {x : Read A} {f : Fault} (r : Result A Fault) → IsErrAnd r (λ g. g ≡ f) → refused f ≡ x → told r rest ≡ x
+told-refused rest r e h = ap (λ v. told v rest) (handed_on r e refl) ∙ h
+
+-- a value that is read, by an equal one
+pub got-as : {A : Type 0} {x : Read A} {a b : A} {rest : List ℕ} → b ≡ a → got a rest ≡ x → x ≡ got b rest
+got-as e h = rw e (sym h)
 
 after-nil : (x : Read (List ℕ)) → x ≡ after [] x
 after-nil (refused f) = refl
@@ -214,38 +218,47 @@ take_row : (m : ℕ) (f : ℕ → ℕ) → m ≤ max_width → take (bytes_for m
 unfolding from_coords pack
 take_row m f h = take-tabulate carried_bytes (bytes_for m) _ (omega arith)
 
--- the loop over the rows: those in `front`, from the row `first` to the row d, are read and stored, and `left` more are to be read
-pub record RowsTo (m first count : ℕ) (s₀ s old new : List ℕ) (d left : ℕ) : Type 0 where
+-- the loop over the rows: those in `front`, below the row d, are read and stored
+pub record RowsTo (m : ℕ) (s₀ s old new : List ℕ) (d : ℕ) : Type 0 where
   pub front : List ℕ
-  pub size : first * bytes_for m + length front ≡ d * bytes_for m
-  pub reads : read_rows m count s₀ ≡ after front (read_rows m left s)
-  pub stored : new ≡ sets old (first * bytes_for m) front
+  pub size : length front ≡ d * bytes_for m
+  pub reads : read_rows m m s₀ ≡ after front (read_rows m (m - d) s)
+  pub stored : new ≡ sets old 0 front
   pub kept : length new ≡ length old
 
-module _ {m first count d left : ℕ} {s₀ s old new : List ℕ} (to : RowsTo m first count s₀ s old new d left) where
-  pub rows-refused : {f : Fault} {more : ℕ} → left ≡ suc more → read_row m s ≡ refused f → RowsRead m first count s₀ (refused f) old new
+pub rows-none : (m : ℕ) (s old : List ℕ) → RowsTo m s s old old 0
+rows-none m s old = record { front = []; size = sym (zero-mul (bytes_for m)); reads = rw sub-zero (after-nil (read_rows m m s)); stored = refl; kept = refl }
+
+module _ {m d : ℕ} {s₀ s old new : List ℕ} (to : RowsTo m s₀ s old new d) where
+  -- this row is left, and the others
+  rows-left : d < m → m - d ≡ suc (m - (d + 1))
+  rows-left h = omega arith
+
+  pub rows-refused : {f : Fault} → d < m → read_row m s ≡ refused f → RowsRead m s₀ (refused f) old new
   unfolding read_rows
   rows-refused {f} h e =
-      let q : read_rows m count s₀ ≡ refused f = rw h at to.reads ∙ rw e in
+      let q : read_rows m m s₀ ≡ refused f = rw (rows-left h) at to.reads ∙ rw e in
       record { ends = sym (ap end_of q); stores = λ t rest g. no_value (sym q ∙ g) }
 
-  pub rows_more : {more : ℕ} {ps r bytes next : List ℕ} → m ≤ max_width → left ≡ suc more → read_row m s ≡ got ps r → bytes ≡ from_coords carried_bytes m (is_place ps) →
-      next ≡ sets new (d * bytes_for m) (take (bytes_for m) bytes) → length next ≡ length new → RowsTo m first count s₀ r old next (d + 1) more
+  pub rows_more : {ps r bytes next : List ℕ} → m ≤ max_width → d < m → read_row m s ≡ got ps r → bytes ≡ from_coords carried_bytes m (is_place ps) →
+      next ≡ sets new (d * bytes_for m) (take (bytes_for m) bytes) → length next ≡ length new → RowsTo m s₀ r old next (d + 1)
   unfolding read_rows
-  rows_more {more} {ps} {r} small h e b n k =
+  rows_more {ps} {r} small h e b n k =
       let size = length_from (bytes_for m) m (is_place ps) in
-      let step : (d + 1) * bytes_for m ≡ d * bytes_for m + bytes_for m = rw add-one (suc-mul d (bytes_for m)) in record {
+      let step : (d + 1) * bytes_for m ≡ d * bytes_for m + bytes_for m = rw add-one (suc-mul d (bytes_for m)) in
+      let joined : sets old 0 (to.front ++ row_of m ps) ≡ sets (sets old 0 to.front) (length to.front) (row_of m ps) = rw zero-add at (sets-append old 0 to.front (row_of m ps)) in record {
         front = to.front ++ row_of m ps;
         size = omega (arith, length-append to.front (row_of m ps), size, to.size, step);
-        reads = rw h at to.reads ∙ rw e (after-after to.front (row_of m ps) (read_rows m more r));
-        stored = n ∙ rw (b, take_row m (is_place ps) small, to.stored, ← to.size) (sym (sets-append old (first * bytes_for m) to.front (row_of m ps)));
+        reads = rw (rows-left h) at to.reads ∙ rw e (after-after to.front (row_of m ps) (read_rows m (m - (d + 1)) r));
+        stored = n ∙ rw (b, take_row m (is_place ps) small, to.stored, ← to.size) (sym joined);
         kept = k ∙ to.kept;
       }
 
-  pub rows-done : left ≡ 0 → RowsRead m first count s₀ (got 0 s) old new
+  pub rows-done : m ≤ d → RowsRead m s₀ (got tt s) old new
   unfolding read_rows
-  rows-done z =
-      let q : read_rows m count s₀ ≡ got (to.front ++ []) s = rw z at to.reads in record {
+  rows-done h =
+      let z : m - d ≡ 0 = omega arith in
+      let q : read_rows m m s₀ ≡ got (to.front ++ []) s = rw z at to.reads in record {
         ends = sym (ap end_of q);
         stores = λ t rest g. (let e : to.front ≡ t = sym (append-nil to.front) ∙ (cc (sym q ∙ g)) in rw (← e) to.stored);
       }
@@ -281,7 +294,7 @@ pub record Answered (s old : List ℕ) (r : Result ℕ Fault) (new : List ℕ) :
   pub answers : r ≡ read_call s old
   pub leaves : new ≡ read_table s old
 
-end-got : (x : Read (List ℕ)) {v : ℕ} {rest : List ℕ} → end_of x ≡ got v rest → (t : List ℕ) × (x ≡ got t rest)
+end-got : (x : Read (List ℕ)) {rest : List ℕ} → end_of x ≡ got tt rest → (t : List ℕ) × (x ≡ got t rest)
 end-got (refused f) e = no_value e
 end-got (got t s) e = (t, (cc))
 
@@ -289,11 +302,13 @@ end_refused : (x : Read (List ℕ)) {f : Fault} → end_of x ≡ refused f → x
 end_refused (refused f) e = cc
 end_refused (got t s) e = no_value (sym e)
 
-ended-more : (m end : ℕ) (t s : List ℕ) → end < length s → ended m (got t (drop end s)) ≡ refused card_tail
-ended-more m end t s h = rw (drop-cons s end 0 h)
+ended-more : (m : ℕ) (t rest : List ℕ) → 0 < length rest → ended m (got t rest) ≡ refused card_tail
+ended-more m t [] h = absurd (omega arith)
+ended-more m t (b ∷ rest) h = refl
 
-ended-all : (m end : ℕ) (t s : List ℕ) → length s ≤ end → ended m (got t (drop end s)) ≡ got (record { width = m; bytes = t }) []
-ended-all m end t s h = rw (drop_of_length-le s h)
+ended-all : (m : ℕ) (t rest : List ℕ) → length rest ≤ 0 → ended m (got t rest) ≡ got (record { width = m; bytes = t }) []
+ended-all m t [] h = refl
+ended-all m t (b ∷ rest) h = absurd (omega arith)
 
 -- the exit of a `?`
 pub answered-refused : {s old new : List ℕ} {f : Fault} (r : Result ℕ Fault) → IsErrAnd r (λ g. g ≡ f) → Answered s old (Err f) new → Answered s old r new
@@ -315,18 +330,18 @@ module _ (s old : List ℕ) where
     pub card-rows : {f : Fault} → end_of (read_rows m m rows) ≡ refused f → Answered s old (Err f) old
     card-rows e = refusal (card-is (end_refused (read_rows m m rows) e))
 
-    pub card-tail : {v end : ℕ} → end_of (read_rows m m rows) ≡ got v (drop end s) → end < length s → Answered s old (Err card_tail) old
-    card-tail {end = end} e h =
+    pub card-tail : {rest : List ℕ} → end_of (read_rows m m rows) ≡ got tt rest → 0 < length rest → Answered s old (Err card_tail) old
+    card-tail {rest} e h =
         let (t, q) = end-got (read_rows m m rows) e in
-        refusal (card-is q ∙ ended-more m end t s h)
+        refusal (card-is q ∙ ended-more m t rest h)
 
-    pub card-done : {v end : ℕ} {r : Read ℕ} {new : List ℕ} → end_of (read_rows m m rows) ≡ got v (drop end s) → length s ≤ end →
-        RowsRead m 0 m rows r old new → Answered s old (Ok m) new
-    card-done {end = end} e h f =
+    pub card-done : {rest : List ℕ} {r : Read (Unit {0})} {new : List ℕ} → end_of (read_rows m m rows) ≡ got tt rest → length rest ≤ 0 →
+        RowsRead m rows r old new → Answered s old (Ok m) new
+    card-done {rest} e h f =
         let (t, q) = end-got (read_rows m m rows) e in
-        let c : read_card (length old) s ≡ got (record { width = m; bytes = t }) [] = card-is q ∙ ended-all m end t s h in
+        let c : read_card (length old) s ≡ got (record { width = m; bytes = t }) [] = card-is q ∙ ended-all m t rest h in
         let lent = (head-parts (length old) s m rows head).lent in
-        let fits : length t ≤ length old = omega (arith, (rows-table m m rows t (drop end s) q).size, lent.fits) in record {
+        let fits : length t ≤ length old = omega (arith, (rows-table m m rows t rest q).size, lent.fits) in record {
           answers = sym (ap read_answer c);
-          leaves = f.stores t (drop end s) q ∙ ap (λ k. sets old k t) (zero-mul (bytes_for m)) ∙ sets-front old t fits ∙ sym (ap (λ x. read_into x old) c);
+          leaves = f.stores t rest q ∙ sets-front old t fits ∙ sym (ap (λ x. read_into x old) c);
         }

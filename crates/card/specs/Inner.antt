@@ -1,21 +1,21 @@
--- Inner definitions, which no demand cites: what the code's steps through a card say. A place in a card's bytes stands for the
--- bytes that are left from there.
-use Rattle.std.specs.Prelude.{◌≡◌, List, ℕ, ◌*◌, drop, Result, Ok, Err}
+-- Inner definitions, which no demand cites: what the code's steps through a card say.
+use Rattle.std.specs.Prelude.{◌≡◌, List, [], ◌∷◌, ℕ, Result, Ok, Err}
 use Rattle.std.proofs.lemmas.List.Edits.{sets}
-use Rattle.gf2.specs.Operands.{bytes_for, carried_bytes, from_coords}
+use Rattle.gf2.specs.Operands.{carried_bytes, from_coords}
+use Rattle.judging.specs.declared.fault.Fault.{Fault}
+use Rattle.judging.specs.Faults.{card_ends}
 use Rattle.card.specs.Numbers.{Read, refused, got}
 use Rattle.card.specs.Rows.{is_place, read_rows}
-use Rattle.judging.specs.declared.fault.Fault.{Fault}
 
--- a value and the place where it ends, or a fault
-abbrev pub told : {A : Type 0} → List ℕ → Result (A × ℕ) Fault → Read A
-told s (Ok (value, next)) = got value (drop next s)
-told s (Err f) = refused f
+-- what a step answers, and the bytes that it leaves
+abbrev pub told : {A : Type 0} → Result A Fault → List ℕ → Read A
+told (Ok value) rest = got value rest
+told (Err f) rest = refused f
 
--- the place where a part ends, whatever its value
-abbrev pub told_end : List ℕ → Result ℕ Fault → Read ℕ
-told_end s (Ok next) = got 0 (drop next s)
-told_end s (Err f) = refused f
+-- the next byte
+abbrev pub read_byte : List ℕ → Read ℕ
+read_byte [] = refused card_ends
+read_byte (g ∷ rest) = got g rest
 
 -- a row's places as a carried operand
 abbrev pub carried_places : ℕ → Read (List ℕ) → Read (List ℕ)
@@ -23,11 +23,11 @@ carried_places m (refused f) = refused f
 carried_places m (got ps rest) = got (from_coords carried_bytes m (is_place ps)) rest
 
 -- where the rows end, with no word of what they are
-abbrev pub end_of : Read (List ℕ) → Read ℕ
+abbrev pub end_of : Read (List ℕ) → Read (Unit {0})
 end_of (refused f) = refused f
-end_of (got t rest) = got 0 rest
+end_of (got t rest) = got tt rest
 
--- reading `count` rows from s: r is what the code says; rows without fault are stored in the table, from its row `first` on
-pub record RowsRead (m first count : ℕ) (s : List ℕ) (r : Read ℕ) (old new : List ℕ) : Type 0 where
-  pub ends : r ≡ end_of (read_rows m count s)
-  pub stores : (t rest : List ℕ) → read_rows m count s ≡ got t rest → new ≡ sets old (first * bytes_for m) t
+-- reading the m rows of a table from s: r is what the code says; rows without fault are stored in the table
+pub record RowsRead (m : ℕ) (s : List ℕ) (r : Read (Unit {0})) (old new : List ℕ) : Type 0 where
+  pub ends : r ≡ end_of (read_rows m m s)
+  pub stores : (t rest : List ℕ) → read_rows m m s ≡ got t rest → new ≡ sets old 0 t

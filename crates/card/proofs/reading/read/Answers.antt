@@ -10,28 +10,24 @@ returns-in_err-width c =
     let x = answered-refused c.from_residual.result c.from_residual.ensures.1 (card-head _ _ (sym c.in_err-width.ensures)) in
     record { answer = x.answers; table = x.leaves }
 
-pub rows_at-requires : goal.rows_at-requires
-rows_at-requires c =
-    let lent = (head-parts _ _ _ _ (sym c.in_ok-width.ensures)).lent in
-    (lent.greatest, omega arith)
+pub rows-requires : goal.rows-requires
+rows-requires c = (head-parts _ _ _ _ (sym c.in_ok-width.ensures)).lent.greatest
 
-pub returns-in_err-end : goal.returns-in_err-end
-returns-in_err-end c =
-    let e = c.from_residual-in_err-end in
-    let x = answered-refused e.result e.ensures.1 (card-rows _ _ (sym c.in_ok-width.ensures) (sym c.in_err-end.ensures.ends)) in
+pub returns-in_err-rows : goal.returns-in_err-rows
+returns-in_err-rows c =
+    let e = c.from_residual-in_err-rows in
+    let x = answered-refused e.result e.ensures.1 (card-rows _ _ (sym c.in_ok-width.ensures) (sym c.in_err-rows.ensures.ends)) in
     record { answer = x.answers; table = x.leaves }
 
-pub returns-then-end-card : goal.returns-then-end-card
-returns-then-end-card c =
-    let x = card-tail _ _ (sym c.in_ok-width.ensures) (sym c.in_ok-end.ensures.ends) c.if-end-card.true in
+pub returns-then-not-is_empty : goal.returns-then-not-is_empty
+returns-then-not-is_empty c =
+    let x = card-tail _ _ (sym c.in_ok-width.ensures) (sym c.in_ok-rows.ensures.ends) (search (arith, c.is_empty.ensures, c.if-not-is_empty.true)) in
     record { answer = x.answers; table = x.leaves }
 
-pub rows_at-requires-2 : goal.rows_at-requires-2
-rows_at-requires-2 c =
-    let lent = (head-parts _ _ _ _ (sym c.in_ok-width.ensures)).lent in
-    (lent.greatest, omega arith)
+pub rows-requires-2 : goal.rows-requires-2
+rows-requires-2 c = (head-parts _ _ _ _ (sym c.in_ok-width.ensures)).lent.greatest
 
 pub returns : goal.returns
 returns c =
-    let x = card-done _ _ (sym c.in_ok-width.ensures) (sym c.in_ok-end.ensures.ends) c.if-end-card.false c.rows_at-2.ensures in
+    let x = card-done _ _ (sym c.in_ok-width.ensures) (sym c.in_ok-rows.ensures.ends) (search (arith, c.is_empty.ensures, c.if-not-is_empty.false)) c.rows-2.ensures in
     record { answer = x.answers; table = x.leaves }

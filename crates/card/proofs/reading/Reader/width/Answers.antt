@@ -1,7 +1,7 @@
--- `card::reading::width_at` meets its contract.
+-- `card::reading::Reader::width` meets its contract.
 use mathlib.Core.Path.{sym, ◌∙◌}
 use Rattle.card.proofs.ReadSteps.{told-refused, width-refused, width_some, width-fault}
-use Rattle.card.proofs.reading.width_at.Goals as goal
+use Rattle.card.proofs.reading.Reader.width.Goals as goal
 
 pub returns-in_err-width : goal.returns-in_err-width
 returns-in_err-width c = told-refused _ c.from_residual.result c.from_residual.ensures.1 (width-refused _ _ (sym c.in_err-width.ensures))
