@@ -4,7 +4,8 @@
 use std::path::{Path, PathBuf};
 use std::{env, fs};
 
-const CRATES: [&str; 19] = [
+const CRATES: [&str; 20] = [
+    "stores",
     "limbs",
     "ones",
     "quadratic",

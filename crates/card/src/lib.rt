@@ -5,4 +5,3 @@ mod reading;
 mod store;
 
 pub use reading::read;
-pub use store::put;

@@ -23,7 +23,7 @@ impl CardWriter<'_> {
         requires { HasRoom (byte ∷ []) self.old }
         ensures { Puts (byte ∷ []) self.old self.new }
     {
-        card::put(self.out, self.at, byte);
+        stores::put(self.out, self.at, byte);
         self.at += 1;
     }
 

@@ -138,7 +138,7 @@ pub(crate) fn put_each(
     let mut k = n;
     for r in 0..count {
         let f = fold_terms(out, columns, t, r, k);
-        list_pairs::put(ends, r, f.running.unwrap_or(0));
+        stores::put(ends, r, f.running.unwrap_or(0));
         k = f.gates;
     }
     k

@@ -5,4 +5,4 @@ mod pairs;
 mod store;
 
 pub use pairs::{fits, put_pairs};
-pub use store::{Kind, put, put_gate};
+pub use store::{Kind, put_gate};

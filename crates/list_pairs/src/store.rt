@@ -1,6 +1,6 @@
-// Storing words and gates, for this part of a list and for the folds.
+// Storing gates, for this part of a list and for the folds.
 // A store past the end does nothing, so that nothing here asks for room: the calls judge the buffer before they write.
-ghost use Rattle.std.specs.Prelude.{◌≡◌, [], ◌∷◌, ◌+◌, ◌*◌, set};
+ghost use Rattle.std.specs.Prelude.{◌≡◌, [], ◌∷◌, ◌+◌, ◌*◌};
 ghost use Rattle.std.proofs.lemmas.List.Edits.{sets};
 ghost use Rattle.list_pairs.specs.Pairs.{kind_word};
 
@@ -17,14 +17,6 @@ fn word(kind: Kind) -> u32
     kind as u32
 }
 
-pub fn put(out: &mut [u32], at: usize, word: u32)
-    ensures { out.new ≡ set out.old at word }
-{
-    if at < out.len() {
-        out[at] = word;
-    }
-}
-
 // Far past the end the place might be no usize, so that n is looked at first.
 pub fn put_gate(out: &mut [u32], n: usize, kind: Kind, left: u32, right: u32)
     ensures { out.new ≡ sets out.old (2 + 3 * n) (kind_word kind ∷ left ∷ right ∷ []) }
@@ -33,7 +25,7 @@ pub fn put_gate(out: &mut [u32], n: usize, kind: Kind, left: u32, right: u32)
         return;
     }
     let at = 2 + 3 * n;
-    put(out, at, word(kind));
-    put(out, at + 1, left);
-    put(out, at + 2, right);
+    stores::put(out, at, word(kind));
+    stores::put(out, at + 1, left);
+    stores::put(out, at + 2, right);
 }
