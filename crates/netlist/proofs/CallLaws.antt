@@ -1,5 +1,4 @@
 -- Laws of the counts: the numbers of all gates, and the answers of the calls.
-use Rattle.std.specs.Prelude.{Ok}
 use mathlib.Core.Path.{◌≡◌, refl, sym, ap, ◌∙◌}
 use mathlib.Core.List.{List}
 use Prim.Native.Nat.{ℕ, zero, suc, ◌+◌, ◌-◌, ◌*◌, ◌/◌, ◌≤◌}
@@ -11,8 +10,6 @@ use Rattle.gf2.specs.Check.{Symmetric}
 use Rattle.judging.specs.Causes.{Cause, judged, answered}
 use Rattle.judging.proofs.CauseLaws.{Fine, none-given, answer-given}
 use Rattle.table.specs.Rows.{Shaped}
-use Rattle.table.specs.Judgements.{symmetry_verdict}
-use Rattle.table.proofs.Theorems.{symmetry}
 use Rattle.netlist.specs.declared.counts.Method.{Method}
 use Rattle.netlist.specs.declared.counts.Method.TheVariants.{Plain, Reduced, Common}
 use Rattle.netlist.specs.Lists.{plain, reduced, sharing, common, if_none, full_rows}
@@ -23,10 +20,6 @@ use Rattle.netlist.specs.Methods.{list_by, shared_by, xors_by, gates_by, tallied
 use Rattle.netlist.specs.Statements.{Sized}
 use Rattle.netlist.proofs.SizeLaws.{ones-most, plain-sized, reduced-sized, common-sized}
 use Rattle.netlist.proofs.ListLaws.{Gates, ones-positive, shared-ones, plain-gates, reduced-gates, sharing-gates, common-gates}
-
--- a table that has passed
-pub table-fine : (m : ℕ) (table : List ℕ) → symmetry_verdict m table ≡ Ok tt → Shaped m table × Symmetric m table
-table-fine m table = (symmetry m table).0
 
 -- an answer that is given
 pub answer-counted : (cs : List Cause) (a x : ℕ) → Fine cs → answered (judged cs) (both a x) ≡ counted_as a x
