@@ -105,7 +105,7 @@ impl<'a> DiscreteLogarithms<'a> {
         DiscreteLogarithms { modulus, entries }
     }
 
-    // The s for which (2^t)^s is x^t modulo p.
+    // The s below m for which (2^t)^s is x^t modulo p, where there is one.
     pub(crate) fn logarithm(&self, x: u32) -> Option<usize>
         requires { Residue self.now.modulus.p x }
         ensures { LogarithmOf self.now.modulus.m self.now.modulus.t x result }
