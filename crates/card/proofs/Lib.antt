@@ -1,5 +1,5 @@
 -- The laws that the proofs of this crate, and of the one that writes cards, cite.
--- Numbers: a number written and read, and read at a place of the card.
+-- Numbers: a number written and read, and by the bytes that are read.
 -- Places: the places of a row's ones, as a list and as bytes.
 -- Trips: rows and cards, written and read, both ways.
 -- Stores: bytes that are stored at a place of a lent buffer.

@@ -27,7 +27,7 @@ struct Reader<'a> {
     left: &'a [u8],
 }
 
-impl<'a> Reader<'a> {
+impl Reader<'_> {
     fn byte(&mut self) -> Result<u8, Fault>
         ensures { told result self.new.left.now ≡ read_byte self.old.left.now }
     {
