@@ -1,5 +1,5 @@
 -- What only inner functions cite: the parts of the causes, and what the filling of wires and result is given.
-use Rattle.std.specs.Prelude.{◌≡◌, true, List, [], ◌∷◌, ◌++◌, ℕ, ◌-◌, ◌<◌, ◌≤◌, length, get_or}
+use Rattle.std.specs.Prelude.{◌≡◌, true, List, [], ◌∷◌, ◌++◌, ℕ, ◌+◌, ◌-◌, ◌*◌, ◌<◌, ◌≤◌, length, get_or}
 use Rattle.gf2.specs.Sums.{every}
 use Rattle.gf2.specs.Operands.{max_width, bytes_for}
 use Rattle.judging.specs.Causes.{Cause}
@@ -31,6 +31,10 @@ bit_causes m list a b = high_bit m a ∷ high_bit m b ∷ bad_gates m list ∷ [
 -- all that is judged after the sizes of operands and result
 abbrev pub list_causes : ℕ → List ℕ → List ℕ → List ℕ → ℕ → List Cause
 list_causes m list a b wires = word_causes m list wires ++ bit_causes m list a b
+
+-- "a byte per wire (2m+g)"
+abbrev pub BytePerWire : ℕ → List ℕ → List ℕ → Type 0
+BytePerWire m list wires = length wires ≡ 2 * m + gate_count list
 
 -- the value of the output wire for r
 abbrev pub on_output : List ℕ → List ℕ → ℕ → ℕ

@@ -4,7 +4,7 @@ ghost use Rattle.std.proofs.lemmas.List.Edits.{sets};
 ghost use Rattle.gf2.specs.Coordinates.{coord, tabulate};
 ghost use Rattle.gf2.specs.Operands.{max_width};
 ghost use Rattle.netlist.specs.Running.{applied, run as run_gates, wires as wires_of, gates_to, gate_count, read_list};
-ghost use Rattle.runner.specs.Inner.{AreBits, IsNext, gate_at};
+ghost use Rattle.runner.specs.Inner.{AreBits, BytePerWire, IsNext, gate_at};
 
 use crate::lists::Runnable;
 
@@ -47,7 +47,7 @@ impl<'a> Runnable<'a> {
 
     // The wires of the gates. The last wire is kept: a sum's next gate reads it at once.
     fn fill_gates(&self, wires: &mut [u8])
-        requires { (length wires.old ≡ 2 * self.now.list.width + gate_count self.now.list.words.now) × AreBits (2 * self.now.list.width) wires.old }
+        requires { BytePerWire self.now.list.width self.now.list.words.now wires.old × AreBits (2 * self.now.list.width) wires.old }
         ensures { wires.new ≡ run_gates (gates_to self.now.list.words.now (gate_count self.now.list.words.now)) (take (2 * self.now.list.width) wires.old) }
     {
         let first = 2 * self.list.width;
@@ -60,7 +60,7 @@ impl<'a> Runnable<'a> {
     }
 
     pub(crate) fn fill_wires(&self, a: &[u8], b: &[u8], wires: &mut [u8])
-        requires { length wires.old ≡ 2 * self.now.list.width + gate_count self.now.list.words.now }
+        requires { BytePerWire self.now.list.width self.now.list.words.now wires.old }
         ensures { wires.new ≡ wires_of self.now.list.width (read_list self.now.list.words.now self.now.list.width) a.now b.now }
     {
         let width = self.list.width;
