@@ -29,13 +29,14 @@ const CRATES: [&str; 20] = [
 
 /// What Rattle has and Rust hasn't: what each begins with, the brackets that it goes on to the end of, and the mark that ends it where
 /// these are closed.
-const RATTLE: [(&str, [char; 2], &str); 10] = [
+const RATTLE: [(&str, [char; 2], &str); 11] = [
     ("requires ", ['{', '}'], ""),
     ("requires* ", ['{', '}'], ""),
     ("ensures ", ['{', '}'], ""),
     ("ensures* ", ['{', '}'], ""),
     ("ghost use ", ['{', '}'], ";"),
     ("ghost ", ['{', '}'], ","),
+    ("#[derive(Drop)]", ['[', ']'], ""),
     ("prove!(", ['(', ')'], ";"),
     ("#![tactic(", ['[', ']'], ""),
     ("#[tactic(", ['[', ']'], ""),
