@@ -17,7 +17,6 @@ use Rattle.gf2.proofs.Logarithm.{log2-bounds, top_digit}
 use Rattle.operand.specs.declared.Operand.{Operand}
 use Rattle.judging.specs.declared.fault.Fault.{Fault}
 use Rattle.operand.specs.Calls.{turn_call}
-use Rattle.table.specs.Rows.{Shaped}
 use Rattle.product.specs.declared.chain.State.{State}
 use Rattle.product.specs.Inner.{Sound, operand_of, chain_of, state_of, Underway}
 use Rattle.product.proofs.SoundOperands.{is_carried, made-sound, unwrapped, turn-is, turn-made}
@@ -83,25 +82,25 @@ module _ {m : ℕ} {x : Operand} (s : Sound m x) (k : ℕ) {r : Result Operand F
 abbrev last_from : ℕ → List ℕ → Operand → ℕ → Chain → State
 last_from m t a u s = state_of m (digits m t a.bytes (m - 1) u s)
 
-module _ {m : ℕ} {t : List ℕ} {a : Operand} {s : State} {u d : ℕ} (w : Underway m t a s u d) where
+module _ {m : ℕ} {a : Operand} {s : State} {u d : ℕ} (w : Underway m a s u d) where
   pub k-small : s.k < max_width
   k-small = omega (arith, w.reached, w.base.least, w.base.greatest, shr_le (m - 1) u)
 
-  pub none_left : u ≡ 0 → s ≡ last_from m t a u (chain_of s)
+  pub none_left : (t : List ℕ) → u ≡ 0 → s ≡ last_from m t a u (chain_of s)
   unfolding digits
-  none_left e = ap (λ o. record { t = o; k = s.k; count = s.count }) (is_carried w.power) ∙ rw e
+  none_left t e = ap (λ o. record { t = o; k = s.k; count = s.count }) (is_carried w.power) ∙ rw e
 
   -- a digit 0 is added by doing nothing
-  pub skipped-underway : d ≡ 0 → Underway m t a s u 0
+  pub skipped-underway : d ≡ 0 → Underway m a s u 0
   skipped-underway e = rw e at w
 
-  pub skipped-last : d ≡ 0 → {z : State} → z ≡ last_from m t a u (chain_of s) → z ≡ last_from m t a u (adding m t a.bytes d (chain_of s))
+  pub skipped-last : (t : List ℕ) → d ≡ 0 → {z : State} → z ≡ last_from m t a u (chain_of s) → z ≡ last_from m t a u (adding m t a.bytes d (chain_of s))
   unfolding adding
-  skipped-last e q = rw e q
+  skipped-last t e q = rw e q
 
   -- the power that a step hands on
-  step-sound : (k : ℕ) (y : List ℕ) → Sound m (operand_of m (product m t (turned m k s.t.bytes) y))
-  step-sound k y = record {
+  step-sound : (t : List ℕ) (k : ℕ) (y : List ℕ) → Sound m (operand_of m (product m t (turned m k s.t.bytes) y))
+  step-sound t k y = record {
     least = w.base.least;
     greatest = w.base.greatest;
     width = refl;
@@ -109,13 +108,12 @@ module _ {m : ℕ} {t : List ℕ} {a : Operand} {s : State} {u d : ℕ} (w : Und
   }
 
 -- the state that a doubling hands on
-module _ {m : ℕ} {t : List ℕ} {a : Operand} {s : State} {u : ℕ} (w : Underway m t a s u 0) (some : 0 < u) {r : State}
+module _ {m : ℕ} (t : List ℕ) {a : Operand} {s : State} {u : ℕ} (w : Underway m a s u 0) (some : 0 < u) {r : State}
     (e : r ≡ record { t = operand_of m (product m t (turned m s.k s.t.bytes) s.t.bytes); k = 2 * s.k; count = s.count + 1 }) where
-  pub doubled-underway : Underway m t a r (u - 1) ((m - 1) / 2 ^ (u - 1) % 2)
+  pub doubled-underway : Underway m a r (u - 1) ((m - 1) / 2 ^ (u - 1) % 2)
   doubled-underway = rw e (record {
-    shaped = w.shaped;
     base = w.base;
-    power = step-sound w s.k s.t.bytes;
+    power = step-sound w t s.k s.t.bytes;
     reached = omega (arith, w.reached, read_more (m - 1) u some);
     short = le_trans (pow_mono {i = u - 1} {j = u} (omega arith)) w.short;
     few = omega (arith, w.few);
@@ -129,13 +127,12 @@ module _ {m : ℕ} {t : List ℕ} {a : Operand} {s : State} {u : ℕ} (w : Under
       ∙ ap (state_of m) (sym (digits-next m t a.bytes (m - 1) u (chain_of s) some))
 
 -- the state that the adding of a digit 1 hands on
-module _ {m : ℕ} {t : List ℕ} {a : Operand} {s : State} {u d : ℕ} (w : Underway m t a s u d) (one : d ≡ 1) {r : State}
+module _ {m : ℕ} (t : List ℕ) {a : Operand} {s : State} {u d : ℕ} (w : Underway m a s u d) (one : d ≡ 1) {r : State}
     (e : r ≡ record { t = operand_of m (product m t (turned m 1 s.t.bytes) a.bytes); k = s.k + 1; count = s.count + 1 }) where
-  pub added-underway : Underway m t a r u 0
+  pub added-underway : Underway m a r u 0
   added-underway = rw e (record {
-    shaped = w.shaped;
     base = w.base;
-    power = step-sound w 1 a.bytes;
+    power = step-sound w t 1 a.bytes;
     reached = omega (arith, w.reached);
     short = w.short;
     few = omega (arith, w.few);
@@ -146,14 +143,13 @@ module _ {m : ℕ} {t : List ℕ} {a : Operand} {s : State} {u d : ℕ} (w : Und
   added-last q = rw one (q ∙ ap (λ (x : State). last_from m t a u (chain_of x)) e)
 
 -- the chain begins with all digits but the highest one unread
-pub start-underway : {m : ℕ} {t : List ℕ} {a : Operand} → Shaped m t → Sound m a → Underway m t a (record { t = a; k = 1; count = 0 }) (log2 (m - 1)) 0
-start-underway {m} h s =
+pub start-underway : {m : ℕ} {a : Operand} → Sound m a → Underway m a (record { t = a; k = 1; count = 0 }) (log2 (m - 1)) 0
+start-underway {m} s =
     let l = s.least in
     let g = s.greatest in
     let b = log2-bounds (m - 1) (omega arith) in
     let small : 2 ^ log2 (m - 1) ≤ max_width = omega arith in
     record {
-      shaped = h;
       base = s;
       power = s;
       reached = sym (top_digit (m - 1) (omega arith));

@@ -24,10 +24,6 @@ use Rattle.product.proofs.SoundOperands.{fits, is_made, sum-made, square-made}
 use Rattle.product.proofs.KernelLaws.{limbs-coord, rows_made}
 use Rattle.product.proofs.RowProducts.{diagonal_bytes, rows_at, by_rows}
 
-pub serves-shaped : (how : Method) (m : ℕ) (t : List ℕ) → Serves how m t → Shaped m t
-serves-shaped Plain m t s = s
-serves-shaped Reduced m t s = s.0
-
 -- the rows of a method are rows of the table
 pub rows_inside : (how : Method) (m : ℕ) → 2 ≤ m → first_row how + row_count how m ≤ m
 rows_inside Plain m two = omega arith
@@ -59,7 +55,7 @@ module _ {m : ℕ} {rows : Operand} (s : Sound m rows) (x y : List ℕ) where
       inner : (c d : ℕ) → (c + d % 2) % 2 ≡ (c + d) % 2
       inner c d = omega arith
 
-module _ {m : ℕ} (t : List ℕ) {a b : Operand} {x y : List ℕ} (sa : Sound m a) (sb : Sound m b)
+module _ {m : ℕ} {t : List ℕ} (shaped : Shaped m t) {a b : Operand} {x y : List ℕ} (sa : Sound m a) (sb : Sound m b)
     (ex : x ≡ pack_limbs carried_limbs (coord a.bytes)) (ey : y ≡ pack_limbs carried_limbs (coord b.bytes)) (n : ℕ) where
   diagonal-same : (how : Method) (i : ℕ) → diagonal_at how m x y i ≡ diagonal_bytes how m a.bytes b.bytes i
   diagonal-same Plain i = refl
@@ -69,8 +65,8 @@ module _ {m : ℕ} (t : List ℕ) {a b : Operand} {x y : List ℕ} (sa : Sound m
       → rows ≡ made m (gathered_at m g) → r ≡ made m (λ i. coord rows.bytes i + diagonal_at how m x y i) → r ≡ operand_of m (multiplied how m t a.bytes b.bytes)
   times-made how {g} serves p q e = e ∙ ap (operand_of m)
       (from-ext carried_bytes m _ (rows_at how m t a.bytes b.bytes) (λ i l.
-      parts _ _ (ap (λ z. coord z.bytes i) q ∙ coord-from carried_bytes m (gathered_at m g) (fits m sa.greatest) i l) (rows_made sa sb ex ey how (first_row how) (row_count how m) n (serves-shaped how m t serves) (rows_inside how m sa.least) p i l) (diagonal-same how i))
-      ∙ by_rows how m t a.bytes b.bytes serves sa.operand.size)
+      parts _ _ (ap (λ z. coord z.bytes i) q ∙ coord-from carried_bytes m (gathered_at m g) (fits m sa.greatest) i l) (rows_made sa sb ex ey how (first_row how) (row_count how m) n shaped (rows_inside how m sa.least) p i l) (diagonal-same how i))
+      ∙ by_rows how m t a.bytes b.bytes shaped serves sa.operand.size)
     where
       parts : {c d w : ℕ} (u v : ℕ) → c ≡ u % 2 → u % 2 ≡ v % 2 → d ≡ w → (c + d) % 2 ≡ (w + v) % 2
       parts u v p q r = omega arith

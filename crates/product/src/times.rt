@@ -9,6 +9,7 @@ ghost use Rattle.product.specs.Inner.{Sound, Serves, operand_of, made, diagonal_
 use crate::{kernel, slots};
 use operand::Operand;
 use scatter::Method;
+use table::Table;
 
 // What the rows give, and what a method adds to it.
 fn plus_diagonal(
@@ -34,20 +35,20 @@ fn plus_diagonal(
 // g is scratch: slots of limbs, all 0.
 pub(crate) fn times(
     method: Method,
-    width: usize,
-    table: &[u8],
+    table: &Table,
     a: Operand,
     b: Operand,
-    g: &mut [u64],
+    g: &mut [u64; scatter::ROOM],
 ) -> Operand
-    requires { Serves method width table.now × Sound width a × Sound width b × (g.old ≡ replicate (slots * twice_limbs) 0) }
-    ensures { result ≡ operand_of width (multiplied method width table.now a.bytes b.bytes) }
+    requires { Serves method table.now.width table.now.bytes.now × Sound table.now.width a × Sound table.now.width b
+        × (g.old ≡ replicate (slots * twice_limbs) 0) }
+    ensures { result ≡ operand_of table.now.width (multiplied method table.now.width table.now.bytes.now a.bytes b.bytes) }
 {
+    let width = table.width();
     let x = limbs::to_limbs(a.bytes);
     let y = limbs::to_limbs(b.bytes);
     kernel::add_rows(
         method,
-        width,
         table,
         scatter::first_row(method),
         scatter::row_count(method, width),
@@ -55,5 +56,5 @@ pub(crate) fn times(
         y,
         g,
     );
-    plus_diagonal(method, width, slots::gathered(width, g), x, y)
+    plus_diagonal(method, width, slots::gathered(table, g), x, y)
 }

@@ -12,7 +12,7 @@ unwrap-turned-requires c = unwraps c.turn.ensures (turn-is c.requires.0.power 1)
 pub times-requires : goal.times-requires
 times-requires c =
     let p = c.requires in
-    (p.0.shaped, turned-sound p.0.power 1 c.turn.ensures c.unwrap-turned.ensures, p.1, c.clear.ensures ∙ ap (λ (n : ℕ). replicate {A = ℕ} n 0) p.0.there)
+    (tt, turned-sound p.0.power 1 c.turn.ensures c.unwrap-turned.ensures, p.1, c.fill.ensures.after (λ y e. e) ∙ ap (λ (n : ℕ). replicate {A = ℕ} n 0) c.told-g)
 
 pub returns : goal.returns
 returns c =

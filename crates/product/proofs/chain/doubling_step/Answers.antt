@@ -12,7 +12,7 @@ unwrap-turned-requires c = unwraps c.turn.ensures (turn-is c.requires.power c.ar
 pub times-requires : goal.times-requires
 times-requires c =
     let p = c.requires in
-    (p.shaped, turned-sound p.power c.args.s.k c.turn.ensures c.unwrap-turned.ensures, p.power, c.clear.ensures ∙ ap (λ (n : ℕ). replicate {A = ℕ} n 0) p.there)
+    (tt, turned-sound p.power c.args.s.k c.turn.ensures c.unwrap-turned.ensures, p.power, c.fill.ensures.after (λ y e. e) ∙ ap (λ (n : ℕ). replicate {A = ℕ} n 0) c.told-g)
 
 pub returns : goal.returns
 returns c =
