@@ -1,5 +1,5 @@
 -- What has passed where no fault is given, and the same causes carried and as W bytes.
--- Passed: the table, factors by a method, operands of its width. Zero: no bit at 0 or above.
+-- Passed: factors by a method, an operand. Zero: no bit at 0 or above.
 -- Bytes: causes judged on the carried bytes are those of the W bytes, and so are the answers.
 use Rattle.std.specs.Prelude.{Result, Ok, Err}
 use mathlib.Core.Path.{◌≡◌, refl, sym, ap, ◌∙◌}
@@ -24,7 +24,6 @@ use Rattle.judging.proofs.Passed.{IsWidth as IsPassed, is-width, width-passes, i
 use Rattle.limbs.proofs.ByteLists.{Bytes}
 use Rattle.operand.specs.declared.Operand.{Operand}
 use Rattle.operand.proofs.CallLaws.{zero-bytes, high_same, Sized, SizedPair}
-use Rattle.table.specs.Rows.{Shaped}
 use Rattle.table.specs.Judgements.{shape_verdict}
 use Rattle.table.proofs.Theorems.{rules}
 use Rattle.product.specs.declared.Inverted.{Inverted}
@@ -53,25 +52,22 @@ HasCarriedBytes x = (length x ≡ carried_bytes) × Bytes x
 pub rows-after : {m : ℕ} → IsWidth m → (t : List ℕ) {v : Verdict} → shape_verdict m t ≡ v → judged (row_causes m t) ≡ v
 rows-after {m} w t e = sym (head-fails (bad_width m) (row_causes m t) (width-passes m (record { least = w.0; greatest = w.1 }))) ∙ e
 
--- what has passed under a table
-module _ {m : ℕ} {t : List ℕ} (shaped : Shaped m t) where
-  serves : (k : Method) → Fine (rules_by k m t) → Serves k m t
-  serves Plain p = tt
-  serves Reduced p = (rules m t).0 p
+-- carried bytes whose bits have passed
+sound : {m : ℕ} {x : List ℕ} → HasCarriedBytes x → (high_bit m x).test ≡ false → Sound m (operand_of m x)
+sound {m} {x} h p = record { width = refl; operand = record { size = h.0; byte = h.1; clear = clear_at m x (is-clear m x p) } }
 
-  -- carried bytes whose bits have passed
-  sound : {x : List ℕ} → HasCarriedBytes x → (high_bit m x).test ≡ false → Sound m (operand_of m x)
-  sound {x} h p =
-      record { least = shaped.least; greatest = shaped.greatest; width = refl; operand = record { size = h.0; byte = h.1; clear = clear_at m x (is-clear m x p) } }
+-- factors under a table, and an operand that isn't zero
+pub factors-fine : {m : ℕ} (t : List ℕ) (k : Method) (x y : List ℕ) → HasCarriedBytes x → HasCarriedBytes y → judged (high_bit m x ∷ high_bit m y ∷ rules_by k m t) ≡ Ok tt → Serves k m t × Sound m (operand_of m x) × Sound m (operand_of m y)
+factors-fine {m} t k x y hx hy e =
+    let p = fine (high_bit m x ∷ high_bit m y ∷ rules_by k m t) e in
+    (serves k p.1.1, sound hx p.0, sound hy p.1.0)
+  where
+    serves : (k : Method) → Fine (rules_by k m t) → Serves k m t
+    serves Plain p = tt
+    serves Reduced p = (rules m t).0 p
 
-  -- factors, and an operand that isn't zero
-  pub factors-fine : (k : Method) (x y : List ℕ) → HasCarriedBytes x → HasCarriedBytes y → judged (high_bit m x ∷ high_bit m y ∷ rules_by k m t) ≡ Ok tt → Serves k m t × Sound m (operand_of m x) × Sound m (operand_of m y)
-  factors-fine k x y hx hy e =
-      let p = fine (high_bit m x ∷ high_bit m y ∷ rules_by k m t) e in
-      (serves k p.1.1, sound hx p.0, sound hy p.1.0)
-
-  pub unit-fine : (x : List ℕ) → HasCarriedBytes x → judged (high_bit m x ∷ is_zero carried_bytes m x ∷ []) ≡ Ok tt → Sound m (operand_of m x)
-  unit-fine x h e = sound h (fine (high_bit m x ∷ is_zero carried_bytes m x ∷ []) e).0
+pub unit-fine : {m : ℕ} (x : List ℕ) → HasCarriedBytes x → judged (high_bit m x ∷ is_zero carried_bytes m x ∷ []) ≡ Ok tt → Sound m (operand_of m x)
+unit-fine {m} x h e = sound h (fine (high_bit m x ∷ is_zero carried_bytes m x ∷ []) e).0
 
 module _ {m : ℕ} (w : IsWidth m) (t : List ℕ) where
   -- the causes of carried bytes are those of the W bytes

@@ -35,22 +35,22 @@ pub rows-by : (how : Method) (m : ℕ) (t x y : List ℕ) (n : ℕ) {from count 
 rows-by how m t x y n p q r h = rw (p, q, r) at h
 
 -- what the rows give, with nothing and with the diagonal
-module _ {m : ℕ} {rows : Operand} (s : Sound m rows) (x y : List ℕ) where
+module _ {m : ℕ} {t : List ℕ} (shaped : Shaped m t) {rows : Operand} (s : Sound m rows) (x y : List ℕ) where
   pub plus_none : rows ≡ made m (λ i. coord rows.bytes i + diagonal_at Plain m x y i)
   plus_none = is_made s ∙ ap (operand_of m) (from-ext carried_bytes m _ _ (λ i l. ap (λ z. z % 2) (sym (add-zero _))))
 
   -- the square of the coordinates' products, and its sum with what the rows give
   pub diagonal-made : (e : List ℕ) {products : Operand} → products ≡ made m (limb_coord e) → square_call products ≡ Ok (made m (λ i. limb_coord e (minus m i 1)))
-  diagonal-made e q = square-made s.least s.greatest (limb_coord e) q
+  diagonal-made e q = square-made shaped.least shaped.greatest (limb_coord e) q
 
   pub plus-products : {e : List ℕ} {diagonal : Operand} → e ≡ pack_limbs carried_limbs (λ i. limb_coord x i * limb_coord y i)
       → diagonal ≡ made m (λ i. limb_coord e (minus m i 1)) → sum_call rows diagonal ≡ Ok (made m (λ i. coord rows.bytes i + diagonal_at Reduced m x y i))
   plus-products {e} p q =
-      sum-made s.least s.greatest (coord rows.bytes) (λ i. limb_coord e (minus m i 1)) (is_made s) q
-      ∙ ap (λ b. Ok (operand_of m b)) (from-ext carried_bytes m _ _ (λ i l. ap (λ z. (coord rows.bytes i + z) % 2) (at (minus m i 1) (minus-lt m i 1 (omega (arith, s.least)))) ∙ inner _ _))
+      sum-made shaped.least shaped.greatest (coord rows.bytes) (λ i. limb_coord e (minus m i 1)) (is_made s) q
+      ∙ ap (λ b. Ok (operand_of m b)) (from-ext carried_bytes m _ _ (λ i l. ap (λ z. (coord rows.bytes i + z) % 2) (at (minus m i 1) (minus-lt m i 1 (omega (arith, shaped.least)))) ∙ inner _ _))
     where
       at : (j : ℕ) → j < m → limb_coord e j ≡ limb_coord x j * limb_coord y j % 2
-      at j l = let big = s.greatest in ap (λ z. limb_coord z j) p ∙ limb-pack carried_limbs _ j (omega arith)
+      at j l = let big = shaped.greatest in ap (λ z. limb_coord z j) p ∙ limb-pack carried_limbs _ j (omega arith)
 
       inner : (c d : ℕ) → (c + d % 2) % 2 ≡ (c + d) % 2
       inner c d = omega arith
@@ -65,7 +65,7 @@ module _ {m : ℕ} {t : List ℕ} (shaped : Shaped m t) {a b : Operand} {x y : L
       → rows ≡ made m (gathered_at m g) → r ≡ made m (λ i. coord rows.bytes i + diagonal_at how m x y i) → r ≡ operand_of m (multiplied how m t a.bytes b.bytes)
   times-made how {g} serves p q e = e ∙ ap (operand_of m)
       (from-ext carried_bytes m _ (rows_at how m t a.bytes b.bytes) (λ i l.
-      parts _ _ (ap (λ z. coord z.bytes i) q ∙ coord-from carried_bytes m (gathered_at m g) (fits m sa.greatest) i l) (rows_made sa sb ex ey how (first_row how) (row_count how m) n shaped (rows_inside how m sa.least) p i l) (diagonal-same how i))
+      parts _ _ (ap (λ z. coord z.bytes i) q ∙ coord-from carried_bytes m (gathered_at m g) (fits m shaped.greatest) i l) (rows_made sa sb ex ey how (first_row how) (row_count how m) n shaped (rows_inside how m shaped.least) p i l) (diagonal-same how i))
       ∙ by_rows how m t a.bytes b.bytes shaped serves sa.operand.size)
     where
       parts : {c d w : ℕ} (u v : ℕ) → c ≡ u % 2 → u % 2 ≡ v % 2 → d ≡ w → (c + d) % 2 ≡ (w + v) % 2

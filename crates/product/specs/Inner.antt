@@ -35,8 +35,6 @@ IsWidth m = (2 ≤ m) × (m ≤ max_width)
 
 -- an operand of width m that has no fault
 pub record Sound (m : ℕ) (a : Operand) : Type 0 where
-  pub least : 2 ≤ m
-  pub greatest : m ≤ max_width
   pub width : a.width ≡ m
   pub operand : IsOperand carried_bytes m a.bytes
 

@@ -1,17 +1,16 @@
 // The slots of limbs gathered as an operand.
-ghost use Rattle.std.specs.Prelude.{◌≡◌, ◌≤◌};
-ghost use Rattle.gf2.specs.Operands.{max_width};
+ghost use Rattle.std.specs.Prelude.{◌≡◌};
 ghost use Rattle.limbs.specs.Limbs.{limb_coord};
 ghost use Rattle.product.specs.Inner.{made, gathered_at};
 
 use operand::Operand;
 use table::Table;
 
-// The operand of the coordinates below the width.
-pub(crate) fn below_width(x: [u64; limbs::LIMBS], width: usize) -> Operand
-    requires { width ≤ max_width }
-    ensures { result ≡ made width (limb_coord x) }
+// The operand of the coordinates below the table's width.
+pub(crate) fn below_width(x: [u64; limbs::LIMBS], table: &Table) -> Operand
+    ensures { result ≡ made table.now.width (limb_coord x) }
 {
+    let width = table.width();
     Operand {
         bytes: limbs::to_bytes(limbs::low_limbs(x, width)),
         width: width as u16,
@@ -28,5 +27,5 @@ pub(crate) fn gathered(table: &Table, g: &[u64; scatter::ROOM]) -> Operand
         scatter::window(&all, 0, width),
         scatter::window(&all, width, width),
     );
-    below_width(both, width)
+    below_width(both, table)
 }

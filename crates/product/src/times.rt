@@ -14,18 +14,18 @@ use table::Table;
 // What the rows give, and what a method adds to it.
 fn plus_diagonal(
     method: Method,
-    width: usize,
+    table: &Table,
     rows: Operand,
     x: [u64; limbs::LIMBS],
     y: [u64; limbs::LIMBS],
 ) -> Operand
-    requires { Sound width rows }
-    ensures { result ≡ made width (λ i. coord rows.bytes i + diagonal_at method width x y i) }
+    requires { Sound table.now.width rows }
+    ensures { result ≡ made table.now.width (λ i. coord rows.bytes i + diagonal_at method table.now.width x y i) }
 {
     match method {
         Method::Plain => rows,
         Method::Reduced => {
-            let products = slots::below_width(scatter::masked(x, y), width);
+            let products = slots::below_width(scatter::masked(x, y), table);
             let diagonal = products.square().unwrap();
             rows.sum(diagonal).unwrap()
         }
@@ -44,17 +44,16 @@ pub(crate) fn times(
         × (g.old ≡ replicate (slots * twice_limbs) 0) }
     ensures { result ≡ operand_of table.now.width (multiplied method table.now.width table.now.bytes.now a.bytes b.bytes) }
 {
-    let width = table.width();
     let x = limbs::to_limbs(a.bytes);
     let y = limbs::to_limbs(b.bytes);
     kernel::add_rows(
         method,
         table,
         scatter::first_row(method),
-        scatter::row_count(method, width),
+        scatter::row_count(method, table.width()),
         x,
         y,
         g,
     );
-    plus_diagonal(method, width, slots::gathered(table, g), x, y)
+    plus_diagonal(method, table, slots::gathered(table, g), x, y)
 }

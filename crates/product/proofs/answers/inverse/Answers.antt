@@ -31,8 +31,7 @@ returns-in_err-judge_unit c =
 
 pub inverted-requires : goal.inverted-requires
 inverted-requires c =
-    let t = c.in_ok-table.table in
-    rw (← c.in_ok-table.ensures.same.0) (unit-fine t.shaped _ (bytes (goal.at.inverted-requires c).Start) (rw c.in_ok-table.ensures.same.0 (sym c.judge_unit.ensures ∙ c.in_ok-judge_unit.was)))
+    rw (← c.in_ok-table.ensures.same.0) (unit-fine _ (bytes (goal.at.inverted-requires c).Start) (rw c.in_ok-table.ensures.same.0 (sym c.judge_unit.ensures ∙ c.in_ok-judge_unit.was)))
 
 pub returns : goal.returns
 returns c =

@@ -46,7 +46,7 @@ returns-in_err-judge_factors c =
 pub product_of-requires : goal.product_of-requires
 product_of-requires c =
     let h = bytes (goal.at.product_of-requires c).Start in
-    factors-fine c.in_ok-table.table.shaped c.args.method _ _ h.0 h.1 (sym c.judge_factors.ensures ∙ c.in_ok-judge_factors.was)
+    factors-fine c.in_ok-table.table.bytes.now c.args.method _ _ h.0 h.1 (sym c.judge_factors.ensures ∙ c.in_ok-judge_factors.was)
 
 pub returns : goal.returns
 returns c =

@@ -12,7 +12,7 @@ unread : (c : After-highest_one-unread) → c.highest_one-unread.result ≡ log2
 unread c = rw c.width.ensures at c.highest_one-unread.ensures
 
 pub double-requires : goal.double-requires
-double-requires c = rw (unread (goal.at.double-requires c).After-highest_one-unread) (start-underway c.requires)
+double-requires c = rw (unread (goal.at.double-requires c).After-highest_one-unread) (start-underway c.args.table.now.shaped c.requires)
 
 pub returns : goal.returns
 returns c =

@@ -11,7 +11,7 @@ use Rattle.product.proofs.times.times.Goals.{After-row_count}
 
 -- the number of rows, by the table's width
 counted : (c : After-row_count) → c.row_count.result ≡ row_count c.args.method c.args.table.now.width
-counted c = c.row_count.ensures ∙ ap (row_count c.args.method) c.width-width.ensures
+counted c = c.row_count.ensures ∙ ap (row_count c.args.method) c.width.ensures
 
 pub add_rows-requires : goal.add_rows-requires
 add_rows-requires c =
@@ -22,7 +22,7 @@ add_rows-requires c =
     )
 
 pub plus_diagonal-requires : goal.plus_diagonal-requires
-plus_diagonal-requires c = rw c.width-width.ensures (made-sound c.requires.1 _ c.gathered.ensures)
+plus_diagonal-requires c = made-sound _ c.gathered.ensures
 
 pub returns : goal.returns
 returns c =
@@ -30,4 +30,4 @@ returns c =
     let t = a.table.now in
     times-made t.shaped c.requires.1 c.requires.2 c.to_limbs-x.ensures c.to_limbs-y.ensures (slots * twice_limbs) a.method c.requires.0
     (rows-by a.method t.width t.bytes.now _ _ (slots * twice_limbs) c.first_row.ensures (counted (goal.at.returns c).After-row_count) c.requires.3 c.add_rows.ensures)
-    c.gathered.ensures (rw c.width-width.ensures at c.plus_diagonal.ensures)
+    c.gathered.ensures c.plus_diagonal.ensures
