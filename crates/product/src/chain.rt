@@ -23,7 +23,7 @@ fn doubling_step(table: &Table, s: State, g: &mut [u64; scatter::ROOM]) -> State
     ensures { result ≡ stepped table.now.width table.now.bytes.now s.k s.t.bytes s.t.bytes (2 * s.k) (s.count + 1) }
 {
     let turned = s.t.turn(s.k).unwrap();
-    g.fill(0);
+    *g = [0u64; scatter::ROOM];
     State {
         t: times::times(Method::Plain, table, turned, s.t, g),
         k: 2 * s.k,
@@ -37,7 +37,7 @@ fn adding_step(table: &Table, a: Operand, doubled: State, g: &mut [u64; scatter:
     ensures { result ≡ stepped table.now.width table.now.bytes.now 1 doubled.t.bytes a.bytes (doubled.k + 1) (doubled.count + 1) }
 {
     let turned = doubled.t.turn(1).unwrap();
-    g.fill(0);
+    *g = [0u64; scatter::ROOM];
     State {
         t: times::times(Method::Plain, table, turned, a, g),
         k: doubled.k + 1,

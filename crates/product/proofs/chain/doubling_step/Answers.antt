@@ -1,7 +1,6 @@
 -- `product::chain::doubling_step` meets its contract.
-use mathlib.Core.Path.{ap, ◌∙◌}
-use Prim.Native.Nat.{ℕ, ◌+◌, ◌*◌}
-use lib.ListN.{replicate}
+use mathlib.Core.Path.{refl, ap}
+use Prim.Native.Nat.{◌+◌, ◌*◌}
 use Rattle.product.proofs.SoundOperands.{unwraps, turn-is}
 use Rattle.product.proofs.ChainSteps.{turned-sound, turned-times}
 use Rattle.product.proofs.chain.doubling_step.Goals as goal
@@ -12,7 +11,7 @@ unwrap-turned-requires c = unwraps c.turn.ensures (turn-is c.args.table.now.shap
 pub times-requires : goal.times-requires
 times-requires c =
     let p = c.requires in
-    (tt, turned-sound c.args.table.now.shaped p.power c.args.s.k c.turn.ensures c.unwrap-turned.ensures, p.power, c.fill.ensures.after (λ y e. e) ∙ ap (λ (n : ℕ). replicate {A = ℕ} n 0) c.told-g)
+    (tt, turned-sound c.args.table.now.shaped p.power c.args.s.k c.turn.ensures c.unwrap-turned.ensures, p.power, refl)
 
 pub returns : goal.returns
 returns c =
