@@ -1,6 +1,5 @@
 -- `product::judge::judge_rules` meets its contract.
 use Rattle.judging.specs.Causes.{judged}
-use Rattle.product.proofs.Judged.{rules-after}
 use Rattle.product.proofs.judge.judge_rules.Goals as goal
 
 pub returns-in-Plain : goal.returns-in-Plain
@@ -9,4 +8,4 @@ returns-in-Plain c = rw c.in-Plain.is
 
 pub returns-in-Reduced : goal.returns-in-Reduced
 returns-in-Reduced c =
-    rw c.in-Reduced.is (rules-after (c.requires.least, c.requires.greatest) c.args.table.now c.requires c.judge_symmetry.ensures)
+    rw c.in-Reduced.is c.judge_rules.ensures
