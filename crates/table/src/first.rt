@@ -16,7 +16,7 @@ fn last_high(s: &[u8], m: usize) -> u64
 {
     let at = (m - 1) / 8;
     let last = s[at] >> ((m - 1) % 8);
-    (last as u64) << 63
+    u64::from(last) << 63
 }
 
 // Whether limbs have, below m, the coordinates of the square of an operand of W bytes. Limb by limb, so that no square is stored.

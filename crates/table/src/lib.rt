@@ -12,7 +12,6 @@ mod triples;
 
 pub use carried::Carried;
 pub use counts::ones;
-pub use rows::judge_shape;
 pub use shaped::Table;
-pub use symmetry::{SymmetricTable, judge_symmetry};
+pub use symmetry::SymmetricTable;
 pub use triples::check;

@@ -31,7 +31,7 @@ fn judge_ends(width: usize, table: &[u8]) -> Result<(), Fault>
 }
 
 // The shape of a table: width, length, and the bits of each row.
-pub fn judge_shape(width: usize, table: &[u8]) -> Result<(), Fault>
+pub(crate) fn judge_shape(width: usize, table: &[u8]) -> Result<(), Fault>
     ensures { result ≡ shape_verdict width table.now }
 {
     judging::judge_table_size(width, table.len())?;

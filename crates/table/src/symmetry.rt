@@ -119,11 +119,3 @@ impl<'a> SymmetricTable<'a> {
         self.table
     }
 }
-
-// 1 to 5.
-pub fn judge_symmetry(width: usize, table: &[u8]) -> Result<(), Fault>
-    ensures { result ≡ symmetry_verdict width table.now }
-{
-    SymmetricTable::new(width, table)?;
-    Ok(())
-}
