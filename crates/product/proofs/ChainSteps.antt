@@ -72,27 +72,27 @@ module _ (m : ℕ) (t a : List ℕ) where
   digits-fine n (suc u) s h = digits-fine n u _ (adding-fine _ _ (product-operand m t _ _ (turned-length m s.k s.t ∙ h.size)))
 
 -- x turned k places, and what it gives as a factor
-module _ {m : ℕ} {t : List ℕ} (shaped : Shaped m t) {x : Operand} (s : Sound m x) (k : ℕ) {r : Result Operand Fault} {v : Operand} (e : r ≡ turn_call x k) (u : r ≡ Ok v) where
+module _ {m : ℕ} {x : Operand} (s : Sound m x) (k : ℕ) {r : Result Operand Fault} {v : Operand} (e : r ≡ turn_call x k) (u : r ≡ Ok v) where
   pub turned-sound : Sound m v
-  turned-sound = made-sound _ (unwrapped e (turn-made shaped s k) u)
+  turned-sound = made-sound s _ (unwrapped e (turn-made s k) u)
 
-  pub turned-times : (y : List ℕ) {p : Operand} → p ≡ operand_of m (product m t v.bytes y) → p ≡ operand_of m (product m t (turned m k x.bytes) y)
-  turned-times y q = q ∙ ap (λ (o : Operand). operand_of m (product m t o.bytes y)) (unwrapped e (turn-is shaped s k) u)
+  pub turned-times : (t y : List ℕ) {p : Operand} → p ≡ operand_of m (product m t v.bytes y) → p ≡ operand_of m (product m t (turned m k x.bytes) y)
+  turned-times t y q = q ∙ ap (λ (o : Operand). operand_of m (product m t o.bytes y)) (unwrapped e (turn-is s k) u)
 
 -- the last state of the chain, reached from s with u digits unread
 abbrev last_from : ℕ → List ℕ → Operand → ℕ → Chain → State
 last_from m t a u s = state_of m (digits m t a.bytes (m - 1) u s)
 
-module _ {m : ℕ} {t : List ℕ} (shaped : Shaped m t) {a : Operand} {s : State} {u d : ℕ} (w : Underway m a s u d) where
+module _ {m : ℕ} {t : List ℕ} {a : Operand} {s : State} {u d : ℕ} (w : Underway m t a s u d) where
   pub k-small : s.k < max_width
-  k-small = omega (arith, w.reached, shaped.least, shaped.greatest, shr_le (m - 1) u)
+  k-small = omega (arith, w.reached, w.base.least, w.base.greatest, shr_le (m - 1) u)
 
   pub none_left : u ≡ 0 → s ≡ last_from m t a u (chain_of s)
   unfolding digits
   none_left e = ap (λ o. record { t = o; k = s.k; count = s.count }) (is_carried w.power) ∙ rw e
 
   -- a digit 0 is added by doing nothing
-  pub skipped-underway : d ≡ 0 → Underway m a s u 0
+  pub skipped-underway : d ≡ 0 → Underway m t a s u 0
   skipped-underway e = rw e at w
 
   pub skipped-last : d ≡ 0 → {z : State} → z ≡ last_from m t a u (chain_of s) → z ≡ last_from m t a u (adding m t a.bytes d (chain_of s))
@@ -102,17 +102,20 @@ module _ {m : ℕ} {t : List ℕ} (shaped : Shaped m t) {a : Operand} {s : State
   -- the power that a step hands on
   step-sound : (k : ℕ) (y : List ℕ) → Sound m (operand_of m (product m t (turned m k s.t.bytes) y))
   step-sound k y = record {
+    least = w.base.least;
+    greatest = w.base.greatest;
     width = refl;
     operand = product-operand m t _ y (turned-length m k s.t.bytes ∙ w.power.operand.size);
   }
 
 -- the state that a doubling hands on
-module _ {m : ℕ} {t : List ℕ} (shaped : Shaped m t) {a : Operand} {s : State} {u : ℕ} (w : Underway m a s u 0) (some : 0 < u) {r : State}
+module _ {m : ℕ} {t : List ℕ} {a : Operand} {s : State} {u : ℕ} (w : Underway m t a s u 0) (some : 0 < u) {r : State}
     (e : r ≡ record { t = operand_of m (product m t (turned m s.k s.t.bytes) s.t.bytes); k = 2 * s.k; count = s.count + 1 }) where
-  pub doubled-underway : Underway m a r (u - 1) ((m - 1) / 2 ^ (u - 1) % 2)
+  pub doubled-underway : Underway m t a r (u - 1) ((m - 1) / 2 ^ (u - 1) % 2)
   doubled-underway = rw e (record {
+    shaped = w.shaped;
     base = w.base;
-    power = step-sound shaped w s.k s.t.bytes;
+    power = step-sound w s.k s.t.bytes;
     reached = omega (arith, w.reached, read_more (m - 1) u some);
     short = le_trans (pow_mono {i = u - 1} {j = u} (omega arith)) w.short;
     few = omega (arith, w.few);
@@ -126,12 +129,13 @@ module _ {m : ℕ} {t : List ℕ} (shaped : Shaped m t) {a : Operand} {s : State
       ∙ ap (state_of m) (sym (digits-next m t a.bytes (m - 1) u (chain_of s) some))
 
 -- the state that the adding of a digit 1 hands on
-module _ {m : ℕ} {t : List ℕ} (shaped : Shaped m t) {a : Operand} {s : State} {u d : ℕ} (w : Underway m a s u d) (one : d ≡ 1) {r : State}
+module _ {m : ℕ} {t : List ℕ} {a : Operand} {s : State} {u d : ℕ} (w : Underway m t a s u d) (one : d ≡ 1) {r : State}
     (e : r ≡ record { t = operand_of m (product m t (turned m 1 s.t.bytes) a.bytes); k = s.k + 1; count = s.count + 1 }) where
-  pub added-underway : Underway m a r u 0
+  pub added-underway : Underway m t a r u 0
   added-underway = rw e (record {
+    shaped = w.shaped;
     base = w.base;
-    power = step-sound shaped w 1 a.bytes;
+    power = step-sound w 1 a.bytes;
     reached = omega (arith, w.reached);
     short = w.short;
     few = omega (arith, w.few);
@@ -142,13 +146,14 @@ module _ {m : ℕ} {t : List ℕ} (shaped : Shaped m t) {a : Operand} {s : State
   added-last q = rw one (q ∙ ap (λ (x : State). last_from m t a u (chain_of x)) e)
 
 -- the chain begins with all digits but the highest one unread
-pub start-underway : {m : ℕ} {t : List ℕ} {a : Operand} → Shaped m t → Sound m a → Underway m a (record { t = a; k = 1; count = 0 }) (log2 (m - 1)) 0
-start-underway {m} shaped s =
-    let l = shaped.least in
-    let g = shaped.greatest in
+pub start-underway : {m : ℕ} {t : List ℕ} {a : Operand} → Shaped m t → Sound m a → Underway m t a (record { t = a; k = 1; count = 0 }) (log2 (m - 1)) 0
+start-underway {m} h s =
+    let l = s.least in
+    let g = s.greatest in
     let b = log2-bounds (m - 1) (omega arith) in
     let small : 2 ^ log2 (m - 1) ≤ max_width = omega arith in
     record {
+      shaped = h;
       base = s;
       power = s;
       reached = sym (top_digit (m - 1) (omega arith));
@@ -157,13 +162,13 @@ start-underway {m} shaped s =
     }
 
 -- the last state: its power turned by one is the inverse, and its count the number of products
-module _ {m : ℕ} {t : List ℕ} (shaped : Shaped m t) {a : Operand} (sa : Sound m a) {s : State} (e : s ≡ state_of m (chain m t a.bytes)) where
+module _ {m : ℕ} (t : List ℕ) {a : Operand} (sa : Sound m a) {s : State} (e : s ≡ state_of m (chain m t a.bytes)) where
   last-sound : Sound m s.t
-  last-sound = rw e (record { width = refl; operand = digits-fine m t a.bytes (m - 1) (log2 (m - 1)) (start a.bytes) sa.operand })
+  last-sound = rw e (record { least = sa.least; greatest = sa.greatest; width = refl; operand = digits-fine m t a.bytes (m - 1) (log2 (m - 1)) (start a.bytes) sa.operand })
 
   pub last-turns : turn_call s.t 1 ≡ Ok (operand_of m (inverse m t a.bytes))
   unfolding inverse
-  last-turns = turn-is shaped last-sound 1 ∙ ap (λ (z : State). Ok (operand_of m (turned m 1 z.t.bytes))) e
+  last-turns = turn-is last-sound 1 ∙ ap (λ (z : State). Ok (operand_of m (turned m 1 z.t.bytes))) e
 
   pub last-count : s.count ≡ products_made m t a.bytes
   unfolding products_made

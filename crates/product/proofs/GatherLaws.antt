@@ -9,7 +9,7 @@ use native.Mathlib.Omega.{arith}
 use lib.ListN.{length}
 use Rattle.gf2.specs.Sums.{sum}
 use Rattle.gf2.specs.Coordinates.{coord}
-use Rattle.gf2.specs.Operands.{carried_bytes, minus}
+use Rattle.gf2.specs.Operands.{carried_bytes, minus, choose}
 use Rattle.gf2.proofs.Sums.{sum-ext, sum-plus, sum-clear, sum-swap, sum-mod}
 use Rattle.gf2.proofs.Operands.{minus-below, minus-round, below_in, from-ext}
 use Rattle.operand.specs.declared.Operand.{Operand}
@@ -17,18 +17,18 @@ use Rattle.limbs.specs.Limbs.{carried_limbs, reach, limb_coord, pack_limbs, rais
 use Rattle.limbs.proofs.LimbCoords.{limb-pack, length-limbs}
 use Rattle.limbs.proofs.RaisedLimbs.{raised-in, raised-out}
 use Rattle.limbs.proofs.Reach.{reach-most, reach-room}
-use Rattle.scatter.specs.Cells.{twice_limbs, twice_reach, slots, cell, slot_sum, total_at, spread_sum, seen_from}
-use Rattle.scatter.proofs.CellLaws.{seen_at}
+use Rattle.scatter.specs.Cells.{twice_limbs, twice_reach, slots, HasSlots, has_slots, cell, slot_sum, total_at, spread_sum, seen_from}
+use Rattle.scatter.proofs.CellLaws.{seen_at, slots-there}
 use Rattle.scatter.proofs.MoveLaws.{raised-sum}
 use Rattle.scatter.proofs.SpreadLaws.{twice-least, spread_row}
 use Rattle.product.specs.Inner.{IsWidth, operand_of, made, gathered_at}
 use Rattle.product.proofs.SoundOperands.{sum-parts}
 
 -- the sum of all slots, below the width and from there on, as an operand
-pub gathered-made : {m : ℕ} (g : List ℕ) → IsWidth m → {all l h : List ℕ} (both : List ℕ) {r : Operand}
+pub gathered-made : {m : ℕ} (g : List ℕ) → IsWidth m → HasSlots g → {all l h : List ℕ} (both : List ℕ) {r : Operand}
     → all ≡ pack_limbs twice_limbs (spread_sum m g) → l ≡ pack_limbs carried_limbs (seen_from m all 0) → h ≡ pack_limbs carried_limbs (seen_from m all m)
     → both ≡ pack_limbs carried_limbs (λ i. limb_coord l i + limb_coord h i) → r ≡ made m (limb_coord both) → r ≡ made m (gathered_at m g)
-gathered-made {m} g width {all} {l} {h} both ea el eh eb e =
+gathered-made {m} g width there {all} {l} {h} both ea el eh eb e =
     e ∙ ap (operand_of m) (from-ext carried_bytes m (limb_coord both) _ (λ i k.
     ap (λ z. limb_coord z i % 2) eb ∙ ap (λ y. y % 2) (limb-pack carried_limbs _ i (omega (arith, width.1))) ∙ mod-mod _ 2
     ∙ sum-parts _ _ (from 0 i (omega arith) k el ∙ ap (λ n. total_at g n % 2) (zero-add i)) (from m i (omega arith) k eh)))
@@ -43,7 +43,7 @@ gathered-made {m} g width {all} {l} {h} both ea el eh eb e =
         ap (λ z. limb_coord z i) p ∙ limb-pack carried_limbs (seen_from m all n) i (omega arith)
         ∙ ap (λ y. y % 2) (seen_at m n all (omega arith) i (omega arith) ∙ ap (λ z. limb_coord z (n + i)) ea ∙ limb-pack twice_limbs (spread_sum m g) (n + i) (omega arith))
         ∙ mod-mod (spread_sum m g (n + i)) 2
-        ∙ ap (λ y. y % 2) (below_in (64 * twice_reach m) (total_at g) (n + i) (omega arith))
+        ∙ ap (λ y. y % 2) (below_in (64 * twice_reach m) (λ j. choose (has_slots g) (total_at g j) 0) (n + i) (omega arith) ∙ ap (λ b. choose b (total_at g (n + i)) 0) (slots-there g there))
 
 -- coordinates moved up by s, of which those past m come round: one of the two parts has the coordinate that comes to place i, the other 0
 raised-turned : (m s i : ℕ) (f : ℕ → ℕ) → ((j : ℕ) → m ≤ j → f j ≡ 0) → s < m → i < m → raised s f i + raised s f (m + i) ≡ f (minus m i s)

@@ -1,5 +1,5 @@
 -- What has passed where no fault is given, and the same causes carried and as W bytes.
--- Passed: factors by a method, an operand. Zero: no bit at 0 or above.
+-- Passed: the table, factors by a method, operands of its width. Zero: no bit at 0 or above.
 -- Bytes: causes judged on the carried bytes are those of the W bytes, and so are the answers.
 use Rattle.std.specs.Prelude.{Result, Ok, Err}
 use mathlib.Core.Path.{◌≡◌, refl, sym, ap, ◌∙◌}
@@ -18,13 +18,14 @@ use Rattle.gf2.proofs.Carrying.{HasBytes, carried_from, same-carried, product-ca
 use Rattle.gf2.proofs.Decisions.{same-decides}
 use Rattle.judging.specs.declared.fault.Fault.{Fault}
 use Rattle.judging.specs.Causes.{Cause, Verdict, judged}
-use Rattle.judging.specs.FaultTable.{bad_width, bad_length, not_w, not_table, high_bit, high_bit_in_row, is_zero}
+use Rattle.judging.specs.FaultTable.{bad_width, bad_length, not_w, not_table, high_bit, high_bit_in_row, is_zero, shape_causes}
 use Rattle.judging.proofs.CauseLaws.{Fine, fine, head-fails, same_head, answer-failed, answer-passed}
 use Rattle.judging.proofs.Passed.{IsWidth as IsPassed, is-width, width-passes, is-clear}
 use Rattle.limbs.proofs.ByteLists.{Bytes}
 use Rattle.operand.specs.declared.Operand.{Operand}
 use Rattle.operand.proofs.CallLaws.{zero-bytes, high_same, Sized, SizedPair}
-use Rattle.table.specs.Judgements.{shape_verdict}
+use Rattle.table.specs.Rows.{Shaped}
+use Rattle.table.proofs.Shapes.{shape-rows, row-bytes}
 use Rattle.table.proofs.Theorems.{rules}
 use Rattle.product.specs.declared.Inverted.{Inverted}
 use Rattle.scatter.specs.declared.methods.Method.{Method}
@@ -48,28 +49,37 @@ first-passed m cs e = passed (is-width m (fine (bad_width m ∷ cs) e).0)
 abbrev pub HasCarriedBytes : List ℕ → Type 0
 HasCarriedBytes x = (length x ≡ carried_bytes) × Bytes x
 
--- the rows of a table whose width was judged before
-pub rows-after : {m : ℕ} → IsWidth m → (t : List ℕ) {v : Verdict} → shape_verdict m t ≡ v → judged (row_causes m t) ≡ v
-rows-after {m} w t e = sym (head-fails (bad_width m) (row_causes m t) (width-passes m (record { least = w.0; greatest = w.1 }))) ∙ e
-
--- carried bytes whose bits have passed
-sound : {m : ℕ} {x : List ℕ} → HasCarriedBytes x → (high_bit m x).test ≡ false → Sound m (operand_of m x)
-sound {m} {x} h p = record { width = refl; operand = record { size = h.0; byte = h.1; clear = clear_at m x (is-clear m x p) } }
-
--- factors under a table, and an operand that isn't zero
-pub factors-fine : {m : ℕ} (t : List ℕ) (k : Method) (x y : List ℕ) → HasCarriedBytes x → HasCarriedBytes y → judged (high_bit m x ∷ high_bit m y ∷ rules_by k m t) ≡ Ok tt → Serves k m t × Sound m (operand_of m x) × Sound m (operand_of m y)
-factors-fine {m} t k x y hx hy e =
-    let p = fine (high_bit m x ∷ high_bit m y ∷ rules_by k m t) e in
-    (serves k p.1.1, sound hx p.0, sound hy p.1.0)
-  where
-    serves : (k : Method) → Fine (rules_by k m t) → Serves k m t
-    serves Plain p = tt
-    serves Reduced p = (rules m t).0 p
-
-pub unit-fine : {m : ℕ} (x : List ℕ) → HasCarriedBytes x → judged (high_bit m x ∷ is_zero carried_bytes m x ∷ []) ≡ Ok tt → Sound m (operand_of m x)
-unit-fine {m} x h e = sound h (fine (high_bit m x ∷ is_zero carried_bytes m x ∷ []) e).0
-
 module _ {m : ℕ} (w : IsWidth m) (t : List ℕ) where
+  width-fails : (bad_width m).test ≡ false
+  width-fails = width-passes m (record { least = w.0; greatest = w.1 })
+
+  -- the shape of a table whose width was judged before
+  pub shape-after : {v : Verdict} → v ≡ judged (shape_causes m t) → v ≡ judged (row_causes m t)
+  shape-after e = e ∙ head-fails (bad_width m) (row_causes m t) width-fails
+
+  pub table-shaped : Bytes t → Fine (row_causes m t) → Shaped m t
+  table-shaped small p = shape-rows (λ d l. row-bytes m d t small) (width-fails, p)
+
+  serves : (k : Method) → Shaped m t → Fine (rules_by k m t) → Serves k m t
+  serves Plain s p = s
+  serves Reduced s p = (s, (rules m t).0 p)
+
+  -- carried bytes whose bits have passed
+  sound : {x : List ℕ} → HasCarriedBytes x → (high_bit m x).test ≡ false → Sound m (operand_of m x)
+  sound {x} h p =
+      record { least = w.0; greatest = w.1; width = refl; operand = record { size = h.0; byte = h.1; clear = clear_at m x (is-clear m x p) } }
+
+  -- factors that have passed, and an operand that has
+  pub factors-fine : (k : Method) (x y : List ℕ) → Bytes t → HasCarriedBytes x → HasCarriedBytes y → judged (factor_causes k m t x y) ≡ Ok tt → Serves k m t × Sound m (operand_of m x) × Sound m (operand_of m y)
+  factors-fine k x y small hx hy e =
+      let p = fine (factor_causes k m t x y) e in
+      (serves k (table-shaped small (p.0, (p.1.0, tt))) p.1.1.1.1, sound hx p.1.1.0, sound hy p.1.1.1.0)
+
+  pub unit-fine : (x : List ℕ) → Bytes t → HasCarriedBytes x → judged (unit_causes m t x) ≡ Ok tt → Shaped m t × Sound m (operand_of m x)
+  unit-fine x small h e =
+      let p = fine (unit_causes m t x) e in
+      (table-shaped small (p.0, (p.1.0, tt)), sound h p.1.1.0)
+
   -- the causes of carried bytes are those of the W bytes
   pub factors-same : (k : Method) {a b : List ℕ} → HasBytes m a → HasBytes m b → judged (factor_causes k m t (carried_by a) (carried_by b)) ≡ judged (factor_causes k m t a b)
   factors-same k {a} {b} h l =

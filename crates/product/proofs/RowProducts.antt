@@ -12,7 +12,6 @@ use Rattle.gf2.specs.Sums.{sum}
 use Rattle.gf2.specs.Coordinates.{coord}
 use Rattle.gf2.specs.Operands.{carried_bytes, minus, choose, from_coords}
 use Rattle.gf2.specs.Tables.{row}
-use Rattle.table.specs.Rows.{Shaped}
 use Rattle.product.specs.Calls.{multiplied}
 use Rattle.product.specs.Inner.{Serves, is_one_way}
 use Rattle.scatter.specs.Methods.{first_row, row_count}
@@ -112,10 +111,11 @@ module _ (p : ℕ) where
         (odd-sum (m / 2) _ ∙ big-ext bits (m / 2) _ _ (λ k l. ap (λ d. odd (row_at Reduced m t a b r.num d)) (omega arith)) ∙ halves r (odd p) refl)
         ∙ sym (mul-halves T s (vec p a) (vec p b) r)
 
-pub by_rows : (how : Method) (m : ℕ) (t a b : List ℕ) → Shaped m t → Serves how m t → length a ≡ carried_bytes → from_coords carried_bytes m (rows_at how m t a b) ≡ multiplied how m t a b
-by_rows _ zero t a b shaped s e = absurd (omega (arith, shaped.least))
-by_rows Plain (suc p) t a b shaped s e =
-    from_vec p carried_bytes _ _ (plain-odd p t a b) ∙ sym (product-vec p t shaped.is_table a b ∙ ap (λ n. bytes p n (mul (rows p t) (vec p a) (vec p b))) e)
-by_rows Reduced (suc p) t a b shaped s e =
-    let v = (symmetric p t shaped.is_table shaped.least).0 s in
-    from_vec p carried_bytes _ _ (reduced-odd p t a b v) ∙ sym (reduced-vec p t shaped.is_table v a b ∙ ap (λ n. bytes p n (mul (rows p t) (vec p a) (vec p b))) e)
+pub by_rows : (how : Method) (m : ℕ) (t a b : List ℕ) → Serves how m t → length a ≡ carried_bytes → from_coords carried_bytes m (rows_at how m t a b) ≡ multiplied how m t a b
+by_rows Plain zero t a b s e = absurd (omega (arith, s.least))
+by_rows Reduced zero t a b s e = absurd (omega (arith, s.0.least))
+by_rows Plain (suc p) t a b s e =
+    from_vec p carried_bytes _ _ (plain-odd p t a b) ∙ sym (product-vec p t s.is_table a b ∙ ap (λ n. bytes p n (mul (rows p t) (vec p a) (vec p b))) e)
+by_rows Reduced (suc p) t a b s e =
+    let v = (symmetric p t s.0.is_table s.0.least).0 s.1 in
+    from_vec p carried_bytes _ _ (reduced-odd p t a b v) ∙ sym (reduced-vec p t s.0.is_table v a b ∙ ap (λ n. bytes p n (mul (rows p t) (vec p a) (vec p b))) e)

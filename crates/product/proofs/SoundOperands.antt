@@ -1,7 +1,6 @@
 -- Operands without fault: what the calls answer for them.
 use Rattle.std.specs.Prelude.{Result, Ok, IsOk}
 use mathlib.Core.Path.{◌≡◌, refl, sym, ap, ap₂, ◌∙◌}
-use mathlib.Core.List.{List}
 use Prim.Native.Nat.{ℕ, ◌+◌, ◌*◌, ◌%◌, ◌≤◌}
 use native.Mathlib.Nat.{mod-mod, mod-eq_of_lt}
 use native.Mathlib.Omega.{arith}
@@ -14,7 +13,6 @@ use Rattle.operand.specs.Calls.{turn_call, square_call, sum_call}
 use Rattle.operand.proofs.FaultFree.{turn-done, square-done, sum_done}
 use Rattle.judging.specs.declared.fault.Fault.{Fault}
 use Rattle.judging.proofs.Passed.{IsWidth}
-use Rattle.table.specs.Rows.{Shaped}
 use Rattle.product.specs.Inner.{Sound, operand_of, made}
 
 -- a width's operand has room in the carried bytes
@@ -35,14 +33,12 @@ module _ {m : ℕ} {a : Operand} (s : Sound m a) where
   pub is_made : a ≡ made m (coord a.bytes)
   is_made = is_carried ∙ ap (operand_of m) (from-eq carried_bytes m (coord a.bytes) s.operand (λ i l. sym (mod-eq_of_lt (coord-lt a.bytes i))))
 
--- one that is made from coordinates
-pub made-sound : {m : ℕ} {r : Operand} (f : ℕ → ℕ) → r ≡ made m f → Sound m r
-made-sound {m} f e = rw e (record { width = refl; operand = from-operand carried_bytes m f })
+  -- an operand of the same width, made from coordinates
+  pub made-sound : {r : Operand} (f : ℕ → ℕ) → r ≡ made m f → Sound m r
+  made-sound f e = rw e (record { least = s.least; greatest = s.greatest; width = refl; operand = from-operand carried_bytes m f })
 
--- one turned, of a table's width
-module _ {m : ℕ} {t : List ℕ} (shaped : Shaped m t) {a : Operand} (s : Sound m a) where
   pub turn-is : (k : ℕ) → turn_call a k ≡ Ok (operand_of m (turned m k a.bytes))
-  turn-is k = ap (λ x. turn_call x k) (is_carried s) ∙ turn-done (record { least = shaped.least; greatest = shaped.greatest }) s.operand k
+  turn-is k = ap (λ x. turn_call x k) is_carried ∙ turn-done (record { least = s.least; greatest = s.greatest }) s.operand k
 
   pub turn-made : (k : ℕ) → turn_call a k ≡ Ok (made m (λ i. coord a.bytes (minus m i k)))
   unfolding turned

@@ -24,6 +24,10 @@ use Rattle.product.proofs.SoundOperands.{fits, is_made, sum-made, square-made}
 use Rattle.product.proofs.KernelLaws.{limbs-coord, rows_made}
 use Rattle.product.proofs.RowProducts.{diagonal_bytes, rows_at, by_rows}
 
+pub serves-shaped : (how : Method) (m : ℕ) (t : List ℕ) → Serves how m t → Shaped m t
+serves-shaped Plain m t s = s
+serves-shaped Reduced m t s = s.0
+
 -- the rows of a method are rows of the table
 pub rows_inside : (how : Method) (m : ℕ) → 2 ≤ m → first_row how + row_count how m ≤ m
 rows_inside Plain m two = omega arith
@@ -35,27 +39,27 @@ pub rows-by : (how : Method) (m : ℕ) (t x y : List ℕ) (n : ℕ) {from count 
 rows-by how m t x y n p q r h = rw (p, q, r) at h
 
 -- what the rows give, with nothing and with the diagonal
-module _ {m : ℕ} {t : List ℕ} (shaped : Shaped m t) {rows : Operand} (s : Sound m rows) (x y : List ℕ) where
+module _ {m : ℕ} {rows : Operand} (s : Sound m rows) (x y : List ℕ) where
   pub plus_none : rows ≡ made m (λ i. coord rows.bytes i + diagonal_at Plain m x y i)
   plus_none = is_made s ∙ ap (operand_of m) (from-ext carried_bytes m _ _ (λ i l. ap (λ z. z % 2) (sym (add-zero _))))
 
   -- the square of the coordinates' products, and its sum with what the rows give
   pub diagonal-made : (e : List ℕ) {products : Operand} → products ≡ made m (limb_coord e) → square_call products ≡ Ok (made m (λ i. limb_coord e (minus m i 1)))
-  diagonal-made e q = square-made shaped.least shaped.greatest (limb_coord e) q
+  diagonal-made e q = square-made s.least s.greatest (limb_coord e) q
 
   pub plus-products : {e : List ℕ} {diagonal : Operand} → e ≡ pack_limbs carried_limbs (λ i. limb_coord x i * limb_coord y i)
       → diagonal ≡ made m (λ i. limb_coord e (minus m i 1)) → sum_call rows diagonal ≡ Ok (made m (λ i. coord rows.bytes i + diagonal_at Reduced m x y i))
   plus-products {e} p q =
-      sum-made shaped.least shaped.greatest (coord rows.bytes) (λ i. limb_coord e (minus m i 1)) (is_made s) q
-      ∙ ap (λ b. Ok (operand_of m b)) (from-ext carried_bytes m _ _ (λ i l. ap (λ z. (coord rows.bytes i + z) % 2) (at (minus m i 1) (minus-lt m i 1 (omega (arith, shaped.least)))) ∙ inner _ _))
+      sum-made s.least s.greatest (coord rows.bytes) (λ i. limb_coord e (minus m i 1)) (is_made s) q
+      ∙ ap (λ b. Ok (operand_of m b)) (from-ext carried_bytes m _ _ (λ i l. ap (λ z. (coord rows.bytes i + z) % 2) (at (minus m i 1) (minus-lt m i 1 (omega (arith, s.least)))) ∙ inner _ _))
     where
       at : (j : ℕ) → j < m → limb_coord e j ≡ limb_coord x j * limb_coord y j % 2
-      at j l = let big = shaped.greatest in ap (λ z. limb_coord z j) p ∙ limb-pack carried_limbs _ j (omega arith)
+      at j l = let big = s.greatest in ap (λ z. limb_coord z j) p ∙ limb-pack carried_limbs _ j (omega arith)
 
       inner : (c d : ℕ) → (c + d % 2) % 2 ≡ (c + d) % 2
       inner c d = omega arith
 
-module _ {m : ℕ} {t : List ℕ} (shaped : Shaped m t) {a b : Operand} {x y : List ℕ} (sa : Sound m a) (sb : Sound m b)
+module _ {m : ℕ} (t : List ℕ) {a b : Operand} {x y : List ℕ} (sa : Sound m a) (sb : Sound m b)
     (ex : x ≡ pack_limbs carried_limbs (coord a.bytes)) (ey : y ≡ pack_limbs carried_limbs (coord b.bytes)) (n : ℕ) where
   diagonal-same : (how : Method) (i : ℕ) → diagonal_at how m x y i ≡ diagonal_bytes how m a.bytes b.bytes i
   diagonal-same Plain i = refl
@@ -65,8 +69,8 @@ module _ {m : ℕ} {t : List ℕ} (shaped : Shaped m t) {a b : Operand} {x y : L
       → rows ≡ made m (gathered_at m g) → r ≡ made m (λ i. coord rows.bytes i + diagonal_at how m x y i) → r ≡ operand_of m (multiplied how m t a.bytes b.bytes)
   times-made how {g} serves p q e = e ∙ ap (operand_of m)
       (from-ext carried_bytes m _ (rows_at how m t a.bytes b.bytes) (λ i l.
-      parts _ _ (ap (λ z. coord z.bytes i) q ∙ coord-from carried_bytes m (gathered_at m g) (fits m shaped.greatest) i l) (rows_made sa sb ex ey how (first_row how) (row_count how m) n shaped (rows_inside how m shaped.least) p i l) (diagonal-same how i))
-      ∙ by_rows how m t a.bytes b.bytes shaped serves sa.operand.size)
+      parts _ _ (ap (λ z. coord z.bytes i) q ∙ coord-from carried_bytes m (gathered_at m g) (fits m sa.greatest) i l) (rows_made sa sb ex ey how (first_row how) (row_count how m) n (serves-shaped how m t serves) (rows_inside how m sa.least) p i l) (diagonal-same how i))
+      ∙ by_rows how m t a.bytes b.bytes serves sa.operand.size)
     where
       parts : {c d w : ℕ} (u v : ℕ) → c ≡ u % 2 → u % 2 ≡ v % 2 → d ≡ w → (c + d) % 2 ≡ (w + v) % 2
       parts u v p q r = omega arith

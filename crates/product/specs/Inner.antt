@@ -13,7 +13,8 @@ use Rattle.judging.specs.declared.fault.Fault.{Fault}
 use Rattle.judging.specs.Causes.{Cause, judged, answered}
 use Rattle.judging.specs.FaultTable.{not_table, high_bit, high_bit_in_row, is_zero}
 use Rattle.operand.specs.Calls.{answer}
-use Rattle.scatter.specs.Cells.{slot_sum, total_at}
+use Rattle.table.specs.Rows.{Shaped}
+use Rattle.scatter.specs.Cells.{HasSlots, slot_sum, total_at}
 use Rattle.product.specs.declared.Inverted.{Inverted}
 use Rattle.scatter.specs.declared.methods.Method.{Method}
 use Rattle.scatter.specs.declared.methods.Method.TheVariants.{Plain, Reduced}
@@ -35,13 +36,15 @@ IsWidth m = (2 ≤ m) × (m ≤ max_width)
 
 -- an operand of width m that has no fault
 pub record Sound (m : ℕ) (a : Operand) : Type 0 where
+  pub least : 2 ≤ m
+  pub greatest : m ≤ max_width
   pub width : a.width ≡ m
   pub operand : IsOperand carried_bytes m a.bytes
 
--- what a method asks of a table, that its shape doesn't give
+-- a table that a method can go by
 abbrev pub Serves : Method → ℕ → List ℕ → Type 0
-Serves Plain m table = Unit
-Serves Reduced m table = Symmetric m table
+Serves Plain m table = Shaped m table
+Serves Reduced m table = Shaped m table × Symmetric m table
 
 -- what follows the widths and the lengths: the table; two factors, and the rules that a method asks for; an operand that isn't zero
 abbrev pub row_causes : ℕ → List ℕ → List Cause
@@ -94,11 +97,13 @@ chain_of s = record { t = s.t.bytes; k = s.k; count = s.count }
 abbrev pub state_of : ℕ → Chain → State
 state_of m c = record { t = operand_of m c.t; k = c.k; count = c.count }
 
--- what a step takes for granted of a state
-pub record Ready (m : ℕ) (s : State) : Type 0 where
+-- what a step takes for granted of a state, and of its scratch
+pub record Ready (m : ℕ) (table : List ℕ) (s : State) (g : List ℕ) : Type 0 where
+  pub shaped : Shaped m table
   pub power : Sound m s.t
   pub small : s.k < max_width
   pub few : s.count < max_width
+  pub there : HasSlots g
 
 -- t := (t turned j)·b, and the k and the count that go with it
 abbrev pub stepped : ℕ → List ℕ → ℕ → List ℕ → List ℕ → ℕ → ℕ → State
@@ -113,7 +118,8 @@ abbrev pub inverted_by : ℕ → List ℕ → List ℕ → Inverted
 inverted_by m table a = counted m (inverse m table a) (products_made m table a)
 
 -- `unread` digits of m - 1 are left, and `owed`, 0 or 1, is the digit before them if it has yet to be added
-pub record Underway (m : ℕ) (a : Operand) (s : State) (unread owed : ℕ) : Type 0 where
+pub record Underway (m : ℕ) (table : List ℕ) (a : Operand) (s : State) (unread owed : ℕ) : Type 0 where
+  pub shaped : Shaped m table
   pub base : Sound m a
   pub power : Sound m s.t
   -- k is the number that the digits read so far make

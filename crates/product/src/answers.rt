@@ -1,4 +1,4 @@
-// The calls where the widths or the lengths have passed: the table is made, what is left is judged, and the answer made where it has no fault.
+// The calls where the widths or the lengths have passed: what is left is judged, and the answer made where it has no fault.
 ghost use Rattle.std.specs.Prelude.{◌≡◌};
 ghost use Rattle.product.specs.Calls.{multiplied};
 ghost use Rattle.product.specs.Inner.{operand_of, IsWidth, Sound, Serves, product_answer, inverse_answer};
@@ -7,56 +7,58 @@ use crate::{Inverted, chain, judge, times};
 use judging::Fault;
 use operand::Operand;
 use scatter::Method;
-use table::Table;
 
 // The product of factors that have passed.
 fn product_of(
     method: Method,
-    table: &Table,
+    width: usize,
+    table: &[u8],
     x: [u8; Operand::BYTES],
     y: [u8; Operand::BYTES],
 ) -> Operand
-    requires { Serves method table.now.width table.now.bytes.now
-        × Sound table.now.width (operand_of table.now.width x) × Sound table.now.width (operand_of table.now.width y) }
-    ensures { result ≡ operand_of table.now.width (multiplied method table.now.width table.now.bytes.now x y) }
+    requires { Serves method width table.now × Sound width (operand_of width x) × Sound width (operand_of width y) }
+    ensures { result ≡ operand_of width (multiplied method width table.now x y) }
 {
     let mut g = [0u64; scatter::ROOM];
-    let width = table.width() as u16;
-    let left = Operand { bytes: x, width };
-    let right = Operand { bytes: y, width };
-    times::times(method, table, left, right, &mut g)
+    let left = Operand {
+        bytes: x,
+        width: width as u16,
+    };
+    let right = Operand {
+        bytes: y,
+        width: width as u16,
+    };
+    times::times(method, width, table, left, right, &mut g)
 }
 
 // The product by a method.
 pub(crate) fn product(
     method: Method,
     width: usize,
-    bytes: &[u8],
+    table: &[u8],
     x: [u8; Operand::BYTES],
     y: [u8; Operand::BYTES],
 ) -> Result<Operand, Fault>
     requires { IsWidth width }
-    ensures { result ≡ product_answer method width bytes.now x y }
+    ensures { result ≡ product_answer method width table.now x y }
 {
-    let table = Table::new(width, bytes)?;
-    judge::judge_factors(method, &table, x, y)?;
-    Ok(product_of(method, &table, x, y))
+    judge::judge_factors(method, width, table, x, y)?;
+    Ok(product_of(method, width, table, x, y))
 }
 
 // The inverse by the chain.
 pub(crate) fn inverse(
     width: usize,
-    bytes: &[u8],
+    table: &[u8],
     x: [u8; Operand::BYTES],
 ) -> Result<Inverted, Fault>
     requires { IsWidth width }
-    ensures { result ≡ inverse_answer width bytes.now x }
+    ensures { result ≡ inverse_answer width table.now x }
 {
-    let table = Table::new(width, bytes)?;
-    judge::judge_unit(width, x)?;
+    judge::judge_unit(width, table, x)?;
     let a = Operand {
         bytes: x,
         width: width as u16,
     };
-    Ok(chain::inverted(&table, a))
+    Ok(chain::inverted(width, table, a))
 }

@@ -1,10 +1,9 @@
-// What the calls judge after the table: the bits of the operands, and what a call has of its own.
+// What the calls judge after the widths and the lengths: the table, the bits of the operands, and what a call has of its own.
 // Each part is judged only where those before it give no fault.
-ghost use Rattle.std.specs.Prelude.{◌≡◌, [], ◌∷◌};
-ghost use Rattle.gf2.specs.Operands.{carried_bytes};
+ghost use Rattle.std.specs.Prelude.{◌≡◌};
 ghost use Rattle.judging.specs.Causes.{judged};
-ghost use Rattle.judging.specs.FaultTable.{high_bit, is_zero};
 ghost use Rattle.product.specs.Causes.{rules_by};
+ghost use Rattle.product.specs.Inner.{IsWidth, factor_causes, unit_causes};
 
 use judging::{CallFault, Fault};
 use operand::Operand;
@@ -21,24 +20,28 @@ fn judge_rules(method: Method, table: &Table) -> Result<(), Fault>
     }
 }
 
-// Two factors under a table, by a method.
+// A table and two factors, by a method.
 pub(crate) fn judge_factors(
     method: Method,
-    table: &Table,
+    width: usize,
+    table: &[u8],
     x: [u8; Operand::BYTES],
     y: [u8; Operand::BYTES],
 ) -> Result<(), Fault>
-    ensures { result ≡ judged (high_bit table.now.width x ∷ high_bit table.now.width y ∷ rules_by method table.now.width table.now.bytes.now) }
+    requires { IsWidth width }
+    ensures { result ≡ judged (factor_causes method width table.now x y) }
 {
-    let width = table.width();
+    let shaped = Table::new(width, table)?;
     judging::judge_both_high(&x, width, &y, width)?;
-    judge_rules(method, table)
+    judge_rules(method, &shaped)
 }
 
-// An operand that isn't zero: zero is the operand with no bit at 0 or above.
-pub(crate) fn judge_unit(width: usize, x: [u8; Operand::BYTES]) -> Result<(), Fault>
-    ensures { result ≡ judged (high_bit width x ∷ is_zero carried_bytes width x ∷ []) }
+// A table and an operand that isn't zero: zero is the operand with no bit at 0 or above.
+pub(crate) fn judge_unit(width: usize, table: &[u8], x: [u8; Operand::BYTES]) -> Result<(), Fault>
+    requires { IsWidth width }
+    ensures { result ≡ judged (unit_causes width table.now x) }
 {
+    Table::new(width, table)?;
     judging::judge_high(&x, width)?;
     if limbs::is_clear(&x, 0) {
         return Err(Fault::Call(CallFault::InverseOfZero));

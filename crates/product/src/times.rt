@@ -9,23 +9,22 @@ ghost use Rattle.product.specs.Inner.{Sound, Serves, operand_of, made, diagonal_
 use crate::{kernel, slots};
 use operand::Operand;
 use scatter::Method;
-use table::Table;
 
 // What the rows give, and what a method adds to it.
 fn plus_diagonal(
     method: Method,
-    table: &Table,
+    width: usize,
     rows: Operand,
     x: [u64; limbs::LIMBS],
     y: [u64; limbs::LIMBS],
 ) -> Operand
-    requires { Sound table.now.width rows }
-    ensures { result ≡ made table.now.width (λ i. coord rows.bytes i + diagonal_at method table.now.width x y i) }
+    requires { Sound width rows }
+    ensures { result ≡ made width (λ i. coord rows.bytes i + diagonal_at method width x y i) }
 {
     match method {
         Method::Plain => rows,
         Method::Reduced => {
-            let products = slots::below_width(scatter::masked(x, y), table);
+            let products = slots::below_width(scatter::masked(x, y), width);
             let diagonal = products.square().unwrap();
             rows.sum(diagonal).unwrap()
         }
@@ -35,25 +34,26 @@ fn plus_diagonal(
 // g is scratch: slots of limbs, all 0.
 pub(crate) fn times(
     method: Method,
-    table: &Table,
+    width: usize,
+    table: &[u8],
     a: Operand,
     b: Operand,
-    g: &mut [u64; scatter::ROOM],
+    g: &mut [u64],
 ) -> Operand
-    requires { Serves method table.now.width table.now.bytes.now × Sound table.now.width a × Sound table.now.width b
-        × (g.old ≡ replicate (slots * twice_limbs) 0) }
-    ensures { result ≡ operand_of table.now.width (multiplied method table.now.width table.now.bytes.now a.bytes b.bytes) }
+    requires { Serves method width table.now × Sound width a × Sound width b × (g.old ≡ replicate (slots * twice_limbs) 0) }
+    ensures { result ≡ operand_of width (multiplied method width table.now a.bytes b.bytes) }
 {
     let x = limbs::to_limbs(a.bytes);
     let y = limbs::to_limbs(b.bytes);
     kernel::add_rows(
         method,
+        width,
         table,
         scatter::first_row(method),
-        scatter::row_count(method, table.width()),
+        scatter::row_count(method, width),
         x,
         y,
         g,
     );
-    plus_diagonal(method, table, slots::gathered(table, g), x, y)
+    plus_diagonal(method, width, slots::gathered(width, g), x, y)
 }

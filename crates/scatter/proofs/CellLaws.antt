@@ -11,7 +11,7 @@ use native.Mathlib.Omega.{arith}
 use lib.ListN.{length, get_or, set, length-set, replicate}
 use lib.Seq.{get_or-set_same, get_or-set_other}
 use lib.Dec.{eqb}
-use lib.Bits.{bit_and, and_lt, bit_xor, xor_lt}
+use lib.Bits.{bit_and, and_lt, bit_xor}
 use borrow.Author.Tests.{eq-eqb, ne_eqb, lt-ltb, le-ltb}
 use Rattle.gf2.specs.Coordinates.{value, tabulate}
 use Rattle.gf2.specs.Operands.{choose, below}
@@ -21,7 +21,7 @@ use Rattle.limbs.specs.Limbs.{carried_limbs, reach, limb_coord, pack_limbs, rais
 use Rattle.limbs.proofs.LimbCoords.{limb-lt, limb-digit, limbs-zero}
 use Rattle.limbs.proofs.LimbLoops.{limb_for, limb-for, limb-value, Limbs, pair-coord}
 use Rattle.limbs.proofs.RaisedLimbs.{limb_of, pair_from, raised-in, raised-out}
-use Rattle.scatter.specs.Cells.{slots, twice_limbs, HasSlots, cell, Added, kept_from, is_long, seen_from, met_at}
+use Rattle.scatter.specs.Cells.{slots, twice_limbs, HasSlots, has_slots, cell, Added, kept_from, is_long, seen_from, met_at}
 
 -- a limb masked by one that is given by its bits
 masked-value : (x : ℕ) (f : ℕ → ℕ) → x < 2 ^ 64 → bit_and x (value 64 f) ≡ value 64 (λ j. x / 2 ^ j % 2 * f j)
@@ -49,7 +49,7 @@ set-coord g p x k h = elim (ℕ_discrete (k / 64) p) [
 
 -- nothing added, one thing after another, and the same in other words
 pub added_none : (f : ℕ → ℕ → ℕ) (g : List ℕ) → ((r i : ℕ) → f r i ≡ 0) → Added f g g
-added_none f g z = record { size = refl; fits = λ s. s; coords = λ r i h l. omega (arith, z r i, limb-lt g (r * (64 * twice_limbs) + i)) }
+added_none f g z = record { size = refl; coords = λ r i h l. omega (arith, z r i, limb-lt g (r * (64 * twice_limbs) + i)) }
 
 sum_more : (x y z f h k : ℕ) → y ≡ (x + f) % 2 → z ≡ (y + h) % 2 → (f + h) % 2 ≡ k % 2 → z ≡ (x + k) % 2
 sum_more x y z f h k p q e = omega arith
@@ -58,22 +58,17 @@ pub added_more : (f h k : ℕ → ℕ → ℕ) {a b c : List ℕ} → Added f a 
     → ((r i : ℕ) → r < slots → i < 64 * twice_limbs → (f r i + h r i) % 2 ≡ k r i % 2) → Added k a c
 added_more f h k p q same = record {
   size = q.size ∙ p.size;
-  fits = λ s. q.fits (p.fits s);
   coords = λ r i b l. sum_more _ _ _ _ _ _ (p.coords r i b l) (q.coords r i b l) (same r i b l);
 }
 
 pub added-same : (f k : ℕ → ℕ → ℕ) {a b : List ℕ} → Added f a b → ((r i : ℕ) → r < slots → i < 64 * twice_limbs → f r i % 2 ≡ k r i % 2) → Added k a b
-added-same f k p same = record { size = p.size; fits = p.fits; coords = λ r i b l. omega (arith, p.coords r i b l, same r i b l) }
+added-same f k p same = record { size = p.size; coords = λ r i b l. omega (arith, p.coords r i b l, same r i b l) }
 
 -- limb p of a slot changed
-set-added : (g : List ℕ) (r p x : ℕ) → x < 2 ^ 64 → r < slots → p < twice_limbs → HasSlots g → (at : ℕ) → at ≡ r * twice_limbs + p
+set-added : (g : List ℕ) (r p x : ℕ) → r < slots → p < twice_limbs → HasSlots g → (at : ℕ) → at ≡ r * twice_limbs + p
     → Added (λ t i. choose (eqb t r) 1 0 * choose (eqb (i / 64) p) (x / 2 ^ (i % 64) % 2) 0) g (set g at (bit_xor (get_or g at 0) x))
-set-added g r p x small h l size at e = record {
+set-added g r p x h l size at e = record {
   size = length-set g at _;
-  fits = λ s w. elim (ℕ_discrete w at) [
-    | yes q ↦ rw (q, get_or-set_same g at (bit_xor (get_or g at 0) x) 0 (omega arith)) (xor_lt 64 _ _ (s at) small)
-    | no q ↦ rw (get_or-set_other g at w (bit_xor (get_or g at 0) x) 0 q) (s w)
-  ];
   coords = λ t i b k. set-coord g at x (t * (64 * twice_limbs) + i) (omega arith) ∙ ap (λ y. (cell g t i + y) % 2) (here t i k);
 }
   where
@@ -119,13 +114,21 @@ module _ (r q : ℕ) (e : List ℕ) where
     ])
   ]
 
-  pub slot-more : (w at : ℕ) {g₀ g : List ℕ} → Added (at_slot r q e w) g₀ g → get_or e w 0 < 2 ^ 64 → HasSlots g₀ → r < slots → q + w < twice_limbs → at ≡ r * twice_limbs + (q + w)
+  pub slot-more : (w at : ℕ) {g₀ g : List ℕ} → Added (at_slot r q e w) g₀ g → HasSlots g₀ → r < slots → q + w < twice_limbs → at ≡ r * twice_limbs + (q + w)
       → Added (at_slot r q e (w + 1)) g₀ (set g at (bit_xor (get_or g at 0) (get_or e w 0)))
-  slot-more w at {g₀} {g} p small size h l place = added_more _ _ _ p (set-added g r (q + w) (get_or e w 0) small h l (p.size ∙ size) at place)
+  slot-more w at {g₀} {g} p size h l place = added_more _ _ _ p (set-added g r (q + w) (get_or e w 0) h l (p.size ∙ size) at place)
       (λ t i b k. ap (λ y. y % 2) (sym (mul-add (choose (eqb t r) 1 0) _ _) ∙ ap (λ y. choose (eqb t r) 1 0 * y) (limb-more w i)))
 
   pub slot-all : (m : ℕ) {w : ℕ} {g₀ g : List ℕ} → w ≡ reach m → Added (at_slot r q e w) g₀ g → Added (λ t i. choose (eqb t r) 1 0 * kept_from m q e i) g₀ g
   slot-all m z p = added-same _ _ p (λ t i b l. ap (λ k. at_slot r q e k t i % 2) z)
+
+-- where all slots are there, and where not
+module _ (g : List ℕ) where
+  pub slots-there : HasSlots g → has_slots g ≡ true
+  slots-there h = eq-eqb (length g) (slots * twice_limbs) h
+
+  pub slots-missing : (HasSlots g → ⊥) → has_slots g ≡ false
+  slots-missing h = ne_eqb (length g) (slots * twice_limbs) h
 
 -- where limbs go on, and where not
 module _ (at : ℕ) (x : List ℕ) where

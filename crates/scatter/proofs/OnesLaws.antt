@@ -15,10 +15,10 @@ use Rattle.gf2.proofs.Coordinates.{coord-lt}
 use Rattle.gf2.proofs.Sums.{sum-zero, sum-next}
 use Rattle.gf2.proofs.TrailingZeros.{lowest-off}
 use Rattle.limbs.specs.Limbs.{carried_limbs, reach, limb_coord, limbs_of}
-use Rattle.limbs.proofs.LimbCoords.{limb-digit, limb-pack, length-limbs, limbs-lt, limbs-eq}
+use Rattle.limbs.proofs.LimbCoords.{limb-lt, limb-digit, limb-pack, length-limbs, limbs-eq}
 use Rattle.limbs.proofs.LimbLoops.{Limbs}
-use Rattle.scatter.specs.Cells.{slots, twice_limbs, HasSlots, cell, Added, kept_from, limbs_add, plus_row}
-use Rattle.scatter.proofs.CellLaws.{added_none, added_more, added-same}
+use Rattle.scatter.specs.Cells.{slots, twice_limbs, HasSlots, cell, Added, kept_from, limbs_add, row_adds, plus_row}
+use Rattle.scatter.proofs.CellLaws.{added_none, added_more, added-same, slots-there, slots-missing}
 
 -- the bits of two limbs, each of which adds f at its slot
 abbrev pub both_add : ℕ → ℕ → (ℕ → ℕ) → ℕ → ℕ → ℕ
@@ -61,21 +61,25 @@ module _ (m : ℕ) (e row : List ℕ) where
   row-all z p = rw (← z) p
 
   -- a row's sum, by an equation and back
-  pub row-equal : {q : ℕ} {a b : List ℕ} → q ≡ reach m → Limbs a → HasSlots a → Added (limbs_add m e row q) a b → b ≡ plus_row m a e row
+  pub row-equal : {q : ℕ} {a b : List ℕ} → q ≡ reach m → Limbs b → HasSlots a → Added (limbs_add m e row q) a b → b ≡ plus_row m a e row
   unfolding plus_row
-  row-equal {q} {a} {b} z small there p = limbs-eq (length a) _ p.size (p.fits small) (λ c l.
+  row-equal {q} {a} {b} z small there p = limbs-eq (length a) _ p.size small (λ c l.
       let place : c ≡ c / (64 * twice_limbs) * (64 * twice_limbs) + c % (64 * twice_limbs) = omega arith in
       ap (limb_coord b) place ∙ p.coords (c / (64 * twice_limbs)) (c % (64 * twice_limbs)) (omega arith) (omega arith)
-      ∙ ap₂ (λ k n. (limb_coord a k + limbs_add m e row n (c / (64 * twice_limbs)) (c % (64 * twice_limbs))) % 2) (sym place) z)
+      ∙ ap₂ (λ k y. (limb_coord a k + y) % 2) (sym place) (ap₂ (λ t n. choose t (limbs_add m e row n (c / (64 * twice_limbs)) (c % (64 * twice_limbs))) 0) (sym (slots-there a there)) z))
+
+  pub row-missing : (a : List ℕ) → Limbs a → (HasSlots a → ⊥) → a ≡ plus_row m a e row
+  unfolding plus_row
+  row-missing a small h = limbs-eq (length a) _ refl small (λ c l.
+      sym (ap (λ t. (limb_coord a c + choose t (limbs_add m e row (reach m) (c / (64 * twice_limbs)) (c % (64 * twice_limbs))) 0) % 2) (slots-missing a h) ∙ omega (arith, limb-lt a c)))
 
   pub row-added : {a b : List ℕ} → HasSlots a → b ≡ plus_row m a e row → Added (limbs_add m e row (reach m)) a b
   unfolding plus_row
   row-added {a} {b} there z = record {
     size = ap length z ∙ length-limbs (length a) _;
-    fits = λ s w. rw z (limbs-lt (length a) _ w);
     coords = λ r i h l.
         let d : (r * (64 * twice_limbs) + i) / (64 * twice_limbs) ≡ r = omega arith in
         let k : (r * (64 * twice_limbs) + i) % (64 * twice_limbs) ≡ i = omega arith in
         ap (λ y. limb_coord y (r * (64 * twice_limbs) + i)) z ∙ limb-pack (length a) _ (r * (64 * twice_limbs) + i) (omega (arith, there))
-        ∙ ap₂ (λ t j. (cell a r i + limbs_add m e row (reach m) t j) % 2) d k;
+        ∙ ap₂ (λ t j. (cell a r i + row_adds m a e row t j) % 2) d k ∙ ap (λ t. (cell a r i + choose t (limbs_add m e row (reach m) r i) 0) % 2) (slots-there a there);
   }

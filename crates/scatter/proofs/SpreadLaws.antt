@@ -21,8 +21,8 @@ use Rattle.limbs.specs.Limbs.{few, reach, limb_coord, pack_limbs, raised}
 use Rattle.limbs.proofs.LimbCoords.{limb-pack, limbs-below}
 use Rattle.limbs.proofs.Reach.{reach_few, reach-all}
 use Rattle.limbs.proofs.RaisedLimbs.{raised-in, raised-out}
-use Rattle.scatter.specs.Cells.{slots, twice_limbs, twice_reach, twice_ends_at, cell, spread_sum}
-use Rattle.scatter.proofs.CellLaws.{none_kept}
+use Rattle.scatter.specs.Cells.{slots, twice_limbs, twice_reach, twice_ends_at, cell, HasSlots, spread_sum}
+use Rattle.scatter.proofs.CellLaws.{slots-there, slots-missing, none_kept}
 use Rattle.scatter.proofs.MoveLaws.{raised-twice, raised-sum, raised-times}
 
 module _ (m : ℕ) where
@@ -104,9 +104,13 @@ module _ (g : List ℕ) where
               ∙ mod-mod _ 2 ∙ ap (λ y. y % 2) (below_in (64 * twice_reach m) (slots_from (r + 1)) (i - 1) (omega arith) ∙ sym (raised-in 1 (slots_from (r + 1)) i (omega arith)))
         ]
 
-    pub spread-all : {r : ℕ} {x : List ℕ} → r ≡ 0 → Summed r x → x ≡ pack_limbs n (spread_sum m g)
-    spread-all e p = p ∙ ap (λ k. pack_limbs n (below (64 * twice_reach m) (slots_from k))) e
+    pub spread-all : {r : ℕ} {x : List ℕ} → HasSlots g → r ≡ 0 → Summed r x → x ≡ pack_limbs n (spread_sum m g)
+    spread-all there e p = p ∙ ap (λ k. pack_limbs n (below (64 * twice_reach m) (slots_from k))) e
         ∙ limbs-below n (64 * twice_reach m) _ _ (λ i l. ap (λ y. y % 2) (sum-ext slots _ _ (λ u h. ap (λ k. raised u (cell g k) i) (zero-add u))))
+        ∙ ap (λ b. pack_limbs n (below (64 * twice_reach m) (λ i. choose b (sum slots (λ r. raised r (cell g r) i)) 0))) (sym (slots-there g there))
+
+    pub spread-missing : (HasSlots g → ⊥) → replicate n 0 ≡ pack_limbs n (spread_sum m g)
+    spread-missing h = none_kept n (64 * twice_reach m) _ (slots-missing g h)
 
 -- a row that adds f from limb q on at slot r, for each of its coordinates q * 64 + r, adds f moved up by that coordinate
 pub spread_row : (n : ℕ) (row : List ℕ) (f : ℕ → ℕ) (c : ℕ)

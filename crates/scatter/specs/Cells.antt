@@ -1,5 +1,5 @@
 -- What the kernels make: slots of limbs at which sums are gathered, coordinate by coordinate.
-use Rattle.std.specs.Prelude.{◌≡◌, Bool, ◌&&◌, List, ℕ, ◌+◌, ◌*◌, ◌/◌, ◌%◌, ◌^◌, ◌<◌, length, get_or, ltb, eqb}
+use Rattle.std.specs.Prelude.{◌≡◌, Bool, ◌&&◌, List, ℕ, ◌+◌, ◌*◌, ◌/◌, ◌%◌, ◌<◌, length, ltb, eqb}
 use Rattle.gf2.specs.Sums.{sum}
 use Rattle.gf2.specs.Coordinates.{coord}
 use Rattle.gf2.specs.Operands.{choose, below}
@@ -29,10 +29,9 @@ HasSlots g = length g ≡ slots * twice_limbs
 abbrev pub cell : List ℕ → ℕ → ℕ → ℕ
 cell g r i = limb_coord g (r * (64 * twice_limbs) + i)
 
--- h is g with f r i added to coordinate i at each slot r, modulo 2; limbs stay limbs
+-- h is g with f r i added to coordinate i at each slot r, modulo 2
 pub record Added (f : ℕ → ℕ → ℕ) (g h : List ℕ) : Type 0 where
   pub size : length h ≡ length g
-  pub fits : ((w : ℕ) → get_or g w 0 < 2 ^ 64) → (w : ℕ) → get_or h w 0 < 2 ^ 64
   pub coords : (r i : ℕ) → r < slots → i < 64 * twice_limbs → cell h r i ≡ (cell g r i + f r i) % 2
 
 -- where f was added to get g, h is the same with more added, f' in all
@@ -51,17 +50,25 @@ slot_sum n row f r i = sum n (λ q. coord row (q * 64 + r) * raised (q * 64) f i
 abbrev pub limbs_add : ℕ → List ℕ → List ℕ → ℕ → ℕ → ℕ → ℕ
 limbs_add m e row n = slot_sum n row (below (64 * reach m) (limb_coord e))
 
+-- whether a list of limbs has all slots
+abbrev pub has_slots : List ℕ → Bool
+has_slots g = eqb (length g) (slots * twice_limbs)
+
+-- what a row adds to coordinate i at slot r, where g has all slots
+abbrev pub row_adds : ℕ → List ℕ → List ℕ → List ℕ → ℕ → ℕ → ℕ
+row_adds m g e row r i = choose (has_slots g) (limbs_add m e row (reach m) r i) 0
+
 -- g with what a row adds to it: coordinate c of g is coordinate c modulo a slot's at slot c over that, rounded down
 unfoldable pub plus_row : ℕ → List ℕ → List ℕ → List ℕ → List ℕ
-plus_row m g e row = pack_limbs (length g) (λ c. limb_coord g c + limbs_add m e row (reach m) (c / (64 * twice_limbs)) (c % (64 * twice_limbs)))
+plus_row m g e row = pack_limbs (length g) (λ c. limb_coord g c + row_adds m g e row (c / (64 * twice_limbs)) (c % (64 * twice_limbs)))
 
 -- coordinate i of the sum of all slots, slot r moved up r
 abbrev pub total_at : List ℕ → ℕ → ℕ
 total_at g i = sum slots (λ r. raised r (cell g r) i)
 
--- the same in the limbs that the width is worked on in
+-- the same in the limbs that the width is worked on in, where g has all slots
 abbrev pub spread_sum : ℕ → List ℕ → ℕ → ℕ
-spread_sum m g = below (64 * twice_reach m) (total_at g)
+spread_sum m g = below (64 * twice_reach m) (λ i. choose (has_slots g) (total_at g i) 0)
 
 -- whether limbs go on for an operand's from a coordinate on, and one more
 abbrev pub is_long : ℕ → List ℕ → Bool

@@ -7,7 +7,7 @@ mod slots;
 mod windows;
 
 pub use methods::{Method, first_row, row_count};
-pub use slots::{add_row, spread};
+pub use slots::{add_row, clear, spread};
 pub use windows::{masked, met, twice, window};
 
 // Room for an operand's limbs twice, and one more to read past a limb's end.

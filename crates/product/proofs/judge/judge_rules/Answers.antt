@@ -7,5 +7,4 @@ unfolding judged
 returns-in-Plain c = rw c.in-Plain.is
 
 pub returns-in-Reduced : goal.returns-in-Reduced
-returns-in-Reduced c =
-    rw c.in-Reduced.is c.judge_rules.ensures
+returns-in-Reduced c = rw c.in-Reduced.is c.judge_rules.ensures

@@ -1,5 +1,5 @@
 -- `product::judge::judge_unit` meets its contract.
-use mathlib.Core.Path.{◌≡◌, sym, ◌∙◌}
+use mathlib.Core.Path.{◌≡◌, refl, sym, ◌∙◌}
 use mathlib.Core.Bool.{Bool}
 use mathlib.Core.List.{[], ◌∷◌}
 use Prim.Native.Nat.{ℕ}
@@ -7,12 +7,14 @@ use lib.ListN.{length, get_or}
 use mir.Val.{Fits}
 use mir.Syntax.{w8}
 use Rattle.gf2.specs.Operands.{carried_bytes}
+use Rattle.judging.specs.Causes.{Verdict, judged}
 use Rattle.judging.specs.FaultTable.{high_bit, is_zero}
-use Rattle.judging.proofs.CauseLaws.{head-holds, none-given, ends, follows, handed_on}
-use Rattle.product.proofs.Judged.{clear_zero}
+use Rattle.judging.proofs.CauseLaws.{head-holds, none-given, ends, follows, handed_on, verdict_err, verdict_ok}
+use Rattle.product.specs.Inner.{row_causes, unit_causes}
+use Rattle.product.proofs.Judged.{shape-after, clear_zero}
 use borrow.Author.Rules.{rules}
 use Rattle.product.proofs.judge.judge_unit.Goals as goal
-use Rattle.product.proofs.judge.judge_unit.Goals.{After-is_clear}
+use Rattle.product.proofs.judge.judge_unit.Goals.{After-is_clear, After-judge_high}
 
 -- what the test of the bits says of zero
 tested : (c : After-is_clear) → let a = c.args in (b : Bool) → c.is_clear.result ≡ b → (is_zero carried_bytes a.width a.x).test ≡ b
@@ -22,17 +24,29 @@ tested c b e =
     let small : (k : ℕ) → Fits w8 (get_or a.x k 0) = λ k. search rules in
     sym (clear_zero a.width a.x size (λ k. (small k).fits)) ∙ sym c.is_clear.ensures ∙ e
 
+-- the verdict of all causes, where the table has passed
+after : (c : After-judge_high) → {v : Verdict} → let a = c.args in
+    v ≡ judged (high_bit a.width a.x ∷ is_zero carried_bytes a.width a.x ∷ []) → v ≡ judged (unit_causes a.width a.table.now a.x)
+after c = follows (row_causes _ _) (high_bit _ _ ∷ is_zero _ _ _ ∷ []) (shape-after c.requires c.args.table.now refl) (verdict_ok c.new.ensures.verdict c.in_ok-new.was)
+
+pub returns-in_err-new : goal.returns-in_err-new
+returns-in_err-new c =
+    handed_on c.from_residual.result c.from_residual.ensures.1
+    (ends (row_causes _ _) (high_bit _ _ ∷ is_zero _ _ _ ∷ []) (shape-after c.requires c.args.table.now refl) (verdict_err c.new.ensures.verdict c.in_err-new.was))
+
 pub returns-in_err-judge_high : goal.returns-in_err-judge_high
 returns-in_err-judge_high c =
-    handed_on c.from_residual.result c.from_residual.ensures.1
-    (ends (high_bit _ _ ∷ []) (is_zero _ _ _ ∷ []) c.judge_high.ensures c.in_err-judge_high.was)
+    handed_on c.from_residual-in_err-judge_high.result c.from_residual-in_err-judge_high.ensures.1
+    (after (goal.at.returns-in_err-judge_high c).After-judge_high (ends (high_bit _ _ ∷ []) (is_zero _ _ _ ∷ []) c.judge_high.ensures c.in_err-judge_high.was))
 
 pub returns-then-is_clear : goal.returns-then-is_clear
 returns-then-is_clear c =
-    follows (high_bit _ _ ∷ []) (is_zero _ _ _ ∷ []) c.judge_high.ensures c.in_ok-judge_high.was
-    (sym (head-holds (is_zero _ _ _) [] (tested (goal.at.returns-then-is_clear c).After-is_clear _ c.if-is_clear.true)))
+    let s = goal.at.returns-then-is_clear c in
+    after s.After-judge_high
+    (follows (high_bit _ _ ∷ []) (is_zero _ _ _ ∷ []) c.judge_high.ensures c.in_ok-judge_high.was (sym (head-holds (is_zero _ _ _) [] (tested s.After-is_clear _ c.if-is_clear.true))))
 
 pub returns : goal.returns
 returns c =
-    follows (high_bit _ _ ∷ []) (is_zero _ _ _ ∷ []) c.judge_high.ensures c.in_ok-judge_high.was
-    (sym (none-given (is_zero _ _ _ ∷ []) (tested (goal.at.returns c).After-is_clear _ c.if-is_clear.false, tt)))
+    let s = goal.at.returns c in
+    after s.After-judge_high
+    (follows (high_bit _ _ ∷ []) (is_zero _ _ _ ∷ []) c.judge_high.ensures c.in_ok-judge_high.was (sym (none-given (is_zero _ _ _ ∷ []) (tested s.After-is_clear _ c.if-is_clear.false, tt))))

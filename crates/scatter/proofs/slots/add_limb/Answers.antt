@@ -1,4 +1,5 @@
 -- `scatter::slots::add_limb` meets its contract.
+use mathlib.Core.Path.{◌∙◌}
 use native.Mathlib.Omega.{arith}
 use lib.Count.{trailing_le}
 use Rattle.gf2.proofs.TrailingZeros.{lowest-next, lowest-less}
@@ -13,7 +14,7 @@ overflow_cast-zeros c = omega (arith, trailing_le 64 c.loop-rest.rest)
 
 pub add_at-requires : goal.add_at-requires
 add_at-requires c = let l = c.loop-rest in
-    (lowest-next 64 l.rest l.invariant.0 c.loop-rest-test.true, c.requires)
+    (l.invariant.1.size ∙ c.requires.0, lowest-next 64 l.rest l.invariant.0 c.loop-rest-test.true, c.requires.1)
 
 pub loop-rest-smaller : goal.loop-rest-smaller
 loop-rest-smaller c = let l = c.loop-rest in lowest-less 64 l.rest l.invariant.0 c.loop-rest-test.true
@@ -21,6 +22,9 @@ loop-rest-smaller c = let l = c.loop-rest in lowest-less 64 l.rest l.invariant.0
 pub loop-rest-preserved : goal.loop-rest-preserved
 loop-rest-preserved c = let l = c.loop-rest in
     (omega (arith, l.invariant.0, lowest-less 64 l.rest l.invariant.0 c.loop-rest-test.true), ones-more _ _ l.rest l.invariant.0 c.loop-rest-test.true l.invariant.1 c.add_at.ensures)
+
+pub shape_of-g : goal.shape_of-g
+shape_of-g c = c.loop-rest.invariant.1.size
 
 pub returns : goal.returns
 returns c = ones-all _ _ c.loop-rest-test.false c.loop-rest.invariant.1
