@@ -6,67 +6,58 @@ use judging::Fault;
 use operand::Operand;
 use product::Method;
 
-// y² + x·y
-fn left_side(width: usize, table: &[u8], x: Operand, y: Operand) -> Result<Operand, Fault>
-    ensures { result ≡ left_side width table.now x y }
-{
-    let square = y.square()?;
-    let product = product::multiply(Method::Plain, width, table, x, y)?;
-    square.sum(product)
+// A curve's coefficients, and the width and the table by which their products are taken.
+#[derive(Clone, Copy)]
+pub(crate) struct Curve<'a> {
+    pub(crate) width: usize,
+    pub(crate) table: &'a [u8],
+    pub(crate) a: Operand,
+    pub(crate) b: Operand,
 }
 
-// x³ + a·x²
-fn cube_and_term(width: usize, table: &[u8], a: Operand, x: Operand) -> Result<Operand, Fault>
-    ensures { result ≡ cube_and_term width table.now a x }
-{
-    let square = x.square()?;
-    let cube = product::multiply(Method::Plain, width, table, square, x)?;
-    let term = product::multiply(Method::Plain, width, table, a, square)?;
-    cube.sum(term)
-}
+impl Curve<'_> {
+    // y² + x·y
+    fn left_side(&self, x: Operand, y: Operand) -> Result<Operand, Fault>
+        ensures { result ≡ left_side self.now.width self.now.table.now x y }
+    {
+        let square = y.square()?;
+        let product = product::multiply(Method::Plain, self.width, self.table, x, y)?;
+        square.sum(product)
+    }
 
-// x³ + a·x² + b
-fn right_side(
-    width: usize,
-    table: &[u8],
-    a: Operand,
-    b: Operand,
-    x: Operand,
-) -> Result<Operand, Fault>
-    ensures { result ≡ right_side width table.now a b x }
-{
-    cube_and_term(width, table, a, x)?.sum(b)
-}
+    // x³ + a·x²
+    fn cube_and_term(&self, x: Operand) -> Result<Operand, Fault>
+        ensures { result ≡ cube_and_term self.now.width self.now.table.now self.now.a x }
+    {
+        let square = x.square()?;
+        let cube = product::multiply(Method::Plain, self.width, self.table, square, x)?;
+        let term = product::multiply(Method::Plain, self.width, self.table, self.a, square)?;
+        cube.sum(term)
+    }
 
-// The sum of both sides.
-fn difference(
-    width: usize,
-    table: &[u8],
-    a: Operand,
-    b: Operand,
-    x: Operand,
-    y: Operand,
-) -> Result<Operand, Fault>
-    ensures { result ≡ difference width table.now a b x y }
-{
-    let left = left_side(width, table, x, y)?;
-    let right = right_side(width, table, a, b, x)?;
-    left.sum(right)
-}
+    // x³ + a·x² + b
+    fn right_side(&self, x: Operand) -> Result<Operand, Fault>
+        ensures { result ≡ right_side self.now.width self.now.table.now self.now.a self.now.b x }
+    {
+        self.cube_and_term(x)?.sum(self.b)
+    }
 
-// Whether the sum of both sides is zero. Where a call on the way gives a fault it is not.
-pub(crate) fn on_curve(
-    width: usize,
-    table: &[u8],
-    a: Operand,
-    b: Operand,
-    x: Operand,
-    y: Operand,
-) -> bool
-    ensures { result ≡ on_curve width table.now a b x y }
-{
-    match difference(width, table, a, b, x, y) {
-        Ok(sum) => limbs::is_clear(&sum.bytes, 0),
-        Err(_) => false,
+    // The sum of both sides.
+    fn difference(&self, x: Operand, y: Operand) -> Result<Operand, Fault>
+        ensures { result ≡ difference self.now.width self.now.table.now self.now.a self.now.b x y }
+    {
+        let left = self.left_side(x, y)?;
+        let right = self.right_side(x)?;
+        left.sum(right)
+    }
+
+    // Whether the sum of both sides is zero. Where a call on the way gives a fault it is not.
+    pub(crate) fn has(&self, x: Operand, y: Operand) -> bool
+        ensures { result ≡ on_curve self.now.width self.now.table.now self.now.a self.now.b x y }
+    {
+        match self.difference(x, y) {
+            Ok(sum) => limbs::is_clear(&sum.bytes, 0),
+            Err(_) => false,
+        }
     }
 }

@@ -7,6 +7,8 @@ ghost use Rattle.curves.specs.Curve.{point_on_curve};
 mod curve;
 mod published;
 
+use curve::Curve;
+
 // Whether the point with these digits lies on the curve once `change` is added to y.
 pub fn lies(
     width: usize,
@@ -23,15 +25,14 @@ pub fn lies(
         return false;
     }
     let m = width as u16;
+    let curve = Curve {
+        width,
+        table,
+        a: published::operand(m, a),
+        b: published::operand(m, b),
+    };
     match published::operand(m, y).sum(published::operand(m, change)) {
-        Ok(changed) => curve::on_curve(
-            width,
-            table,
-            published::operand(m, a),
-            published::operand(m, b),
-            published::operand(m, x),
-            changed,
-        ),
+        Ok(changed) => curve.has(published::operand(m, x), changed),
         Err(_) => false,
     }
 }

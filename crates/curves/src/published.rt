@@ -17,11 +17,8 @@ fn digit_value(c: u8) -> u8
 fn bit(digits: &[u8], t: usize) -> u8
     ensures { result ≡ digit_bit digits.now t % 2 }
 {
-    let d = t / 4;
-    if digits.len() <= d {
-        return 0;
-    }
-    (digit_value(digits[d]) >> (3 - t % 4)) % 2
+    let digit = digits.get(t / 4).copied().unwrap_or(0);
+    (digit_value(digit) >> (3 - t % 4)) % 2
 }
 
 // Byte b of the operand whose first coordinate is bit `start` of the digits.

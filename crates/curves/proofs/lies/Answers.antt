@@ -10,7 +10,7 @@ use Rattle.curves.proofs.lies.Goals.{After-sum}
 
 -- the point's y, changed
 changed : (c : After-sum) → let a = c.args in c.sum.result ≡ sum_call (published a.width a.y.now) (published a.width a.change.now)
-changed c = rw (c.operand.ensures, c.operand-2.ensures) at c.sum.ensures
+changed c = rw (c.operand-3.ensures, c.operand-4.ensures) at c.sum.ensures
 
 pub returns-then-width-gt-MAX_WIDTH : goal.returns-then-width-gt-MAX_WIDTH
 returns-then-width-gt-MAX_WIDTH c = rw (lt-leb _ _ c.if-width-gt-MAX_WIDTH.true)
@@ -20,9 +20,9 @@ returns-in-Ok c =
     rw (
       le-leb c.args.width max_width (omega (arith, c.if-width-gt-MAX_WIDTH.false)),
       sym (changed (goal.at.returns-in-Ok c).After-sum) ∙ c.in-Ok.is,
-      c.on_curve.ensures,
-      c.operand-in-Ok-3.ensures,
-      c.operand-in-Ok-2.ensures,
+      c.has.ensures,
+      c.operand.ensures,
+      c.operand-2.ensures,
       c.operand-in-Ok.ensures,
     )
 

@@ -1,8 +1,8 @@
--- `curves::curve::left_side` meets its contract.
+-- `curves::curve::Curve::left_side` meets its contract.
 use mathlib.Core.Path.{sym, ◌∙◌}
 use Rattle.judging.proofs.CauseLaws.{handed_on}
 use Rattle.curves.specs.Curve.{left_side}
-use Rattle.curves.proofs.curve.left_side.Goals as goal
+use Rattle.curves.proofs.curve.Curve.left_side.Goals as goal
 
 pub returns-in_err-square : goal.returns-in_err-square
 unfolding left_side

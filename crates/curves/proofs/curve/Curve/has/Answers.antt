@@ -1,7 +1,7 @@
--- `curves::curve::on_curve` meets its contract.
+-- `curves::curve::Curve::has` meets its contract.
 use mathlib.Core.Path.{sym, ◌∙◌}
 use Rattle.curves.specs.Curve.{on_curve}
-use Rattle.curves.proofs.curve.on_curve.Goals as goal
+use Rattle.curves.proofs.curve.Curve.has.Goals as goal
 
 pub returns-in-Ok : goal.returns-in-Ok
 unfolding on_curve

@@ -1,8 +1,8 @@
--- `curves::curve::cube_and_term` meets its contract.
+-- `curves::curve::Curve::cube_and_term` meets its contract.
 use mathlib.Core.Path.{sym, ◌∙◌}
 use Rattle.judging.proofs.CauseLaws.{handed_on}
 use Rattle.curves.specs.Curve.{cube_and_term}
-use Rattle.curves.proofs.curve.cube_and_term.Goals as goal
+use Rattle.curves.proofs.curve.Curve.cube_and_term.Goals as goal
 
 pub returns-in_err-square : goal.returns-in_err-square
 unfolding cube_and_term

@@ -1,8 +1,8 @@
--- `curves::curve::right_side` meets its contract.
+-- `curves::curve::Curve::right_side` meets its contract.
 use mathlib.Core.Path.{sym, ◌∙◌}
 use Rattle.judging.proofs.CauseLaws.{handed_on}
 use Rattle.curves.specs.Curve.{right_side}
-use Rattle.curves.proofs.curve.right_side.Goals as goal
+use Rattle.curves.proofs.curve.Curve.right_side.Goals as goal
 
 pub returns-in_err-cube_and_term : goal.returns-in_err-cube_and_term
 unfolding right_side

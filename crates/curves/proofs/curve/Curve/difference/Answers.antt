@@ -1,8 +1,8 @@
--- `curves::curve::difference` meets its contract.
+-- `curves::curve::Curve::difference` meets its contract.
 use mathlib.Core.Path.{sym, ◌∙◌}
 use Rattle.judging.proofs.CauseLaws.{handed_on}
 use Rattle.curves.specs.Curve.{difference}
-use Rattle.curves.proofs.curve.difference.Goals as goal
+use Rattle.curves.proofs.curve.Curve.difference.Goals as goal
 
 pub returns-in_err-left : goal.returns-in_err-left
 unfolding difference
