@@ -10,26 +10,18 @@ use native.Mathlib.Omega.{arith}
 use lib.ListN.{length, get_or, set, replicate, length-set, length-replicate}
 use lib.Seq.{get_or-set_same, get_or-set_other}
 use lib.Dec.{eqb}
-use borrow.Author.Tests.{eqb-true, eq-eqb}
 use lib.Bits.{bit_xor}
 use lib.Pow.{shr-shr, shr_le, pow_mono}
 use lib.Count.{count_trailing_zeros}
-use Rattle.gf2.specs.Sums.{sum}
 use Rattle.gf2.specs.Coordinates.{coord}
-use Rattle.gf2.specs.Operands.{max_width, below}
+use Rattle.gf2.specs.Operands.{max_width}
 use Rattle.gf2.specs.Tables.{row}
 use Rattle.gf2.proofs.Coordinates.{xor-bit, shl-bit, shl-bit-out, coord-lt}
-use Rattle.gf2.proofs.Sums.{sum-ext, sum-clear, sum-bits, sum-next}
-use Rattle.gf2.proofs.Parity.{bool-ext}
-use Rattle.gf2.proofs.Operands.{below_in, below_out}
 use Rattle.gf2.proofs.TrailingZeros.{trailing-low, trailing-one, one_below}
-use Rattle.limbs.specs.Limbs.{carried_limbs, limb_coord, pack_limbs}
+use Rattle.limbs.specs.Limbs.{carried_limbs, limb_coord}
 use Rattle.ones.specs.RowLimbs.{next_one, row_limbs}
-use Rattle.limbs.proofs.LimbCoords.{limb-digit, limb-zero, limb-pack, limb-past, length-limbs}
+use Rattle.limbs.proofs.LimbCoords.{limb-digit, limb-zero, limb-pack}
 use Rattle.ones.proofs.RowLimbs.{First, next_known, row-limbs}
-use Rattle.netlist.specs.Lists.{all_ones}
-use Rattle.gf2.proofs.Counts.{sum_ones}
-use Rattle.netlist.proofs.ListLaws.{ones-at, ones-of}
 use Rattle.list_folds.specs.declared.columns.Rows.{Rows}
 use Rattle.list_folds.specs.Columns.{bit_from, is_set, Columns, Successor, FirstFrom, Firsts}
 
@@ -268,29 +260,3 @@ module _ (columns : List ℕ) (k : ℕ) where
 pub first-after : {columns firsts : List ℕ} {to : ℕ} (at from : ℕ) → from ≤ to → to ≤ max_width → at + carried_limbs ≤ length columns → Firsts columns 0 firsts →
     FirstFrom columns (64 * (at + from / 64 + 1)) (get_or firsts (at + from / 64) 0)
 first-after at from g h room f = f.first (at + from / 64) (omega arith) (omega arith)
-
--- a row is all ones where it has as many ones as coordinates
-ones-each : (n : ℕ) (f : ℕ → ℕ) → ((i : ℕ) → f i < 2) → sum n f ≡ n → (r : ℕ) → r < n → f r ≡ 1
-ones-each zero f h e r l = absurd (omega arith)
-ones-each (suc n) f h e r l = elim (ℕ_discrete r n) [
-  | yes q ↦ ap f q ∙ omega (arith, sum-next f n, sum-bits n f h, h n)
-  | no q ↦ ones-each n f h (omega (arith, sum-next f n, sum-bits n f h, h n)) r (omega arith)
-]
-
-pub full-ones : (m : ℕ) (table : List ℕ) (d : ℕ) → d < m → m ≤ max_width → eqb (sum (64 * carried_limbs) (limb_coord (pack_limbs carried_limbs (below m (limb_coord (row_limbs m table d)))))) m ≡ all_ones m (row m table d)
-full-ones m table d l h = bool-ext _ _
-    (λ e. ones-of m table (row m table d) (ones-each m (coord (row m table d)) (coord-lt (row m table d)) (sym number ∙ eqb-true _ m e)))
-    (λ e. eq-eqb _ m (number ∙ sum-ext m _ _ (λ r lr. ones-at m table (row m table d) e r lr) ∙ sum_ones m))
-  where
-    pack : ℕ → ℕ
-    pack = below m (limb_coord (row_limbs m table d))
-
-    clear : (i : ℕ) → m ≤ i → limb_coord (pack_limbs carried_limbs pack) i ≡ 0
-    clear i g = elim (dec_lt i (64 * carried_limbs)) [
-      | yes b ↦ limb-pack carried_limbs pack i b ∙ ap (λ x. x % 2) (below_out m _ i g)
-      | no b ↦ limb-past (pack_limbs carried_limbs pack) i (omega (arith, length-limbs carried_limbs pack))
-    ]
-
-    number : sum (64 * carried_limbs) (limb_coord (pack_limbs carried_limbs pack)) ≡ sum m (coord (row m table d))
-    number = sum-clear m (64 * carried_limbs) _ (omega arith) clear ∙ sum-ext m _ _ (λ r lr.
-        limb-pack carried_limbs pack r (omega arith) ∙ ap (λ x. x % 2) (below_in m _ r lr ∙ row-bit m table d l h r lr) ∙ mod-eq_of_lt (coord-lt (row m table d) r))

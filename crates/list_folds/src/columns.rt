@@ -2,11 +2,11 @@
 // A fold reads the next term from them and looks at no pair between.
 ghost use Rattle.std.specs.Prelude.{◌≡◌, ◌+◌, ◌*◌, ◌<◌, ◌≤◌, length};
 ghost use Rattle.gf2.specs.Operands.{max_width};
-ghost use Rattle.gf2.specs.Tables.{row};
 ghost use Rattle.limbs.specs.Limbs.{carried_limbs};
-ghost use Rattle.netlist.specs.Lists.{all_ones};
 ghost use Rattle.list_folds.specs.TableFolds.{keeps};
 ghost use Rattle.list_folds.specs.Columns.{Columns, FirstFrom, Firsts};
+
+use table::Table;
 
 // The rows whose pairs are folded.
 #[derive(Clone, Copy)]
@@ -19,36 +19,26 @@ pub enum Rows {
 // Limbs for the columns of a table of the greatest width.
 pub(crate) const SCRATCH: usize = limbs::MAX_WIDTH * limbs::LIMBS;
 
-// Bits past the width don't count.
-fn full_row(width: usize, table: &[u8], d: usize) -> bool
-    requires { (width ≤ max_width) × (d < width) }
-    ensures { result ≡ all_ones width (row width table.now d) }
-{
-    let row = ones::row_limbs(width, table, d);
-    let low = limbs::low_limbs(row, width);
-    ones::ones_in(&low) == width
-}
-
-fn is_kept(width: usize, table: &[u8], rows: Rows, d: usize) -> bool
-    requires { (width ≤ max_width) × (d < width) }
-    ensures { result ≡ keeps rows width table.now d }
+fn is_kept(table: &Table, rows: Rows, d: usize) -> bool
+    ensures { result ≡ keeps rows table.now.width table.now.bytes.now d }
 {
     match rows {
         Rows::All => true,
-        Rows::Full => full_row(width, table, d),
-        Rows::Others => !full_row(width, table, d),
+        Rows::Full => netlist::full_row(table, d),
+        Rows::Others => !netlist::full_row(table, d),
     }
 }
 
 // Row d, if it is kept.
-fn fill_row(columns: &mut [u64], width: usize, table: &[u8], rows: Rows, d: usize)
-    requires { (d < width) × Columns rows width table.now d columns.old }
-    ensures { Columns rows width table.now (d + 1) columns.new }
+fn fill_row(columns: &mut [u64], table: &Table, rows: Rows, d: usize)
+    requires { (d < table.now.width) × Columns rows table.now.width table.now.bytes.now d columns.old }
+    ensures { Columns rows table.now.width table.now.bytes.now (d + 1) columns.new }
 {
-    if !is_kept(width, table, rows, d) {
+    if !is_kept(table, rows, d) {
         return;
     }
-    let row = ones::row_limbs(width, table, d);
+    let width = table.width();
+    let row = ones::row_limbs(width, table.bytes(), d);
     let mut s = ones::next_one(&row, 0);
     while s < width {
         let k = s * limbs::LIMBS + d / 64;
@@ -57,12 +47,12 @@ fn fill_row(columns: &mut [u64], width: usize, table: &[u8], rows: Rows, d: usiz
     }
 }
 
-pub(crate) fn fill(columns: &mut [u64], width: usize, table: &[u8], rows: Rows)
-    requires { Columns rows width table.now 0 columns.old }
-    ensures { Columns rows width table.now width columns.new }
+pub(crate) fn fill(columns: &mut [u64], table: &Table, rows: Rows)
+    requires { Columns rows table.now.width table.now.bytes.now 0 columns.old }
+    ensures { Columns rows table.now.width table.now.bytes.now table.now.width columns.new }
 {
-    for d in 0..width {
-        fill_row(columns, width, table, rows, d);
+    for d in 0..table.width() {
+        fill_row(columns, table, rows, d);
     }
 }
 

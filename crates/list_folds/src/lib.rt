@@ -13,27 +13,28 @@ mod terms;
 
 pub use columns::Rows;
 use reading::Columns;
+use table::Table;
 pub use terms::Terms;
 
 // The folds for the first coordinates, `count` of them, from gate n on, and the wires of their sums; the number of the next gate.
-// For any width and any table: nothing is stored where a number of a gate might not be a word.
+// Nothing is stored where a number of a gate might not be a word.
 pub fn put_folds(
     out: &mut [u32],
     ends: &mut [u32],
-    width: usize,
-    table: &[u8],
+    table: &Table,
     t: Terms,
     count: usize,
     n: usize,
 ) -> usize
-    ensures gates_put { GatesPut n out.old (fold_gates t width table.now count n) result out.new }
-    ensures ends_after { ends.new ≡ sets ends.old 0 (fold_wires t width table.now count n) }
+    ensures gates_put { GatesPut n out.old (fold_gates t table.now.width table.now.bytes.now count n) result out.new }
+    ensures ends_after { ends.new ≡ sets ends.old 0 (fold_wires t table.now.width table.now.bytes.now count n) }
 {
+    let width = table.width();
     if !list_pairs::fits(width, count, n) {
         return n;
     }
     let mut scratch = [0u64; columns::SCRATCH];
-    columns::fill(&mut scratch, width, table, t.rows);
+    columns::fill(&mut scratch, table, t.rows);
     let mut firsts = [0u32; columns::SCRATCH];
     columns::find_firsts(&mut firsts, &scratch);
     let columns = Columns {

@@ -20,7 +20,7 @@ fn put_plain(out: &mut [u32], ends: &mut [u32], table: &Table)
     };
     let width = table.width();
     let n = list_pairs::put_pairs(out, width, false, 0);
-    list_folds::put_folds(out, ends, width, table.bytes(), pairs, width, n);
+    list_folds::put_folds(out, ends, table, pairs, width, n);
 }
 
 fn put_reduced(out: &mut [u32], ends: &mut [u32], table: &Table)
@@ -34,7 +34,7 @@ fn put_reduced(out: &mut [u32], ends: &mut [u32], table: &Table)
     let width = table.width();
     let ands = list_pairs::put_pairs(out, width, false, 0);
     let n = list_pairs::put_pairs(out, width, true, ands);
-    list_folds::put_folds(out, ends, width, table.bytes(), pairs, width, n);
+    list_folds::put_folds(out, ends, table, pairs, width, n);
 }
 
 // The shared pairs are one fold, whose wire is then the last term for every coordinate.
@@ -48,15 +48,14 @@ fn put_sharing(out: &mut [u32], ends: &mut [u32], table: &Table)
         last: None,
     };
     let width = table.width();
-    let bytes = table.bytes();
     let ands = list_pairs::put_pairs(out, width, false, 0);
-    let n = list_folds::put_folds(out, ends, width, bytes, shared, 1, ands);
+    let n = list_folds::put_folds(out, ends, table, shared, 1, ands);
     let others = Terms {
         rows: Rows::Others,
         mixed: false,
         last: Some(ends[0]),
     };
-    list_folds::put_folds(out, ends, width, bytes, others, width, n);
+    list_folds::put_folds(out, ends, table, others, width, n);
 }
 
 // The gates, and the output wires aside; `full` is the number of rows whose pairs are shared.

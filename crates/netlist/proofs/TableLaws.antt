@@ -3,7 +3,7 @@ use mathlib.Core.Path.{◌≡◌, sym, ap, ◌∙◌}
 use mathlib.Core.List.{List}
 use Prim.Native.Nat.{ℕ, zero, suc, ◌+◌, ◌*◌, ◌/◌, ◌%◌, ◌^◌, ◌<◌, ◌≤◌}
 use native.Mathlib.Nat.{mul-le-mul, mod-eq_of_lt}
-use native.Mathlib.Decide.{ℕ_discrete}
+use native.Mathlib.Decide.{dec_lt, ℕ_discrete}
 use native.Mathlib.Omega.{arith}
 use lib.Dec.{eqb}
 use lib.ListN.{length}
@@ -15,8 +15,9 @@ use Rattle.gf2.specs.Operands.{max_width, bytes_for}
 use Rattle.gf2.specs.Tables.{row, ones_in}
 use Rattle.gf2.proofs.Sums.{sum-ext, sum-clear, sum-bits, sum-next, every-at, every_of}
 use Rattle.gf2.proofs.Parity.{bool-ext}
-use Rattle.gf2.proofs.Coordinates.{coord-lt}
+use Rattle.gf2.proofs.Coordinates.{coord-lt, coord-past}
 use Rattle.table.specs.Rows.{Shaped}
+use Rattle.table.proofs.Shapes.{row-none}
 use Rattle.table.proofs.TableOnes.{ones_small}
 use Rattle.netlist.specs.Lists.{all_ones}
 use Rattle.netlist.specs.Inner.{Countable}
@@ -53,20 +54,20 @@ ones-each (suc n) f b e i l =
     ]
 
 -- row d has as many ones as the width just where it is all ones
-pub full-count : {m : ℕ} {table : List ℕ} (d : ℕ) → Shaped m table → d < m → {n : ℕ} → n ≡ sum (8 * length (row m table d)) (coord (row m table d)) % 2 ^ 64 → eqb n m ≡ all_ones m (row m table d)
+pub full-count : {m : ℕ} {table : List ℕ} (d : ℕ) → Shaped m table → {n : ℕ} → n ≡ sum (8 * length (row m table d)) (coord (row m table d)) % 2 ^ 64 → eqb n m ≡ all_ones m (row m table d)
 unfolding all_ones
-full-count {m} {table} d s l {n} en = bool-ext _ _
+full-count {m} {table} d s {n} en = bool-ext _ _
     (λ e. every_of m _ (λ i h. eq-eqb _ 1 (ones-each m f (coord-lt (row m table d)) (sym count ∙ eqb-true n m e) i h)))
     (λ e. eq-eqb n m (count ∙ sum-ext m f (λ i. 1) (λ i h. eqb-true _ _ (every-at m _ e i h)) ∙ sum_ones m))
   where
     f : ℕ → ℕ
     f = coord (row m table d)
 
-    wide : m ≤ 8 * length (row m table d)
-    wide = omega (arith, (s.is_table.rows d l).size)
-
     all : sum (8 * length (row m table d)) f ≡ sum m f
-    all = sum-clear m (8 * length (row m table d)) f wide (s.is_table.rows d l).clear
+    all = elim (dec_lt d m) [
+      | yes l ↦ sum-clear m _ f (omega (arith, (s.is_table.rows d l).size)) (s.is_table.rows d l).clear
+      | no g ↦ sym (sum-clear _ m f (omega (arith, ap length (row-none s d (omega arith)))) (coord-past (row m table d)))
+    ]
 
     count : n ≡ sum m f
     count = en ∙ ap (λ z. z % 2 ^ 64) all ∙ mod-eq_of_lt (omega (arith, sum-bits m f (coord-lt (row m table d)), s.greatest))

@@ -1,4 +1,4 @@
-// Gate lists of a table: counting their gates.
+// Gate lists of a table: counting their gates, and the rows that are all ones.
 #![tactic(auto)]
 
 mod counts;
@@ -6,6 +6,7 @@ mod entries;
 mod words;
 
 pub use counts::{Method, all_counts, gate_counts, tally, tally_of};
+pub use entries::full_row;
 pub use words::coordinate;
 
 // The numbers of a list's gates by kind: the papers' AND and XOR columns are never added together.

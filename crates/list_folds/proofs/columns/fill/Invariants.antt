@@ -6,4 +6,4 @@ use Rattle.list_folds.specs.Columns.{Columns}
 use Rattle.list_folds.proofs.columns.fill.Given as goal
 
 abbrev pub invariant-loop-d : goal.invariant-loop-d
-invariant-loop-d l = (l.d ≤ l.width) × (Columns l.rows l.width l.table l.d l.columns) × (length l.columns ≡ length l.initial.columns)
+invariant-loop-d l = (l.d ≤ l.table.width) × (Columns l.rows l.table.width l.table.bytes.now l.d l.columns) × (length l.columns ≡ length l.initial.columns)

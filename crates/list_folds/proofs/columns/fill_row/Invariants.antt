@@ -7,7 +7,7 @@ use Rattle.list_folds.proofs.ColumnLaws.{RowTo}
 use Rattle.list_folds.proofs.columns.fill_row.Given as goal
 
 abbrev pub invariant-loop-s : goal.invariant-loop-s
-invariant-loop-s l = RowTo l.width l.table l.d l.s l.initial.columns l.columns × (l.s < l.width → 1 ≡ coord (row l.width l.table l.d) l.s)
+invariant-loop-s l = RowTo l.table.width l.table.bytes.now l.d l.s l.initial.columns l.columns × (l.s < l.table.width → 1 ≡ coord (row l.table.width l.table.bytes.now l.d) l.s)
 
 abbrev pub decreases-loop-s : goal.decreases-loop-s
 decreases-loop-s l = l.width - l.s

@@ -5,7 +5,6 @@ use Rattle.list_writer.proofs.lists.put_sharing.Goals as goal
 pub returns : goal.returns
 returns c =
     let w = c.width-width.ensures in
-    let b = c.bytes-bytes.ensures in
     sharing-written c.args.table.now.shaped (rw w at c.put_pairs-ands.ensures) c.args.ends.now c.requires
-    (rw (w, b) at c.put_folds-n.ensures.gates_put, rw (w, b) at c.put_folds-n.ensures.ends_after)
-    (rw (w, b) at c.put_folds.ensures.gates_put, rw (w, b) at c.put_folds.ensures.ends_after)
+    (c.put_folds-n.ensures.gates_put, c.put_folds-n.ensures.ends_after)
+    (rw w at c.put_folds.ensures.gates_put, rw w at c.put_folds.ensures.ends_after)

@@ -3,4 +3,4 @@ use Rattle.netlist.proofs.TableLaws.{full-count}
 use Rattle.netlist.proofs.entries.full_row.Goals as goal
 
 pub returns : goal.returns
-returns c = rw c.width.ensures (full-count c.args.d c.args.table.now.shaped c.requires (rw c.row.ensures at c.ones_of.ensures))
+returns c = rw c.width.ensures (full-count c.args.d c.args.table.now.shaped (rw c.row.ensures at c.ones_of.ensures))
