@@ -18,8 +18,8 @@ use operand::Operand;
 pub(crate) fn judge_carried(width: usize, a: Operand, b: Operand, res: usize) -> Result<(), Fault>
     ensures { result ≡ judged (carried_causes width a b res) }
 {
-    let m = usize::from(a.width);
-    let n = usize::from(b.width);
+    let m = a.width as usize;
+    let n = b.width as usize;
     judge_width(width)?;
     judge_width(m)?;
     judge_width(n)?;
