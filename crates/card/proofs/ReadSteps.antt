@@ -31,7 +31,7 @@ use Rattle.card.specs.Numbers.{Read, refused, got, read_number}
 use Rattle.card.specs.Rows.{after, read_places, read_row, is_place, row_of, read_rows}
 use Rattle.card.specs.Cards.{lent_verdict, read_width, read_head, ended, read_card}
 use Rattle.card.specs.Calls.{read_call, read_table, read_answer, read_into}
-use Rattle.card.specs.Inner.{told, carried_places, end_of, RowsRead}
+use Rattle.card.specs.Inner.{told, told_row, carried_places, end_of, RowsRead}
 use Rattle.card.proofs.Numbers.{no_value}
 use Rattle.card.proofs.Places.{place_here, place-there}
 use Rattle.card.proofs.Stores.{sets-append, sets-front}
@@ -40,6 +40,9 @@ use Rattle.card.proofs.Trips.{head-parts, rows-table}
 -- the exit of a `?`
 pub told-refused : {A : Type 0} (rest : List ℕ) {x : Read A} {f : Fault} (r : Result A Fault) → IsErrAnd r (λ g. g ≡ f) → refused f ≡ x → told r rest ≡ x
 told-refused rest r e h = ap (λ v. told v rest) (handed_on r e refl) ∙ h
+
+pub told-no_row : (row rest : List ℕ) {x : Read (List ℕ)} {f : Fault} (r : Result (Unit {0}) Fault) → IsErrAnd r (λ g. g ≡ f) → refused f ≡ x → told_row r row rest ≡ x
+told-no_row row rest r e h = ap (λ v. told_row v row rest) (handed_on r e refl) ∙ h
 
 -- a value that is read, by an equal one
 pub got-as : {A : Type 0} {x : Read A} {a b : A} {rest : List ℕ} → b ≡ a → got a rest ≡ x → x ≡ got b rest

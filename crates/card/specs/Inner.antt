@@ -12,6 +12,11 @@ abbrev pub told : {A : Type 0} → Result A Fault → List ℕ → Read A
 told (Ok value) rest = got value rest
 told (Err f) rest = refused f
 
+-- what a step answers that stores its value in a lent row, and the bytes that it leaves
+abbrev pub told_row : Result (Unit {0}) Fault → List ℕ → List ℕ → Read (List ℕ)
+told_row (Ok _) row rest = got row rest
+told_row (Err f) row rest = refused f
+
 -- the next byte
 abbrev pub read_byte : List ℕ → Read ℕ
 read_byte [] = refused card_ends

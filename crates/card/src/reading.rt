@@ -1,11 +1,11 @@
 // Reading a card, in byte order. A part is read from the front of the bytes that are left, or a fault is found there.
-ghost use Rattle.std.specs.Prelude.{◌≡◌, ◌≤◌};
-ghost use Rattle.gf2.specs.Operands.{max_width};
+ghost use Rattle.std.specs.Prelude.{◌≡◌, ◌*◌, ◌≤◌, replicate};
+ghost use Rattle.gf2.specs.Operands.{max_width, carried_bytes};
 ghost use Rattle.card.specs.Numbers.{read_number};
 ghost use Rattle.card.specs.Rows.{read_places, read_row};
 ghost use Rattle.card.specs.Cards.{lent_verdict, read_width, read_head};
 ghost use Rattle.card.specs.Calls.{read_call, read_table};
-ghost use Rattle.card.specs.Inner.{told, read_byte, carried_places, RowsRead};
+ghost use Rattle.card.specs.Inner.{told, told_row, read_byte, carried_places, RowsRead};
 
 use crate::store;
 use judging::{CallFault, CardFault, Fault};
@@ -56,12 +56,17 @@ impl Reader<'_> {
         }
     }
 
-    // A row of `count` ones. Each place is above the ones before, so that its bit is still 0.
-    fn places(&mut self, width: usize, count: usize) -> Result<[u8; limbs::BYTES], Fault>
-        requires { width ≤ max_width }
-        ensures { told result self.new.left.now ≡ carried_places width (read_places width 0 count self.old.left.now) }
+    // A row of `count` ones, stored over zeros. Each place is above the ones before, so that its bit is still 0. The row is lent, since
+    // one in a Result would be copied at each step out.
+    fn places(
+        &mut self,
+        width: usize,
+        count: usize,
+        row: &mut [u8; limbs::BYTES],
+    ) -> Result<(), Fault>
+        requires { (width ≤ max_width) × (row.old ≡ replicate carried_bytes 0) }
+        ensures { told_row result row.new self.new.left.now ≡ carried_places width (read_places width 0 count self.old.left.now) }
     {
-        let mut row = [0u8; limbs::BYTES];
         let mut free = 0;
         for _ in 0..count {
             let step = self.number()?;
@@ -72,18 +77,18 @@ impl Reader<'_> {
             row[place / 8] ^= 1u8 << (place % 8);
             free = place + 1;
         }
-        Ok(row)
+        Ok(())
     }
 
-    fn row(&mut self, width: usize) -> Result<[u8; limbs::BYTES], Fault>
-        requires { width ≤ max_width }
-        ensures { told result self.new.left.now ≡ carried_places width (read_row width self.old.left.now) }
+    fn row(&mut self, width: usize, row: &mut [u8; limbs::BYTES]) -> Result<(), Fault>
+        requires { (width ≤ max_width) × (row.old ≡ replicate carried_bytes 0) }
+        ensures { told_row result row.new self.new.left.now ≡ carried_places width (read_row width self.old.left.now) }
     {
         let count = self.number()?;
         if width < count {
             return Err(Fault::Card(CardFault::Place));
         }
-        self.places(width, count)
+        self.places(width, count, row)
     }
 
     // The rows; their bytes go to the table.
@@ -93,7 +98,8 @@ impl Reader<'_> {
     {
         let size = limbs::bytes_for(width);
         for d in 0..width {
-            let row = self.row(width)?;
+            let mut row = [0u8; limbs::BYTES];
+            self.row(width, &mut row)?;
             store::put_bytes(table, d * size, row, size);
         }
         Ok(())

@@ -7,18 +7,21 @@ use native.Mathlib.Nat.{mul_assoc, mod-eq_of_lt, mod-lt, mod-le, zero-div, div-e
 use native.Mathlib.Decide.{dec_lt, ℕ_discrete}
 use native.Mathlib.Numerals.{add-one}
 use native.Mathlib.Omega.{arith}
+use lib.Dec.{eqb}
 use mir.Val.{Fits}
 use mir.Syntax.{w64}
-use lib.ListN.{get_or}
+use lib.ListN.{length, get_or}
 use lib.Bits.{bit_or, or_shr, or_add_and, and_le_l, and_le_r, or_zero_l, bit_xor, xor_lt, xor_comm}
 use lib.Pow.{pow_pos, pow_mono, pow-add, shr-shr, shr_le}
-use Rattle.gf2.specs.Coordinates.{value, tabulate}
-use Rattle.gf2.specs.Operands.{below}
+use borrow.Author.Tests.{eq-eqb, eqb-true}
+use Rattle.gf2.specs.Coordinates.{coord, value, tabulate}
+use Rattle.gf2.specs.Operands.{carried_bytes, below, is_clear}
 use Rattle.gf2.proofs.Remainders.{mul_mod_left}
+use Rattle.gf2.proofs.Parity.{bool-ext}
 use Rattle.gf2.proofs.Coordinates.{value-ext, value-eq, mod-bit, mod-bit-out, xor-bit, shl-bit, shl-bit-out}
-use Rattle.gf2.proofs.Operands.{below_in, below_out}
-use Rattle.limbs.specs.Limbs.{limb_coord, pack_limbs}
-use Rattle.limbs.proofs.LimbCoords.{limb-lt, limb-digit, limbs-of}
+use Rattle.gf2.proofs.Operands.{below_in, below_out, clear_at, clear_of}
+use Rattle.limbs.specs.Limbs.{carried_limbs, limb_coord, pack_limbs}
+use Rattle.limbs.proofs.LimbCoords.{limb-lt, limb-digit, limb-past, length-limbs, limbs-lt, limbs-of, limbs-coord}
 
 -- every element of a list is a limb
 abbrev pub Limbs : List ℕ → Type 0
@@ -133,3 +136,41 @@ pub ored-shr : (n : ℕ) (f : ℕ → ℕ) (k : ℕ) → ored n f / 2 ^ k ≡ or
 unfolding ored
 ored-shr zero f k = zero-div (2 ^ k)
 ored-shr (suc n) f k = or_shr (ored n f) (f n) k ∙ ap (λ x. bit_or x (f n / 2 ^ k)) (ored-shr n f k)
+
+-- the coordinates of limbs at m and above, limb by limb
+abbrev pub above : ℕ → List ℕ → ℕ → ℕ
+above m x w = get_or x w 0 - get_or x w 0 % 2 ^ (m - w * 64)
+
+module _ (m : ℕ) (x : List ℕ) (small : Limbs x) where
+  above-none : (w j : ℕ) → above m x w ≡ 0 → j < 64 → m ≤ w * 64 + j → limb_coord x (w * 64 + j) ≡ 0
+  above-none w j e l h =
+      let same : get_or x w 0 ≡ get_or x w 0 % 2 ^ (m - w * 64) = omega (arith, mod-le (get_or x w 0) (2 ^ (m - w * 64))) in
+      limb-digit x w j l ∙ ap (λ y. y / 2 ^ j % 2) same ∙ mod-bit-out (get_or x w 0) (m - w * 64) j (omega arith)
+
+  none_above : (w : ℕ) → ((i : ℕ) → m ≤ i → limb_coord x i ≡ 0) → above m x w ≡ 0
+  none_above w clear = omega (arith, whole ∙ sym part)
+    where
+      whole : get_or x w 0 ≡ value 64 (λ j. get_or x w 0 / 2 ^ j)
+      whole = value-eq 64 _ _ (small w) (λ j l. refl)
+
+      part : get_or x w 0 % 2 ^ (m - w * 64) ≡ value 64 (λ j. get_or x w 0 / 2 ^ j)
+      part = value-eq 64 _ _ (lt_of_le_of_lt (mod-le (get_or x w 0) (2 ^ (m - w * 64))) (small w)) (λ j l. elim (dec_lt j (m - w * 64)) [
+        | yes q ↦ mod-bit (get_or x w 0) (m - w * 64) j q
+        | no q ↦ mod-bit-out (get_or x w 0) (m - w * 64) j (omega arith) ∙ sym (sym (limb-digit x w j l) ∙ clear (w * 64 + j) (omega arith))
+      ])
+
+-- the test of the bits at m and above
+pub clear-limbs : (m : ℕ) (x : List ℕ) {l : List ℕ} {n high : ℕ} → length x ≡ carried_bytes → l ≡ pack_limbs carried_limbs (coord x) → n ≡ carried_limbs → high ≡ ored n (above m l) → eqb high 0 ≡ is_clear m x
+clear-limbs m x size el en e = ap (λ h. eqb h 0) (e ∙ ap₂ (λ k l. ored k (above m l)) en el) ∙ bool-ext _ _
+    (λ e. clear_of m x (λ i h. sym (limbs-coord x size i) ∙ none i h (ored-at carried_limbs _ (eqb-true _ 0 e))))
+    (λ e. eq-eqb _ 0 (ored-of carried_limbs _ (λ w h. none_above m ws (limbs-lt carried_limbs (coord x)) w (λ i l. limbs-coord x size i ∙ clear_at m x e i l))))
+  where
+    ws : List ℕ
+    ws = pack_limbs carried_limbs (coord x)
+
+    none : (i : ℕ) → m ≤ i → ((w : ℕ) → w < carried_limbs → above m (pack_limbs carried_limbs (coord x)) w ≡ 0) → limb_coord (pack_limbs carried_limbs (coord x)) i ≡ 0
+    none i h e = elim (dec_lt (i / 64) carried_limbs) [
+      | yes q ↦ let d : i ≡ i / 64 * 64 + i % 64 = omega arith in
+          ap (limb_coord ws) d ∙ above-none m ws (limbs-lt carried_limbs (coord x)) (i / 64) (i % 64) (e (i / 64) q) (omega arith) (omega arith)
+      | no q ↦ limb-past ws i (omega (arith, length-limbs carried_limbs (coord x)))
+    ]

@@ -4,7 +4,7 @@ ghost use Rattle.std.specs.Prelude.{◌≡◌, ◌+◌, length};
 ghost use Rattle.gf2.specs.Coordinates.{coord, pack};
 ghost use Rattle.gf2.specs.Operands.{bytes_for, carried_bytes, from_coords, is_clear};
 
-use crate::{BYTES, limbs, slices};
+use crate::{BYTES, LIMBS, limbs, slices};
 
 // The number of bytes of an operand: the width over 8, rounded up.
 pub fn bytes_for(width: usize) -> usize
@@ -27,6 +27,21 @@ pub fn cleared(x: [u8; BYTES], m: usize) -> [u8; BYTES]
     limbs::to_bytes(limbs::low_limbs(limbs::to_limbs(x), m))
 }
 
+// The same of a carried operand, limb by limb. Every limb is looked at, with no way out before the last, so that the loop is unrolled when
+// it is compiled: byte by byte the test costs more than a sum.
+fn is_clear_carried(s: &[u8], m: usize) -> bool
+    requires { length s.now ≡ carried_bytes }
+    ensures { result ≡ is_clear m s.now }
+{
+    let all = slices::slice_limbs(s);
+    let mut high: u64 = 0;
+    for w in 0..LIMBS {
+        let limb = all[w];
+        high |= limb - limbs::low_limb(limb, w, m);
+    }
+    high == 0
+}
+
 // Whether no coordinate at m or above is set. One byte is looked at where the slice has as many as the width needs.
 pub fn is_clear(s: &[u8], m: usize) -> bool
     ensures { result ≡ is_clear m s.now }
@@ -38,7 +53,11 @@ pub fn is_clear(s: &[u8], m: usize) -> bool
     if s[first] >> (m % 8) != 0 {
         return false;
     }
-    s[first + 1..].iter().all(|byte| *byte == 0)
+    let rest = &s[first + 1..];
+    if s.len() == BYTES && !rest.is_empty() {
+        return is_clear_carried(s, m);
+    }
+    rest.iter().all(|byte| *byte == 0)
 }
 
 // The coordinates of a slice, in the bytes of a carried operand.
