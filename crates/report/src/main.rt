@@ -26,5 +26,5 @@ fn main(rt: HostRuntime) -> io::Result<()> {
     let mut input = [0u8; reporting::INPUT_LIMIT + 1];
     let n = read_full(&mut rt.stdin(), &mut input);
     let answer = reporting::report(&input[..n]);
-    rt.write_all(answer.bytes.as_slice())
+    rt.write_all(&answer.bytes[..answer.length])
 }

@@ -1,16 +1,20 @@
--- Laws of a text: bytes put after one another.
+-- Laws of a text: bytes put after one another, and the finished text that holds them all.
 use Rattle.std.specs.Prelude.{Result, Ok, Err, IsOk, OnOk, OnErr}
 use Rattle.arrayvec.specs.ArrayVec.{ArrayVec}
 use mathlib.Core.Path.{◌≡◌, refl, sym, ap, ap₂, ◌∙◌}
 use mathlib.Core.List.{List, [], ◌∷◌, ◌++◌, append_assoc, append-nil}
-use Prim.Native.Nat.{ℕ, ◌+◌, ◌<◌, ◌≤◌}
+use Prim.Native.Nat.{ℕ, ◌+◌, ◌-◌, ◌<◌, ◌≤◌}
 use native.Mathlib.Omega.{arith}
 use native.Mathlib.Numerals.{add-one}
-use lib.ListN.{length, get_or, drop, length-append}
+use lib.ListN.{length, get_or, drop, replicate, length-append}
 use lib.Seq.{drop-cons}
+use Rattle.std.proofs.lemmas.List.{drop-replicate}
 use borrow.Author.Tests.{lt-ltb, le-ltb}
 use Rattle.io.specs.Digits.{last_digits, IsDigitCount}
-use Rattle.reporting.specs.Text.{ascii, decimal, spaced, line, room}
+use Rattle.io.specs.Counts.{IsPrefixLen}
+use Rattle.io.proofs.Counting.{prefix_len_of_le}
+use Rattle.reporting.specs.declared.text.Text.{Text}
+use Rattle.reporting.specs.Text.{ascii, decimal, spaced, line, room, text_of}
 use Rattle.reporting.specs.Steps.{pushed, appended}
 use Rattle.reporting.proofs.Decimals.{count-is}
 
@@ -59,3 +63,11 @@ pub line-put : (t : List ℕ) (word ns : List ℕ) → pushed (appended (appende
 unfolding line
 line-put t word ns =
     sym (appended_one _ 10) ∙ ap (λ u. appended u (ascii "\n")) (appended-more t word (spaced ns)) ∙ appended-more t (word ++ spaced ns) (ascii "\n") ∙ ap (appended t) (append_assoc word (spaced ns) (ascii "\n"))
+
+-- bytes put over the front of zeros
+pub text-filled : (l : List ℕ) {front : List ℕ} {n : ℕ} → front ≡ l → n ≡ length l → ◌≡◌ {A = Text} (record { bytes = front ++ drop n (replicate room 0); length = n }) (text_of l)
+text-filled l e q = ap₂ (λ b n. record { bytes = b ++ drop n (replicate room 0); length = n }) e q ∙ ap (λ z. record { bytes = l ++ z; length = length l }) (drop-replicate (length l) room 0)
+
+-- the bytes of a finished text hold it
+pub text-fits : (l : List ℕ) {t : Text} → t ≡ text_of l → IsPrefixLen t.length t.bytes
+text-fits l e = rw e (prefix_len_of_le _ _ (omega (arith, length-append l (replicate (room - length l) 0))))

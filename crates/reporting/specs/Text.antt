@@ -1,10 +1,11 @@
--- Text as bytes: words, decimal numbers, lines.
-use Rattle.std.specs.Prelude.{List, [], ◌∷◌, ◌++◌, ℕ, zero, suc, ◌+◌, ◌^◌, ltb}
+-- Text as bytes: words, decimal numbers, lines; and the value that holds it.
+use Rattle.std.specs.Prelude.{List, [], ◌∷◌, ◌++◌, ℕ, zero, suc, ◌+◌, ◌-◌, ◌^◌, length, replicate, ltb}
 use Prim.Native.Char.{code}
 use Prim.Native.String.{String}
 use Prim.Native.String.{[] as []ˢ, ◌∷◌ as ◌∷ˢ◌}
 use Rattle.io.specs.Digits.{last_digits}
 use Rattle.gf2.specs.Operands.{choose}
+use Rattle.reporting.specs.declared.text.Text.{Text}
 
 -- the bytes of a text in ASCII
 abbrev pub ascii : String → List ℕ
@@ -36,3 +37,7 @@ line word ns = word ++ (spaced ns ++ ascii "\n")
 -- the bytes that a text has room for
 abbrev pub room : ℕ
 room = 128
+
+-- bytes as a text: 0 after them
+abbrev pub text_of : List ℕ → Text
+text_of l = record { bytes = l ++ replicate (room - length l) 0; length = length l }

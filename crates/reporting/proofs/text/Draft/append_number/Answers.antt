@@ -1,6 +1,6 @@
 use Rattle.std.proofs.Common.{◌∙◌}
 use Rattle.reporting.proofs.Texts.{number_put}
-use Rattle.reporting.proofs.text.Text.append_number.Goals as goal
+use Rattle.reporting.proofs.text.Draft.append_number.Goals as goal
 
 pub returns : goal.returns
 returns c =

@@ -2,7 +2,7 @@ use Rattle.std.proofs.Common.{◌+◌, drop, sym, ap, ◌∙◌}
 use Rattle.std.proofs.Math.ListN.{drop_of_length-le}
 use Rattle.reporting.specs.Steps.{appended}
 use Rattle.reporting.proofs.Texts.{appended-none, appended-step}
-use Rattle.reporting.proofs.text.Text.append.Goals as goal
+use Rattle.reporting.proofs.text.Draft.append.Goals as goal
 
 pub loop-byte-preserved : goal.loop-byte-preserved
 loop-byte-preserved c =

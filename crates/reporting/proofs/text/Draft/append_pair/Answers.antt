@@ -2,7 +2,7 @@ use Rattle.std.proofs.Common.{[], ◌∷◌, ap, ◌∙◌}
 use Rattle.reporting.specs.Text.{spaced}
 use Rattle.reporting.specs.Steps.{pushed, appended}
 use Rattle.reporting.proofs.Texts.{number_more, line-put}
-use Rattle.reporting.proofs.text.Text.append_pair.Goals as goal
+use Rattle.reporting.proofs.text.Draft.append_pair.Goals as goal
 
 pub returns : goal.returns
 returns c =
