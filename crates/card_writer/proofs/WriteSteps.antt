@@ -56,6 +56,10 @@ in-first x y h = record { within = omega (arith, h.within, length-append x y) }
 pub in-second : {x y : List ℕ} {old new : CardWriter} → Puts x old new → HasRoom (x ++ y) old → HasRoom y new
 in-second {x = x} {y} p h = record { within = omega (arith, h.within, length-append x y, p.ends) }
 
+-- what has room where the writer stands has room at every place before
+pub in-front : {y : List ℕ} {old new : CardWriter} → new.at ≤ old.at → HasRoom y old → HasRoom y new
+in-front l h = record { within = omega (arith, h.within, l) }
+
 -- a number of one byte, and one of two
 module _ (n : ℕ) {old : CardWriter} where
   module _ (h : n < 128) where

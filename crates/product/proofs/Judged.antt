@@ -1,6 +1,7 @@
 -- What has passed where no fault is given, and the same causes carried and as W bytes.
 -- Passed: the table, factors by a method, operands of its width. Zero: no bit at 0 or above.
 -- Bytes: causes judged on the carried bytes are those of the W bytes, and so are the answers.
+-- Methods: the calls by a method, by the causes that each product has and the rules that the method asks for.
 use Rattle.std.specs.Prelude.{Result, Ok, Err}
 use mathlib.Core.Path.{◌≡◌, refl, sym, ap, ◌∙◌}
 use mathlib.Core.Bool.{true, false}
@@ -18,20 +19,21 @@ use Rattle.gf2.proofs.Carrying.{HasBytes, carried_from, same-carried, product-ca
 use Rattle.gf2.proofs.Decisions.{same-decides}
 use Rattle.judging.specs.declared.fault.Fault.{Fault}
 use Rattle.judging.specs.Causes.{Cause, Verdict, judged}
-use Rattle.judging.specs.FaultTable.{bad_width, bad_length, not_w, not_table, high_bit, high_bit_in_row, is_zero, shape_causes}
-use Rattle.judging.proofs.CauseLaws.{Fine, fine, head-fails, same_head, answer-failed, answer-passed}
+use Rattle.judging.specs.FaultTable.{bad_width, bad_length, not_w, not_table, high_bit, high_bit_in_row, is_zero, shape_causes, rule_causes}
+use Rattle.judging.proofs.CauseLaws.{Fine, fine, head-fails, same_head, goes_on, answer-failed, answer-passed}
 use Rattle.judging.proofs.Passed.{IsWidth as IsPassed, is-width, width-passes, is-clear}
 use Rattle.limbs.proofs.ByteLists.{Bytes}
 use Rattle.operand.specs.declared.Operand.{Operand}
+use Rattle.operand.specs.Calls.{answer, written}
 use Rattle.operand.proofs.CallLaws.{zero-bytes, high_same, Sized, SizedPair}
 use Rattle.table.specs.Rows.{Shaped}
-use Rattle.table.proofs.Shapes.{shape-rows, row-bytes}
+use Rattle.table.proofs.Shapes.{shape-rows, shape-none, row-bytes}
 use Rattle.table.proofs.Theorems.{rules}
 use Rattle.product.specs.declared.Inverted.{Inverted}
 use Rattle.scatter.specs.declared.methods.Method.{Method}
 use Rattle.scatter.specs.declared.methods.Method.TheVariants.{Plain, Reduced}
-use Rattle.product.specs.Calls.{counted, multiplied}
-use Rattle.product.specs.Causes.{rules_by}
+use Rattle.product.specs.Calls.{counted, multiplied, multiply_call, multiply_into}
+use Rattle.product.specs.Causes.{rules_by, method_causes, method_bytes_causes}
 use Rattle.product.specs.Inner.{IsWidth, Sound, Serves, operand_of, row_causes, factor_causes, unit_causes, product_answer, inverse_answer}
 
 -- what an inverse judges of W bytes after the lengths
@@ -59,6 +61,10 @@ module _ {m : ℕ} (w : IsWidth m) (t : List ℕ) where
 
   pub table-shaped : Bytes t → Fine (row_causes m t) → Shaped m t
   table-shaped small p = shape-rows (λ d l. row-bytes m d t small) (width-fails, p)
+
+  -- rules 4 and 5 of a table whose shape was judged before
+  pub rules-after : {v : Verdict} → Shaped m t → v ≡ judged (shape_causes m t ++ rule_causes m t) → v ≡ judged (rule_causes m t)
+  rules-after s e = e ∙ goes_on (shape_causes m t) (rule_causes m t) (shape-none s)
 
   serves : (k : Method) → Shaped m t → Fine (rules_by k m t) → Serves k m t
   serves Plain s p = s
@@ -117,6 +123,22 @@ pair_widths m a b = bad_width m ∷ bad_width a.width ∷ bad_width b.width ∷ 
 
 abbrev pub one_width : ℕ → Operand → List Cause
 one_width m a = bad_width m ∷ bad_width a.width ∷ bad_length a.width m ∷ []
+
+-- the calls by a method: what they judge is the widths or the lengths, and then the factors
+module _ (m : ℕ) (t : List ℕ) where
+  pub causes-by : (k : Method) (a b : Operand) → judged (pair_widths m a b ++ factor_causes k m t a.bytes b.bytes) ≡ judged (method_causes k m t a b)
+  causes-by Plain a b = refl
+  causes-by Reduced a b = refl
+
+  pub call-by : (k : Method) (a b : Operand) {r : Result Operand Fault} → r ≡ answer (judged (method_causes k m t a b)) m (multiplied k m t a.bytes b.bytes) → r ≡ multiply_call k m t a b
+  call-by Plain a b e = e
+  call-by Reduced a b e = e
+
+  pub into-by : (k : Method) (a b old : List ℕ) {v : Verdict} {new : List ℕ}
+      → (v ≡ judged (pair_sizes m a b old ++ factor_causes k m t a b)) × (new ≡ written (judged (pair_sizes m a b old ++ factor_causes k m t a b)) (multiplied k m t a b) old)
+      → (v ≡ judged (method_bytes_causes k m t a b old)) × (new ≡ multiply_into k m t a b old)
+  into-by Plain a b old h = h
+  into-by Reduced a b old h = h
 
 -- the product by a method, carried
 module _ {m : ℕ} {a b : List ℕ} (h : HasBytes m a) (l : HasBytes m b) (t : List ℕ) where

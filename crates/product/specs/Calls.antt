@@ -10,7 +10,7 @@ use Rattle.operand.specs.Calls.{answer, written}
 use Rattle.product.specs.declared.Inverted.{Inverted}
 use Rattle.scatter.specs.declared.methods.Method.{Method}
 use Rattle.scatter.specs.declared.methods.Method.TheVariants.{Plain, Reduced}
-use Rattle.product.specs.Causes.{product_causes, reduced_causes, method_causes, inverse_causes, product_bytes_causes, reduced_bytes_causes, method_bytes_causes, inverse_bytes_causes}
+use Rattle.product.specs.Causes.{product_causes, reduced_causes, inverse_causes, product_bytes_causes, reduced_bytes_causes, inverse_bytes_causes}
 
 -- "coordinate r is the sum modulo 2 of ai·bj over all i, j for which βi·βj has coordinate r"; "it needs no accepted table"
 abbrev pub product_call : ℕ → List ℕ → Operand → Operand → Result Operand Fault
@@ -26,7 +26,8 @@ multiplied Plain m table a b = product m table a b
 multiplied Reduced m table a b = reduced m table a b
 
 abbrev pub multiply_call : Method → ℕ → List ℕ → Operand → Operand → Result Operand Fault
-multiply_call k m table a b = answer (judged (method_causes k m table a b)) m (multiplied k m table a.bytes b.bytes)
+multiply_call Plain m table a b = product_call m table a b
+multiply_call Reduced m table a b = reduced_call m table a b
 
 -- "the result carries the last count as the number of products made": the operand of width m with these bytes, and a count
 abbrev pub counted : ℕ → List ℕ → ℕ → Inverted
@@ -44,7 +45,8 @@ abbrev pub reduced_into : ℕ → List ℕ → List ℕ → List ℕ → List �
 reduced_into m table a b old = written (judged (reduced_bytes_causes m table a b old)) (reduced m table a b) old
 
 abbrev pub multiply_into : Method → ℕ → List ℕ → List ℕ → List ℕ → List ℕ → List ℕ
-multiply_into k m table a b old = written (judged (method_bytes_causes k m table a b old)) (multiplied k m table a b) old
+multiply_into Plain m table a b old = product_into m table a b old
+multiply_into Reduced m table a b old = reduced_into m table a b old
 
 -- the inverse of W bytes, and the number of products made
 abbrev pub inverse_into : ℕ → List ℕ → List ℕ → List ℕ → List ℕ

@@ -26,13 +26,14 @@ product_causes m table a b =
 abbrev pub reduced_causes : ℕ → List ℕ → Operand → Operand → List Cause
 reduced_causes m table a b = product_causes m table a b ++ rule_causes m table
 
--- the same by a method: the rules that it asks for, and all
+-- the same by a method: all causes, and of them the rules that it asks for
+abbrev pub method_causes : Method → ℕ → List ℕ → Operand → Operand → List Cause
+method_causes Plain m table a b = product_causes m table a b
+method_causes Reduced m table a b = reduced_causes m table a b
+
 abbrev pub rules_by : Method → ℕ → List ℕ → List Cause
 rules_by Plain m table = []
 rules_by Reduced m table = rule_causes m table
-
-abbrev pub method_causes : Method → ℕ → List ℕ → Operand → Operand → List Cause
-method_causes k m table a b = product_causes m table a b ++ rules_by k m table
 
 -- a table and an operand, then 9: "inverse of zero"
 abbrev pub inverse_causes : ℕ → List ℕ → Operand → List Cause
@@ -65,7 +66,8 @@ reduced_bytes_causes m table a b result = product_bytes_causes m table a b resul
 
 -- the same by a method
 abbrev pub method_bytes_causes : Method → ℕ → List ℕ → List ℕ → List ℕ → List ℕ → List Cause
-method_bytes_causes k m table a b result = product_bytes_causes m table a b result ++ rules_by k m table
+method_bytes_causes Plain m table a b result = product_bytes_causes m table a b result
+method_bytes_causes Reduced m table a b result = reduced_bytes_causes m table a b result
 
 -- an operand, a result and a table, then 9
 abbrev pub inverse_bytes_causes : ℕ → List ℕ → List ℕ → List ℕ → List Cause

@@ -3,7 +3,7 @@ use mathlib.Core.Path.{refl}
 use native.Mathlib.Nat.{zero-add}
 use native.Mathlib.Omega.{arith}
 use borrow.Author.Rules.{rules}
-use Rattle.card_writer.proofs.WriteSteps.{in-first, in-second, card-room, card-put}
+use Rattle.card_writer.proofs.WriteSteps.{in-first, in-second, in-front, card-room, card-put}
 use Rattle.card_writer.proofs.writing.put_card.Goals as goal
 
 pub put_number-requires : goal.put_number-requires
@@ -15,12 +15,12 @@ pub put_number-requires-2 : goal.put_number-requires-2
 put_number-requires-2 c =
     let t = c.args.table.now in
     let g = t.shaped.greatest in
-    rw c.width.ensures (omega arith, in-first _ _ (in-second c.put_number.ensures (card-room t.width t.bytes.now g refl)))
+    rw c.width.ensures (omega arith, in-first _ _ (in-front (omega arith) (in-second c.put_number.ensures (card-room t.width t.bytes.now g refl))))
 
 pub put_rows-requires : goal.put_rows-requires
 put_rows-requires c =
     let t = c.args.table.now in
-    in-second (rw c.width.ensures at c.put_number-2.ensures) (in-second c.put_number.ensures (card-room t.width t.bytes.now t.shaped.greatest refl))
+    in-second (rw c.width.ensures at c.put_number-2.ensures) (in-front (omega arith) (in-second c.put_number.ensures (card-room t.width t.bytes.now t.shaped.greatest refl)))
 
 pub returns : goal.returns
 returns c =

@@ -21,7 +21,7 @@ pub minus-requires : goal.minus-requires
 minus-requires c = let p = c.requires in (c.args.self.now.ready.narrow, p.2, p.1)
 
 pub minus-requires-2 : goal.minus-requires-2
-minus-requires-2 c = let p = c.requires in (c.args.self.now.ready.narrow, p.0, p.1)
+minus-requires-2 c = let p = c.requires in omega (arith, c.args.self.now.ready.narrow, p.0, p.1)
 
 pub overflow_mul-row : goal.overflow_mul-row
 overflow_mul-row c = omega (arith, small c)
