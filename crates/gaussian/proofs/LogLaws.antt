@@ -3,7 +3,7 @@ use Rattle.std.specs.Prelude.{None, Some}
 use mathlib.Core.Path.{◌≡◌, sym, ap, ◌∙◌}
 use mathlib.Core.List.{List}
 use Prim.Native.Nat.{ℕ, ◌+◌, ◌*◌, ◌%◌, ◌^◌, ◌<◌}
-use native.Mathlib.Nat.{mod-mod, mod-eq_of_lt, pow-suc}
+use native.Mathlib.Nat.{mod-mod, mod-eq_of_lt, pow-zero, pow-suc}
 use native.Mathlib.Decide.{ℕ_discrete}
 use native.Mathlib.Numerals.{add-one}
 use native.Mathlib.Omega.{arith}
@@ -30,6 +30,13 @@ pub no-logarithms : (m t : ℕ) → Logarithms m t 0 (replicate residues 0)
 no-logarithms m t = record { size = length-replicate {A = ℕ} residues 0; known = λ s l. absurd (omega arith); sound = λ y s e. absurd (omega (arith, zero-at residues y, e)) }
 
 module _ {m t : ℕ} (d : Drawable m t) where
+  pub log-start : {logs : List ℕ} → Logarithms m t 0 logs → LogLoop m t logs 1 0
+  log-start l = let h = d.is_type.0.0 in record {
+    power = ap (λ x. x % modulus m t) (pow-zero (2 ^ t)) ∙ mod-eq_of_lt h;
+    less = h;
+    entries = l;
+  }
+
   module _ {logs : List ℕ} {y s : ℕ} (l : LogLoop m t logs y s) (below : s < m) where
     new-known : (i : ℕ) → i < s + 1 → get_or (set logs y (s + 1)) ((2 ^ t) ^ i % modulus m t) 0 ≡ i + 1
     new-known i h = elim (ℕ_discrete i s) [

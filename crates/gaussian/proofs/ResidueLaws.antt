@@ -1,13 +1,17 @@
--- Residues modulo p: what is a residue; the loop that makes a power.
+-- Residues modulo p: their products fit; what is a residue; the loop that makes a power.
 use mathlib.Core.Path.{◌≡◌, sym, ap, ◌∙◌}
 use Prim.Native.Nat.{ℕ, ◌+◌, ◌*◌, ◌/◌, ◌%◌, ◌^◌, ◌<◌, ◌≤◌}
-use native.Mathlib.Nat.{mul-one, one-mul, mul_assoc, mod-lt, mod-mod, mod-eq_of_lt, pow-zero, pow-suc}
+use native.Mathlib.Nat.{lt_of_le_of_lt, mul-le-mul, mul-one, one-mul, mul_assoc, mod-lt, mod-mod, mod-eq_of_lt, pow-zero, pow-suc}
 use native.Mathlib.Omega.{arith}
 use lib.Pow.{pow-add}
 use Rattle.gaussian.specs.Types.{modulus}
 use Rattle.gaussian.specs.Inner.{residues, Residue, Drawable}
 use Rattle.gaussian.proofs.Modulo.{mul-cong, mul-pow, pow-cong}
-use Rattle.gaussian.proofs.TypeBound.{modulus-small}
+use Rattle.gaussian.proofs.TypeBound.{modulus-small, modulus-fits}
+
+-- 64 bits hold the product of two residues
+pub product-fits : {p a b : ℕ} → p < residues → Residue p a → Residue p b → a * b < 2 ^ 64
+product-fits small ra rb = lt_of_le_of_lt (mul-le-mul (omega (arith, ra)) (omega (arith, rb))) (modulus-fits small).multiplied
 
 -- what is left modulo p is a residue
 pub residue-of : {p a b : ℕ} (x : ℕ) → b ≡ x % p → Residue p a → Residue p b

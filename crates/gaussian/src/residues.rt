@@ -21,6 +21,8 @@ pub(crate) struct Modulus {
 }
 
 impl Modulus {
+    // Its proof is written out, so that p is narrowed by the law of all moduli (`ModuliFit`).
+    #[tactic(none)]
     pub(crate) fn new(m: usize, t: usize) -> Modulus
         requires { Drawable m t }
         ensures { (result.m ≡ m) × (result.t ≡ t) }

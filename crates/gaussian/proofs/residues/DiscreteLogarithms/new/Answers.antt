@@ -1,7 +1,10 @@
 -- `gaussian::residues::DiscreteLogarithms::new` meets its contract.
 use native.Mathlib.Omega.{arith}
-use Rattle.gaussian.proofs.LogLaws.{log-more, log-done}
+use Rattle.gaussian.proofs.LogLaws.{log-start, log-more, log-done}
 use Rattle.gaussian.proofs.residues.DiscreteLogarithms.new.Goals as goal
+
+pub loop-s-init : goal.loop-s-init
+loop-s-init c = log-start c.args.modulus.drawable c.requires
 
 pub loop-s-preserved : goal.loop-s-preserved
 loop-s-preserved c =
