@@ -79,10 +79,10 @@ whole-stored m n [] out = unfold gate_words in refl
 whole-stored m n (t ∷ a) out = begun-stored m t n a out
 
 -- one term, with and without one before it
-pub push_begun : (m : ℕ) (f : Fold) (w : ℕ) (old out : List ℕ) {r : ℕ} → f.running ≡ Some r → out ≡ sets old (2 + 3 * f.gates) (1 ∷ r ∷ w ∷ []) →
+pub push_begun : (m : ℕ) (f : Fold) (w : ℕ) (old out : List ℕ) {r k : ℕ} → f.running ≡ Some r → k ≡ 1 → out ≡ sets old (2 + 3 * f.gates) (k ∷ r ∷ w ∷ []) →
     Pushed m f old (w ∷ []) (record { running = Some (2 * m + f.gates); gates = f.gates + 1 }) out
 unfolding pushed_all stored_all pushed stored
-push_begun m f w old out e h = record { fold = rw e; words = rw e h }
+push_begun m f w old out {r} e one h = record { fold = rw e; words = rw e (h ∙ ap (λ k. sets old (2 + 3 * f.gates) (k ∷ r ∷ w ∷ [])) one) }
 
 pub push-first : (m : ℕ) (f : Fold) (w : ℕ) (old : List ℕ) → f.running ≡ None → Pushed m f old (w ∷ []) (record { running = Some w; gates = f.gates }) old
 unfolding pushed_all stored_all pushed stored

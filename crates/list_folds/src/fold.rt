@@ -19,7 +19,7 @@ pub(crate) fn push(out: &mut [u32], width: usize, f: Fold, wire: u32) -> Fold
 {
     match f.running {
         Some(running) => {
-            list_pairs::put_gate(out, f.gates, Kind::Xor, running, wire);
+            list_pairs::put_gate(out, f.gates, Kind::Xor.word(), running, wire);
             Fold {
                 running: Some((2 * width + f.gates) as u32),
                 gates: f.gates + 1,

@@ -32,12 +32,12 @@ fn put_pair(out: &mut [u32], width: usize, mixed: bool, i: usize, j: usize, n: u
     ensures { GatesPut n out.old (pair_gate mixed width i j) result out.new }
 {
     if !mixed {
-        store::put_gate(out, n, Kind::And, i as u32, (width + j) as u32);
+        store::put_gate(out, n, Kind::And.word(), i as u32, (width + j) as u32);
         return n + 1;
     }
     if i < j {
         let left = and_wire(width, i, j);
-        store::put_gate(out, n, Kind::Xor, left, and_wire(width, j, i));
+        store::put_gate(out, n, Kind::Xor.word(), left, and_wire(width, j, i));
         return n + 1;
     }
     n

@@ -11,21 +11,24 @@ pub enum Kind {
     Xor = 1,
 }
 
-fn word(kind: Kind) -> u32
-    ensures { result ≡ kind_word kind }
-{
-    kind as u32
+impl Kind {
+    // Its word in a list.
+    pub fn word(self) -> u32
+        ensures { result ≡ kind_word self }
+    {
+        self as u32
+    }
 }
 
 // Far past the end the place might be no usize, so that n is looked at first.
-pub fn put_gate(out: &mut [u32], n: usize, kind: Kind, left: u32, right: u32)
-    ensures { out.new ≡ sets out.old (2 + 3 * n) (kind_word kind ∷ left ∷ right ∷ []) }
+pub fn put_gate(out: &mut [u32], n: usize, kind: u32, left: u32, right: u32)
+    ensures { out.new ≡ sets out.old (2 + 3 * n) (kind ∷ left ∷ right ∷ []) }
 {
     if out.len() <= n {
         return;
     }
     let at = 2 + 3 * n;
-    stores::put(out, at, word(kind));
+    stores::put(out, at, kind);
     stores::put(out, at + 1, left);
     stores::put(out, at + 2, right);
 }

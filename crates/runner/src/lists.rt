@@ -11,7 +11,8 @@ pub struct GateList<'a> {
 }
 
 impl<'a> GateList<'a> {
-    fn word(&self, at: usize) -> u32
+    // The word at a place, 0 past the end.
+    pub fn word(&self, at: usize) -> u32
         ensures { result ≡ get_or self.now.words.now at 0 }
     {
         if at < self.words.len() {
