@@ -56,7 +56,7 @@ impl Curve<'_> {
         ensures { result ≡ on_curve self.now.width self.now.table.now self.now.a self.now.b x y }
     {
         match self.difference(x, y) {
-            Ok(sum) => limbs::is_clear(&sum.bytes, 0),
+            Ok(sum) => limbs::is_clear_carried(&sum.bytes, 0),
             Err(_) => false,
         }
     }

@@ -6,6 +6,6 @@ mod parts;
 
 pub use fault::{CallFault, CardFault, Fault, FaultNumber, ListFault};
 pub use parts::{
-    judge_both_high, judge_high, judge_length, judge_lengths, judge_pair_widths, judge_sizes,
-    judge_table_size, judge_width, judge_widths,
+    judge_both_high, judge_both_high_carried, judge_high, judge_high_carried, judge_length,
+    judge_lengths, judge_pair_widths, judge_sizes, judge_table_size, judge_width, judge_widths,
 };

@@ -91,3 +91,26 @@ pub fn judge_both_high(x: &[u8], m: usize, y: &[u8], n: usize) -> Result<(), Fau
     judge_high(x, m)?;
     judge_high(y, n)
 }
+
+// The same of a carried operand, and of two. Its bytes are tested as limbs.
+pub fn judge_high_carried(x: &[u8; limbs::BYTES], width: usize) -> Result<(), Fault>
+    ensures { result ≡ judged (high_bit width x.now ∷ []) }
+{
+    if limbs::is_clear_carried(x, width) {
+        Ok(())
+    } else {
+        Err(Fault::HighBit)
+    }
+}
+
+pub fn judge_both_high_carried(
+    x: &[u8; limbs::BYTES],
+    m: usize,
+    y: &[u8; limbs::BYTES],
+    n: usize,
+) -> Result<(), Fault>
+    ensures { result ≡ judged (high_bit m x.now ∷ high_bit n y.now ∷ []) }
+{
+    judge_high_carried(x, m)?;
+    judge_high_carried(y, n)
+}

@@ -27,21 +27,6 @@ pub fn cleared(x: [u8; BYTES], m: usize) -> [u8; BYTES]
     limbs::to_bytes(limbs::low_limbs(limbs::to_limbs(x), m))
 }
 
-// The same of a carried operand, limb by limb. Every limb is looked at, with no way out before the last, so that the loop is unrolled when
-// it is compiled: byte by byte the test costs more than a sum.
-fn is_clear_carried(s: &[u8], m: usize) -> bool
-    requires { length s.now ≡ carried_bytes }
-    ensures { result ≡ is_clear m s.now }
-{
-    let all = slices::slice_limbs(s);
-    let mut high: u64 = 0;
-    for w in 0..LIMBS {
-        let limb = all[w];
-        high |= limb - limbs::low_limb(limb, w, m);
-    }
-    high == 0
-}
-
 // Whether no coordinate at m or above is set. One byte is looked at where the slice has as many as the width needs.
 pub fn is_clear(s: &[u8], m: usize) -> bool
     ensures { result ≡ is_clear m s.now }
@@ -53,11 +38,21 @@ pub fn is_clear(s: &[u8], m: usize) -> bool
     if s[first] >> (m % 8) != 0 {
         return false;
     }
-    let rest = &s[first + 1..];
-    if s.len() == BYTES && !rest.is_empty() {
-        return is_clear_carried(s, m);
+    s[first + 1..].iter().all(|byte| *byte == 0)
+}
+
+// The same of a carried operand. Every limb is looked at, with no way out before the last, so that the loop is unrolled when it is compiled:
+// byte by byte the test costs more than a sum.
+pub fn is_clear_carried(x: &[u8; BYTES], m: usize) -> bool
+    ensures { result ≡ is_clear m x.now }
+{
+    let all = limbs::to_limbs(*x);
+    let mut high: u64 = 0;
+    for w in 0..LIMBS {
+        let limb = all[w];
+        high |= limb - limbs::low_limb(limb, w, m);
     }
-    rest.iter().all(|byte| *byte == 0)
+    high == 0
 }
 
 // The coordinates of a slice, in the bytes of a carried operand.

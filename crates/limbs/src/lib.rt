@@ -6,7 +6,7 @@ mod bytes;
 mod limbs;
 mod slices;
 
-pub use bytes::{bytes_for, carried, cleared, copy_out, is_clear, xored};
+pub use bytes::{bytes_for, carried, cleared, copy_out, is_clear, is_clear_carried, xored};
 pub use limbs::{
     ends_at, is_past, limb_at, limb_below, low_limb, low_limbs, lower_pair, raise_pair, store,
     to_bytes, to_limbs, xored_limbs,

@@ -13,7 +13,7 @@ pub(crate) fn judge_operand(a: Operand) -> Result<(), Fault>
 {
     let m = usize::from(a.width);
     judging::judge_width(m)?;
-    judging::judge_high(&a.bytes, m)
+    judging::judge_high_carried(&a.bytes, m)
 }
 
 pub(crate) fn judge_pair(a: Operand, b: Operand) -> Result<(), Fault>
@@ -22,7 +22,7 @@ pub(crate) fn judge_pair(a: Operand, b: Operand) -> Result<(), Fault>
     let m = usize::from(a.width);
     let n = usize::from(b.width);
     judging::judge_widths(m, n)?;
-    judging::judge_both_high(&a.bytes, m, &b.bytes, n)
+    judging::judge_both_high_carried(&a.bytes, m, &b.bytes, n)
 }
 
 // The bits of an operand, then its trace, over all bits: that is the operand's where none is set at its width or above.

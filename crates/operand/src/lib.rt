@@ -108,7 +108,7 @@ impl Operand {
     {
         let m = usize::from(self.width);
         judging::judge_sizes(m, &[out.len()])?;
-        judging::judge_high(&self.bytes, m)?;
+        judging::judge_high_carried(&self.bytes, m)?;
         limbs::copy_out(self.bytes, out);
         Ok(())
     }

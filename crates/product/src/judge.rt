@@ -32,7 +32,7 @@ pub(crate) fn judge_factors(
     ensures { result ≡ judged (factor_causes method width table.now x y) }
 {
     let shaped = Table::new(width, table)?;
-    judging::judge_both_high(&x, width, &y, width)?;
+    judging::judge_both_high_carried(&x, width, &y, width)?;
     judge_rules(method, &shaped)
 }
 
@@ -42,8 +42,8 @@ pub(crate) fn judge_unit(width: usize, table: &[u8], x: [u8; Operand::BYTES]) ->
     ensures { result ≡ judged (unit_causes width table.now x) }
 {
     Table::new(width, table)?;
-    judging::judge_high(&x, width)?;
-    if limbs::is_clear(&x, 0) {
+    judging::judge_high_carried(&x, width)?;
+    if limbs::is_clear_carried(&x, 0) {
         return Err(Fault::Call(CallFault::InverseOfZero));
     }
     Ok(())

@@ -103,7 +103,7 @@ impl<'a> GateList<'a> {
         ensures { result ≡ judged (list_causes self.now.width self.now.words.now x y wires) }
     {
         self.judge_wires(wires)?;
-        judging::judge_both_high(&x, self.width, &y, self.width)?;
+        judging::judge_both_high_carried(&x, self.width, &y, self.width)?;
         self.judge_gates()
     }
 }

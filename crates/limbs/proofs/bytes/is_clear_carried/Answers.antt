@@ -2,6 +2,7 @@
 use native.Mathlib.Nat.{mod-le}
 use native.Mathlib.Omega.{arith}
 use Rattle.limbs.proofs.LimbLoops.{ored-none, ored-more, clear-limbs}
+use borrow.Author.Rules.{rules}
 use Rattle.limbs.proofs.bytes.is_clear_carried.Goals as goal
 
 pub loop-w-init : goal.loop-w-init
@@ -14,4 +15,4 @@ pub loop-w-preserved : goal.loop-w-preserved
 loop-w-preserved c = rw c.low_limb.ensures (ored-more _ _ _ c.loop-w.invariant)
 
 pub returns : goal.returns
-returns c = clear-limbs _ c.args.s.now c.requires c.slice_limbs-all.ensures (omega arith) c.loop-w.invariant
+returns c = clear-limbs _ c.args.x.now (search rules) c.to_limbs-all.ensures (omega arith) c.loop-w.invariant

@@ -9,4 +9,4 @@ returns-in_err-judge_width c =
     handed_on c.from_residual.result c.from_residual.ensures.1 (ends (bad_width _ ∷ []) (high_bit _ _ ∷ []) (rw c.from-m.ensures at c.judge_width.ensures) c.in_err-judge_width.was)
 
 pub returns : goal.returns
-returns c = rw c.from-m.ensures at (follows (bad_width _ ∷ []) (high_bit _ _ ∷ []) c.judge_width.ensures c.in_ok-judge_width.was c.judge_high.ensures)
+returns c = rw c.from-m.ensures at (follows (bad_width _ ∷ []) (high_bit _ _ ∷ []) c.judge_width.ensures c.in_ok-judge_width.was c.judge_high_carried.ensures)

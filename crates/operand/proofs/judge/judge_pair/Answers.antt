@@ -11,4 +11,4 @@ returns-in_err-judge_widths c =
 
 pub returns : goal.returns
 returns c = rw (c.from-m.ensures, c.from-n.ensures) at
-    (follows (bad_width _ ∷ bad_width _ ∷ bad_length _ _ ∷ []) (high_bit _ _ ∷ high_bit _ _ ∷ []) c.judge_widths.ensures c.in_ok-judge_widths.was c.judge_both_high.ensures)
+    (follows (bad_width _ ∷ bad_width _ ∷ bad_length _ _ ∷ []) (high_bit _ _ ∷ high_bit _ _ ∷ []) c.judge_widths.ensures c.in_ok-judge_widths.was c.judge_both_high_carried.ensures)

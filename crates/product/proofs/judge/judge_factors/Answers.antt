@@ -14,15 +14,15 @@ returns-in_err-shaped c =
     handed_on c.from_residual.result c.from_residual.ensures.1
     (ends (row_causes _ _) (high_bit _ _ ∷ high_bit _ _ ∷ rules_by _ _ _) (shape-after c.requires c.args.table.now refl) (verdict_err c.new.ensures.verdict c.in_err-shaped.was))
 
-pub returns-in_err-judge_both_high : goal.returns-in_err-judge_both_high
-returns-in_err-judge_both_high c =
-    handed_on c.from_residual-in_err-judge_both_high.result c.from_residual-in_err-judge_both_high.ensures.1
+pub returns-in_err-judge_both_high_carried : goal.returns-in_err-judge_both_high_carried
+returns-in_err-judge_both_high_carried c =
+    handed_on c.from_residual-in_err-judge_both_high_carried.result c.from_residual-in_err-judge_both_high_carried.ensures.1
     (follows (row_causes _ _) (high_bit _ _ ∷ high_bit _ _ ∷ rules_by _ _ _) (shape-after c.requires c.args.table.now refl) (verdict_ok c.new.ensures.verdict c.in_ok-shaped.was)
-    (ends (high_bit _ _ ∷ high_bit _ _ ∷ []) (rules_by _ _ _) c.judge_both_high.ensures c.in_err-judge_both_high.was))
+    (ends (high_bit _ _ ∷ high_bit _ _ ∷ []) (rules_by _ _ _) c.judge_both_high_carried.ensures c.in_err-judge_both_high_carried.was))
 
 pub returns : goal.returns
 returns c =
     let same = c.in_ok-shaped.ensures.same in
     follows (row_causes _ _) (high_bit _ _ ∷ high_bit _ _ ∷ rules_by _ _ _) (shape-after c.requires c.args.table.now refl) (verdict_ok c.new.ensures.verdict c.in_ok-shaped.was)
-    (follows (high_bit _ _ ∷ high_bit _ _ ∷ []) (rules_by _ _ _) c.judge_both_high.ensures c.in_ok-judge_both_high.was
+    (follows (high_bit _ _ ∷ high_bit _ _ ∷ []) (rules_by _ _ _) c.judge_both_high_carried.ensures c.in_ok-judge_both_high_carried.was
     (c.judge_rules.ensures ∙ ap₂ (λ m t. judged (rules_by c.args.method m t)) same.0 same.1))
